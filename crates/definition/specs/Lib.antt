@@ -1,0 +1,12 @@
+-- The definitions that everything is proved against, in the order of document 01.
+pub mod Run
+pub mod Refused
+pub mod Integer
+pub mod Kind
+pub mod Node
+pub mod Arena
+pub mod Load
+pub mod Dump
+pub mod Build
+pub mod Graph
+pub mod Starred

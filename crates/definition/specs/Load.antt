@@ -1,0 +1,304 @@
+-- What load answers and what it leaves in the tables: a reader over growing lists (01, "load").
+use Prim.Native.Nat.{ℕ, zero, suc, _+_, _-_, _*_, _/_}
+use mathlib.Core.Bool.{Bool, true, false, _&&_}
+use mathlib.Core.List.{List, [], _∷_, _++_}
+use mathlib.Core.Option.{Option, none, some}
+use lib.Dec.{ltb, leb, eqb}
+use lib.ListN.{length, getD, set, replicate}
+use Rattle.definition.specs.Run.{Run, Outcome, ok, refused, pure, refuse, next, _>>=_, look, pick}
+use Rattle.definition.specs.Integer.{Form, value as form-value, data-bytes, form, little}
+use Rattle.definition.specs.Kind.{NIL, TRUE, FALSE, FIXNUM, SYMBOL, SYMBOL-LINK, OBJECT-LINK, INSTANCE-VARIABLES, ARRAY, HASH, HASH-DEFAULT, OBJECT, STRING, USER-DEFINED}
+use Rattle.definition.specs.Node.{Row, Vars, nil, bool, fixnum, symbol, array, hash, object, string, user, present, width, flat}
+use Rattle.definition.specs.Arena.{Tables, range, too-long, bad-nodes, lowest, padded, zeroed, find-symbol}
+use Rattle.definition.specs.declared.Answer.the-variants.{Accepted, Refused}
+use Rattle.definition.specs.declared.Counts.{Counts}
+use Rattle.definition.specs.declared.Loaded.{Loaded}
+use Rattle.definition.specs.declared.Refusal.{Refusal}
+use Rattle.definition.specs.declared.Refusal.the-variants.{BadTables, InvalidVersion, ShortInput, InvalidKind, NegativeCount, MissingSymbol, MissingObject, NotASymbol, NotAnObject, TooDeep, NoSpace}
+
+-- how many nodes, references, bytes and entries of the two lists there is room for
+pub record Room : Type 0 where
+  pub nodes : ℕ
+  pub references : ℕ
+  pub bytes : ℕ
+  pub symbols : ℕ
+  pub objects : ℕ
+
+-- the offset in the input, and what the tables and lists hold so far
+pub record State : Type 0 where
+  pub at : ℕ
+  pub nodes : List Row
+  pub references : List ℕ
+  pub bytes : List ℕ
+  pub symbols : List ℕ
+  pub objects : List ℕ
+
+abbrev pub Reader : Type 0 → Type 0
+Reader A = Run State A
+
+abbrev pub at-set : ℕ → State → State
+at-set x s = record { at = x; nodes = s .nodes; references = s .references; bytes = s .bytes; symbols = s .symbols; objects = s .objects }
+
+abbrev pub nodes-set : List Row → State → State
+nodes-set x s = record { at = s .at; nodes = x; references = s .references; bytes = s .bytes; symbols = s .symbols; objects = s .objects }
+
+abbrev pub references-set : List ℕ → State → State
+references-set x s = record { at = s .at; nodes = s .nodes; references = x; bytes = s .bytes; symbols = s .symbols; objects = s .objects }
+
+abbrev pub bytes-set : List ℕ → State → State
+bytes-set x s = record { at = s .at; nodes = s .nodes; references = s .references; bytes = x; symbols = s .symbols; objects = s .objects }
+
+abbrev pub symbols-set : List ℕ → State → State
+symbols-set x s = record { at = s .at; nodes = s .nodes; references = s .references; bytes = s .bytes; symbols = x; objects = s .objects }
+
+abbrev pub objects-set : List ℕ → State → State
+objects-set x s = record { at = s .at; nodes = s .nodes; references = s .references; bytes = s .bytes; symbols = s .symbols; objects = x }
+
+-- ---- the input
+
+-- a byte; "missing bytes are 4"
+unfoldable pub read-byte : List ℕ → Reader ℕ
+read-byte input s = pick (ltb (s .at) (length input)) (ok (getD input (s .at) 0) (at-set (s .at + 1) s)) (refused ShortInput)
+
+-- n bytes
+unfoldable pub read-bytes : List ℕ → ℕ → Reader (List ℕ)
+read-bytes input n s = pick (leb n (length input - s .at)) (ok (range input (s .at) n) (at-set (s .at + n) s)) (refused ShortInput)
+
+-- "Header: both bytes are read, then major must be 4 and minor at most 8"
+unfoldable pub read-header : List ℕ → Reader (Unit {0})
+read-header input = read-byte input >>= λ major. read-byte input >>= λ minor. pick (eqb major 4 && leb minor 8) (pure tt) (refuse (InvalidVersion major minor))
+
+-- "Integer": after the first byte
+unfoldable pub read-form : List ℕ → Form → Reader ℕ
+read-form input (form-value w) = pure w
+read-form input (data-bytes n above) = read-bytes input n >>= λ bs. pure (little bs above)
+
+unfoldable pub read-integer : List ℕ → Reader ℕ
+read-integer input = read-byte input >>= λ b. read-form input (form b)
+
+-- a length, count or index; "negative is 6"
+unfoldable pub read-count : List ℕ → Reader ℕ
+read-count input = read-integer input >>= λ w. pick (ltb w 2147483648) (pure w) (refuse (NegativeCount w))
+
+-- "Byte string. Integer length; negative is 6; missing bytes are 4"
+unfoldable pub read-byte-string : List ℕ → Reader (List ℕ)
+read-byte-string input = read-count input >>= read-bytes input
+
+-- ---- the tables and lists; each is asked for room before anything is added
+
+unfoldable pub add-node : Room → Row → Reader ℕ
+add-node room r s = pick (ltb (length (s .nodes)) (room .nodes)) (ok (length (s .nodes)) (nodes-set (s .nodes ++ (r ∷ [])) s)) (refused (NoSpace 1))
+
+-- n reference words, and where they start
+unfoldable pub reserve : Room → ℕ → Reader ℕ
+reserve room n s = pick (leb n (room .references - length (s .references))) (ok (length (s .references)) (references-set (s .references ++ replicate n 0) s)) (refused (NoSpace 2))
+
+-- bytes, and where they start
+unfoldable pub add-bytes : Room → List ℕ → Reader ℕ
+add-bytes room bs s = pick (leb (length bs) (room .bytes - length (s .bytes))) (ok (length (s .bytes)) (bytes-set (s .bytes ++ bs) s)) (refused (NoSpace 3))
+
+unfoldable pub add-symbol : Room → ℕ → Reader ℕ
+add-symbol room h s = pick (ltb (length (s .symbols)) (room .symbols)) (ok h (symbols-set (s .symbols ++ (h ∷ [])) s)) (refused (NoSpace 4))
+
+unfoldable pub add-object : Room → ℕ → Reader ℕ
+add-object room h s = pick (ltb (length (s .objects)) (room .objects)) (ok h (objects-set (s .objects ++ (h ∷ [])) s)) (refused (NoSpace 5))
+
+-- a node, put on the object list
+unfoldable pub add-object-node : Room → Row → Reader ℕ
+add-object-node room r = add-node room r >>= add-object room
+
+-- a node is filled
+unfoldable pub fill : ℕ → Row → Reader ℕ
+fill i r s = ok i (nodes-set (set (s .nodes) i r) s)
+
+-- a reserved word is written
+unfoldable pub put-reference : ℕ → ℕ → Reader (Unit {0})
+put-reference i v s = ok tt (references-set (set (s .references) i v) s)
+
+-- ---- symbols and links
+
+-- "interned to the lowest symbol node with that name, else bytes then node are added"
+unfoldable pub intern-as : Room → List ℕ → Option ℕ → Reader ℕ
+intern-as room name (some h) = pure h
+intern-as room name none = add-bytes room name >>= λ start. add-node room (symbol start (length name))
+
+unfoldable pub intern : Room → List ℕ → Reader ℕ
+intern room name = look λ s. intern-as room name (find-symbol (s .bytes) name (s .nodes) 0)
+
+-- `:` "byte string, interned; appended to the symbol list each time, repeats too"
+unfoldable pub read-symbol : List ℕ → Room → Reader ℕ
+read-symbol input room = read-byte-string input >>= λ name. intern room name >>= add-symbol room
+
+-- the entry of a list, or the refusal where it has none
+unfoldable pub entry : List ℕ → ℕ → Refusal → Reader ℕ
+entry l i r s = pick (ltb i (length l)) (ok (getD l i 0) s) (refused r)
+
+-- `;` "integer index into that list"
+unfoldable pub read-symbol-link : List ℕ → Reader ℕ
+read-symbol-link input = read-count input >>= λ i. look λ s. entry (s .symbols) i (MissingSymbol i)
+
+-- `@`: "index into the object list"
+unfoldable pub read-object-link : List ℕ → Reader ℕ
+read-object-link input = read-count input >>= λ i. look λ s. entry (s .objects) i (MissingObject i)
+
+-- ---- values
+
+-- "The fourteen kind bytes": `0` `T` `F` `i` `:` `;` `@` `I` `[` `{` `}` `o` `"` `u`
+pub data Head : Type 0 where
+  Nil True False Fixnum Symbol SymbolLink ObjectLink InstanceVariables Array Hash HashDefault Object String UserDefined Unknown : Head
+
+unfoldable pub head : ℕ → Head
+head k =
+    pick (eqb k NIL) Nil
+    (pick (eqb k TRUE) True
+    (pick (eqb k FALSE) False
+    (pick (eqb k FIXNUM) Fixnum
+    (pick (eqb k SYMBOL) Symbol
+    (pick (eqb k SYMBOL-LINK) SymbolLink
+    (pick (eqb k OBJECT-LINK) ObjectLink
+    (pick (eqb k INSTANCE-VARIABLES) InstanceVariables
+    (pick (eqb k ARRAY) Array
+    (pick (eqb k HASH) Hash
+    (pick (eqb k HASH-DEFAULT) HashDefault
+    (pick (eqb k OBJECT) Object
+    (pick (eqb k STRING) String
+    (pick (eqb k USER-DEFINED) UserDefined Unknown)))))))))))))
+
+-- "Symbol-like": `:` or `;`; "Another kind is 9"
+unfoldable pub read-symbol-like : List ℕ → Room → Reader ℕ
+read-symbol-like input room = read-byte input >>= λ k. pick (eqb k SYMBOL) (read-symbol input room) (pick (eqb k SYMBOL-LINK) (read-symbol-link input) (refuse (NotASymbol k)))
+
+-- "the integer count; negative is 6; reference words are reserved", each entry taking as many as given; then the rest, which knows where they start and the count
+unfoldable pub counted : {A : Type 0} → List ℕ → Room → ℕ → (ℕ → ℕ → Reader A) → Reader A
+counted input room each rest = read-count input >>= λ n. reserve room (n * each) >>= λ start. rest start n
+
+-- "members in order": n values, from the reserved word given on
+unfoldable pub read-elements : Reader ℕ → ℕ → ℕ → Reader (Unit {0})
+read-elements inner zero i = pure tt
+read-elements inner (suc n) i = inner >>= λ v. put-reference i v >>= λ _. read-elements inner n (suc i)
+
+-- "pairs of symbol-like name and value"
+unfoldable pub read-pairs : Reader ℕ → Reader ℕ → ℕ → ℕ → Reader (Unit {0})
+read-pairs name inner zero i = pure tt
+read-pairs name inner (suc n) i = name >>= λ c. put-reference i c >>= λ _. inner >>= λ v. put-reference (suc i) v >>= λ _. read-pairs name inner n (suc (suc i))
+
+-- the count, the words and the pairs of a variable list, then the rest
+unfoldable pub read-instance-variables : {A : Type 0} → List ℕ → Room → Reader ℕ → (ℕ → ℕ → Reader A) → Reader A
+read-instance-variables input room inner rest = counted input room 2 λ start n. read-pairs (read-symbol-like input room) inner n start >>= λ _. rest start n
+
+-- `i`
+unfoldable pub read-fixnum : List ℕ → Room → Reader ℕ
+read-fixnum input room = read-integer input >>= λ w. add-node room (fixnum w)
+
+-- `[`: "a nil node is added and put on the object list; .. then the node is filled"
+unfoldable pub read-array : List ℕ → Room → Reader ℕ → Reader ℕ
+read-array input room inner = add-object-node room nil >>= λ h. counted input room 1 λ start n. read-elements inner n start >>= λ _. fill h (array start n)
+
+-- "a `}` default last"
+unfoldable pub read-default : Bool → Reader ℕ → ℕ → ℕ → ℕ → Reader ℕ
+read-default true inner h start n = inner >>= λ d. fill h (hash start n (d + 1))
+read-default false inner h start n = fill h (hash start n 0)
+
+-- `{` and, with a default, `}`
+unfoldable pub read-hash : Bool → List ℕ → Room → Reader ℕ → Reader ℕ
+read-hash default? input room inner = add-object-node room nil >>= λ h. counted input room 2 λ start n. read-elements inner (n * 2) start >>= λ _. read-default default? inner h start n
+
+-- `o`: the count comes "after the name"
+unfoldable pub read-object : List ℕ → Room → Reader ℕ → Reader ℕ
+read-object input room inner = add-object-node room nil >>= λ h. read-symbol-like input room >>= λ c. read-instance-variables input room inner λ start n. fill h (object start n c)
+
+-- `"`: "byte string, node, object list"
+unfoldable pub read-string : List ℕ → Room → Reader ℕ
+read-string input room = read-byte-string input >>= λ bs. add-bytes room bs >>= λ start. add-object-node room (string start (length bs) Vars.absent)
+
+-- `u`: "symbol-like name, byte string, node, object list"
+unfoldable pub read-user-defined : List ℕ → Room → Reader ℕ
+read-user-defined input room = read-symbol-like input room >>= λ c. read-byte-string input >>= λ bs. add-bytes room bs >>= λ start. add-object-node room (user start (length bs) c Vars.absent)
+
+-- "10 unless the value is string or user-defined. It replaces earlier variables"
+unfoldable pub set-variables : ℕ → ℕ → ℕ → Row → Reader ℕ
+set-variables h start n (string s l v) = fill h (string s l (present start n))
+set-variables h start n (user s l c v) = fill h (user s l c (present start n))
+set-variables h start n nil = refuse NotAnObject
+set-variables h start n (bool b) = refuse NotAnObject
+set-variables h start n (fixnum w) = refuse NotAnObject
+set-variables h start n (symbol s l) = refuse NotAnObject
+set-variables h start n (array s m) = refuse NotAnObject
+set-variables h start n (hash s m d) = refuse NotAnObject
+set-variables h start n (object s m c) = refuse NotAnObject
+
+-- `I`: "a value, then a count, its reference words reserved, pairs of symbol-like name and value, then 10 unless .."
+unfoldable pub read-variables : List ℕ → Room → Reader ℕ → Reader ℕ
+read-variables input room inner = inner >>= λ h. read-instance-variables input room inner λ start n. look λ s. set-variables h start n (getD (s .nodes) h nil)
+
+-- a value after its kind byte; inner is a value one level deeper
+unfoldable pub value-of : List ℕ → Room → Reader ℕ → ℕ → Head → Reader ℕ
+value-of input room inner k Nil = add-node room nil
+value-of input room inner k True = add-node room (bool true)
+value-of input room inner k False = add-node room (bool false)
+value-of input room inner k Fixnum = read-fixnum input room
+value-of input room inner k Symbol = read-symbol input room
+value-of input room inner k SymbolLink = read-symbol-link input
+value-of input room inner k ObjectLink = read-object-link input
+value-of input room inner k InstanceVariables = read-variables input room inner
+value-of input room inner k Array = read-array input room inner
+value-of input room inner k Hash = read-hash false input room inner
+value-of input room inner k HashDefault = read-hash true input room inner
+value-of input room inner k Object = read-object input room inner
+value-of input room inner k String = read-string input room
+value-of input room inner k UserDefined = read-user-defined input room
+value-of input room inner k Unknown = refuse (InvalidKind k)
+
+-- "A value reads its members and each member is again a value", by the levels still allowed; "The level is tested before the kind byte"
+unfoldable pub read-value : List ℕ → Room → ℕ → ℕ → Reader ℕ
+read-value input room limit zero = refuse (TooDeep limit)
+read-value input room limit (suc levels) = read-byte input >>= λ k. value-of input room (read-value input room limit levels) k (head k)
+
+-- ---- the call
+
+-- "Node 0 is nil, the first root, and stays"
+abbrev pub begin : State
+begin = record { at = 0; nodes = nil ∷ []; references = []; bytes = []; symbols = []; objects = [] }
+
+-- the header and the root value
+unfoldable pub load : List ℕ → Room → ℕ → Outcome State ℕ
+load input room limit = (read-header input >>= λ _. read-value input room limit limit) begin
+
+-- what is lent to load besides the input
+pub record Lists : Type 0 where
+  pub nodes : List ℕ
+  pub references : List ℕ
+  pub bytes : List ℕ
+  pub symbols : List ℕ
+  pub objects : List ℕ
+
+abbrev pub lists : List ℕ → List ℕ → List ℕ → List ℕ → List ℕ → Lists
+lists n r b y o = record { nodes = n; references = r; bytes = b; symbols = y; objects = o }
+
+unfoldable pub room-of : Lists → Room
+room-of T = record { nodes = length (T .nodes) / width; references = length (T .references); bytes = length (T .bytes); symbols = length (T .symbols); objects = length (T .objects) }
+
+-- BAD-TABLES: the lowest wrong slice, or 0
+unfoldable pub load-wrong : List ℕ → Lists → ℕ → ℕ
+load-wrong input T limit = lowest ((1, bad-nodes (length (T .nodes))) ∷ (2, too-long (length (T .references))) ∷ (3, too-long (length (T .bytes))) ∷ (4, too-long (length (T .symbols))) ∷ (5, too-long (length (T .objects))) ∷ (7, ltb 128 limit) ∷ (8, too-long (length input)) ∷ [])
+
+-- a call's answer, and everything lent as it then stands
+pub record LoadCall : Type 0 where
+  pub answer : Loaded
+  pub lent : Lists
+
+abbrev pub counts : ℕ → ℕ → ℕ → ℕ → Counts
+counts n r b root = record { nodes = n; references = r; bytes = b; root = root }
+
+-- "otherwise 1, 0, 0, 0 over zeroed tables; bytes used are then 0"; accepted: the lists laid out, then zeros, and "both lists are zero at the end"
+unfoldable pub load-done : Lists → Outcome State ℕ → LoadCall
+load-done T (refused r) = record { answer = record { answer = Refused r; counts = counts 1 0 0 0; used = 0 }; lent = lists (zeroed (T .nodes)) (zeroed (T .references)) (zeroed (T .bytes)) (zeroed (T .symbols)) (zeroed (T .objects)) }
+load-done T (ok h s) = record { answer = record { answer = Accepted; counts = counts (length (s .nodes)) (length (s .references)) (length (s .bytes)) h; used = s .at }; lent = lists (padded (T .nodes) (flat (s .nodes))) (padded (T .references) (s .references)) (padded (T .bytes) (s .bytes)) (zeroed (T .symbols)) (zeroed (T .objects)) }
+
+-- "After 1, nothing is touched"; "A load refused with 1 returns counts 0, 0, 0, 0"
+unfoldable pub load-if : ℕ → List ℕ → Lists → ℕ → LoadCall
+load-if zero input T limit = load-done T (load input (room-of T) limit)
+load-if (suc slice) input T limit = record { answer = record { answer = Refused (BadTables (suc slice)); counts = counts 0 0 0 0; used = 0 }; lent = T }
+
+unfoldable pub load-call : List ℕ → Lists → ℕ → LoadCall
+load-call input T limit = load-if (load-wrong input T limit) input T limit

@@ -1,0 +1,136 @@
+-- Forests: what a dump says, and the nodes that it says it of.
+use Prim.Native.Nat.{ℕ, zero, suc, _+_, _*_, _<_}
+use mathlib.Core.Path.{_≡_}
+use mathlib.Core.Bool.{Bool, true, false}
+use mathlib.Core.List.{List, [], _∷_, _++_}
+use lib.Dec.{eqb}
+use lib.ListN.{length}
+use Rattle.definition.specs.Run.{pick}
+use Rattle.definition.specs.Integer.{integer-bytes}
+use Rattle.definition.specs.Kind.{NIL, TRUE, FALSE, FIXNUM, SYMBOL, SYMBOL-LINK, OBJECT-LINK, INSTANCE-VARIABLES, ARRAY, HASH, HASH-DEFAULT, OBJECT, STRING, USER-DEFINED}
+use Rattle.definition.specs.Dump.{byte-string-bytes}
+use Rattle.definition.specs.Graph.{Header, header-of}
+
+-- a node of a graph. leaf: kind 0 to 2 and the value; sym: a name; box: kinds 4 to 8, the members being the name, the elements or pairs, and the default, in this order
+pub data Node : Type 0 where
+  leaf : ℕ → ℕ → Node
+  sym : List ℕ → Node
+  box : Header → List ℕ → Node
+
+-- what has been numbered: a node's number is its place in its list
+pub record Num : Type 0 where
+  pub objs : List ℕ
+  pub syms : List ℕ
+
+abbrev pub addO : ℕ → Num → Num
+addO v σ = record { objs = σ .objs ++ (v ∷ []); syms = σ .syms }
+
+abbrev pub addS : ℕ → Num → Num
+addS v σ = record { objs = σ .objs; syms = σ .syms ++ (v ∷ []) }
+
+abbrev pub fresh : Num
+fresh = record { objs = []; syms = [] }
+
+-- a forest: each constructor is a first tree and the trees after it. fBox h p f: p is what is read before the node is added (the name of `u`), f the rest of its members; a name's mark is false, a symbol value's true; fIv f p: variables p put on the value f, as no dump writes them
+pub data F : Type 0 where
+  fEnd : F
+  fLeaf : ℕ → ℕ → F → F
+  fBox : Header → F → F → F → F
+  fRef : ℕ → F → F
+  fSym : Bool → List ℕ → F → F
+  fSymref : Bool → ℕ → F → F
+  fIv : F → F → F → F
+
+abbrev pub trees : F → ℕ
+trees fEnd = 0
+trees (fLeaf k x r) = suc (trees r)
+trees (fBox h p f r) = suc (trees r)
+trees (fRef k r) = suc (trees r)
+trees (fSym m b r) = suc (trees r)
+trees (fSymref m k r) = suc (trees r)
+trees (fIv f p r) = suc (trees r)
+
+-- ---- the space that building a forest takes
+
+-- the reference words of a box's list: its elements, or two for each pair
+abbrev pub list-words : Header → ℕ
+list-words h = pick (eqb (h .kind) 4) (h .count) (h .count * 2)
+
+abbrev pub refsOf : F → ℕ
+refsOf fEnd = 0
+refsOf (fLeaf k x r) = refsOf r
+refsOf (fBox h p f r) = list-words h + refsOf p + refsOf f + refsOf r
+refsOf (fRef k r) = refsOf r
+refsOf (fSym m b r) = refsOf r
+refsOf (fSymref m k r) = refsOf r
+refsOf (fIv f p r) = trees p + refsOf f + refsOf p + refsOf r
+
+-- every name taken as new
+abbrev pub bytesOf : F → ℕ
+bytesOf fEnd = 0
+bytesOf (fLeaf k x r) = bytesOf r
+bytesOf (fBox h p f r) = length (h .bytes) + bytesOf p + bytesOf f + bytesOf r
+bytesOf (fRef k r) = bytesOf r
+bytesOf (fSym m b r) = length b + bytesOf r
+bytesOf (fSymref m k r) = bytesOf r
+bytesOf (fIv f p r) = bytesOf f + bytesOf p + bytesOf r
+
+-- ---- the bytes of a forest
+
+-- what is to come: values; n pairs; a value and then n pairs; one name; a name, then n pairs (with the number n written between)
+pub data Mode : Type 0 where
+  values : Mode
+  pairs : ℕ → Mode
+  value-pairs : ℕ → Mode
+  name : Mode
+  name-pairs : ℕ → Mode
+
+-- after a value
+abbrev pub after : Mode → Mode
+after values = values
+after (pairs n) = pairs n
+after (value-pairs n) = pairs n
+after name = name
+after (name-pairs n) = name-pairs n
+
+-- may a value come?
+abbrev pub IsValue : Mode → Type 0
+IsValue values = Unit {0}
+IsValue (pairs n) = ⊥
+IsValue (value-pairs n) = Unit {0}
+IsValue name = ⊥
+IsValue (name-pairs n) = ⊥
+
+-- `Text m l g x`: the forest g has the shape that the mode asks, needs no more than l levels, and x is its bytes as dump writes them
+pub data Text : Mode → ℕ → F → List ℕ → Type 0 where
+  tEnd : {l : ℕ} → Text values l fEnd []
+  tEndPairs : {l : ℕ} → Text (pairs 0) l fEnd []
+  tName : {l n : ℕ} {b x : List ℕ} {r : F} → Text (value-pairs n) l r x → Text (pairs (suc n)) l (fSym false b r) (SYMBOL ∷ byte-string-bytes b ++ x)
+  tNameLink : {l n k : ℕ} {x : List ℕ} {r : F} → Text (value-pairs n) l r x → Text (pairs (suc n)) l (fSymref false k r) (SYMBOL-LINK ∷ integer-bytes k ++ x)
+  tOneName : {l : ℕ} {b : List ℕ} → Text name l (fSym false b fEnd) (SYMBOL ∷ byte-string-bytes b)
+  tOneLink : {l k : ℕ} → Text name l (fSymref false k fEnd) (SYMBOL-LINK ∷ integer-bytes k)
+  tClass : {l n : ℕ} {b x : List ℕ} {r : F} → Text (pairs n) l r x → Text (name-pairs n) l (fSym false b r) (SYMBOL ∷ byte-string-bytes b ++ integer-bytes n ++ x)
+  tClassLink : {l n k : ℕ} {x : List ℕ} {r : F} → Text (pairs n) l r x → Text (name-pairs n) l (fSymref false k r) (SYMBOL-LINK ∷ integer-bytes k ++ integer-bytes n ++ x)
+  tNil : {m : Mode} {l : ℕ} {x : List ℕ} {r : F} → IsValue m → Text (after m) (suc l) r x → Text m (suc l) (fLeaf 0 0 r) (NIL ∷ x)
+  tFalse : {m : Mode} {l : ℕ} {x : List ℕ} {r : F} → IsValue m → Text (after m) (suc l) r x → Text m (suc l) (fLeaf 1 0 r) (FALSE ∷ x)
+  tTrue : {m : Mode} {l : ℕ} {x : List ℕ} {r : F} → IsValue m → Text (after m) (suc l) r x → Text m (suc l) (fLeaf 1 1 r) (TRUE ∷ x)
+  tFixnum : {m : Mode} {l w : ℕ} {x : List ℕ} {r : F} → IsValue m → w < 4294967296 → Text (after m) (suc l) r x → Text m (suc l) (fLeaf 2 w r) (FIXNUM ∷ integer-bytes w ++ x)
+  tSymbol : {m : Mode} {l : ℕ} {b x : List ℕ} {r : F} → IsValue m → Text (after m) (suc l) r x → Text m (suc l) (fSym true b r) (SYMBOL ∷ byte-string-bytes b ++ x)
+  tSymbolLink : {m : Mode} {l k : ℕ} {x : List ℕ} {r : F} → IsValue m → Text (after m) (suc l) r x → Text m (suc l) (fSymref true k r) (SYMBOL-LINK ∷ integer-bytes k ++ x)
+  tObjectLink : {m : Mode} {l k : ℕ} {x : List ℕ} {r : F} → IsValue m → Text (after m) (suc l) r x → Text m (suc l) (fRef k r) (OBJECT-LINK ∷ integer-bytes k ++ x)
+  tArray : {m : Mode} {l n : ℕ} {x y : List ℕ} {f r : F} → IsValue m → trees f ≡ n → Text values l f y → Text (after m) (suc l) r x
+      → Text m (suc l) (fBox (header-of 4 0 [] n false) fEnd f r) (ARRAY ∷ integer-bytes n ++ y ++ x)
+  tHash : {m : Mode} {l n : ℕ} {x y : List ℕ} {f r : F} → IsValue m → trees f ≡ n * 2 → Text values l f y → Text (after m) (suc l) r x
+      → Text m (suc l) (fBox (header-of 5 0 [] n false) fEnd f r) (HASH ∷ integer-bytes n ++ y ++ x)
+  tHashDefault : {m : Mode} {l n : ℕ} {x y : List ℕ} {f r : F} → IsValue m → trees f ≡ n * 2 + 1 → Text values l f y → Text (after m) (suc l) r x
+      → Text m (suc l) (fBox (header-of 5 0 [] n true) fEnd f r) (HASH-DEFAULT ∷ integer-bytes n ++ y ++ x)
+  tObject : {m : Mode} {l n : ℕ} {x y : List ℕ} {f r : F} → IsValue m → Text (name-pairs n) l f y → Text (after m) (suc l) r x
+      → Text m (suc l) (fBox (header-of 6 0 [] n false) fEnd f r) (OBJECT ∷ y ++ x)
+  tString : {m : Mode} {l : ℕ} {b x : List ℕ} {r : F} → IsValue m → Text (after m) (suc l) r x
+      → Text m (suc l) (fBox (header-of 7 0 b 0 false) fEnd fEnd r) (STRING ∷ byte-string-bytes b ++ x)
+  tStringVars : {m : Mode} {l n : ℕ} {b x y : List ℕ} {f r : F} → IsValue m → Text (pairs n) (suc l) f y → Text (after m) (suc (suc l)) r x
+      → Text m (suc (suc l)) (fBox (header-of 7 0 b n true) fEnd f r) (INSTANCE-VARIABLES ∷ STRING ∷ byte-string-bytes b ++ integer-bytes n ++ y ++ x)
+  tUser : {m : Mode} {l : ℕ} {b x z : List ℕ} {p r : F} → IsValue m → Text name l p z → Text (after m) (suc l) r x
+      → Text m (suc l) (fBox (header-of 8 0 b 0 false) p fEnd r) (USER-DEFINED ∷ z ++ byte-string-bytes b ++ x)
+  tUserVars : {m : Mode} {l n : ℕ} {b x y z : List ℕ} {p f r : F} → IsValue m → Text name l p z → Text (pairs n) (suc l) f y → Text (after m) (suc (suc l)) r x
+      → Text m (suc (suc l)) (fBox (header-of 8 0 b n true) p f r) (INSTANCE-VARIABLES ∷ USER-DEFINED ∷ z ++ byte-string-bytes b ++ integer-bytes n ++ y ++ x)

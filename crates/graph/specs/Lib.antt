@@ -1,0 +1,7 @@
+-- Graphs, the forests that describe them, and building.
+pub mod Lists
+pub mod Sums
+pub mod Forest
+pub mod Describe
+pub mod Build
+pub mod View
