@@ -1,0 +1,4 @@
+-- Laws for the proofs of the check.
+pub mod Rows
+pub mod Lists
+pub mod Rights

@@ -1,0 +1,127 @@
+-- One turn of each loop of the check.
+use Prim.Native.Nat.{ℕ, zero, suc, _+_, _-_, _*_, _≤_, _<_}
+use native.Mathlib.Omega.{arith}
+use native.Mathlib.Nat.{zero-mul}
+use native.Mathlib.Numerals.{add-one, add-two}
+use mathlib.Core.Bool.{Bool, true, false}
+use mathlib.Core.List.{List, [], _∷_}
+use mathlib.Core.Path.{_≡_, refl, sym, ap, _∙_, subst}
+use lib.Dec.{eqb}
+use lib.ListN.{length, getD, take, drop, length-take, length-drop, drop-of-length-le, List·getD-eq-default}
+use lib.Seq.{drop-cons, getD-take, getD-drop, length-take-le, drop-drop}
+use borrow.Author.Tests.{lt-ltb, le-ltb, eq-eqb, ne-eqb}
+use Rattle.definition.specs.Run.{pick}
+use Rattle.definition.specs.Node.{Row, nil, kind, row, row-of, rows, width}
+use Rattle.definition.specs.Arena.{Arena, node, range, firsts, all-below, all-names, is-name}
+
+pub length-range : (l : List ℕ) (start n : ℕ) → start + n ≤ length l → length (range l start n) ≡ n
+unfolding range
+length-range l start n h = length-take-le n (drop start l) (rw (length-drop start l) (omega arith))
+
+pub range-at : (l : List ℕ) (start n i : ℕ) → i < n → getD (range l start n) i 0 ≡ getD l (start + i) 0
+unfolding range
+range-at l start n i h = getD-take n (drop start l) i 0 h ∙ getD-drop start l i 0
+
+pub range-step : (l : List ℕ) (start n i : ℕ) → start + n ≤ length l → i < n → drop i (range l start n) ≡ getD l (start + i) 0 ∷ drop (suc i) (range l start n)
+range-step l start n i h k =
+    drop-cons (range l start n) i 0 (rw (length-range l start n h) k) ∙ ap (λ (x : ℕ). x ∷ drop (suc i) (range l start n)) (range-at l start n i k)
+
+pub range-end : (l : List ℕ) (start n i : ℕ) → start + n ≤ length l → n ≤ i → drop i (range l start n) ≡ []
+range-end l start n i h k = drop-of-length-le (range l start n) {i = i} (rw (length-range l start n h) k)
+
+-- ---- members below a count
+
+module _ (l : List ℕ) (start n count i : ℕ) (h : start + n ≤ length l) where
+  pub below-on : i < n → getD l (start + i) 0 < count → all-below count (drop i (range l start n)) ≡ all-below count (drop (i + 1) (range l start n))
+  unfolding all-below pick
+  below-on k t =
+      ap (all-below count) (range-step l start n i h k) ∙ rw (lt-ltb _ _ t, add-one i) refl
+
+  pub below-not : i < n → count ≤ getD l (start + i) 0 → false ≡ all-below count (drop i (range l start n))
+  unfolding all-below pick
+  below-not k t = sym (ap (all-below count) (range-step l start n i h k) ∙ rw (le-ltb _ _ t) refl)
+
+  pub below-all : n ≤ i → true ≡ all-below count (drop i (range l start n))
+  unfolding all-below
+  below-all k = sym (ap (all-below count) (range-end l start n i h k))
+
+-- ---- names
+
+-- a row is a symbol exactly where word 0 is 3
+kind-three : (k a b s n c f : ℕ) → eqb (kind (row-of k a b s n c f)) 3 ≡ eqb k 3
+unfolding row-of pick kind
+kind-three zero a b s n c f = refl
+kind-three (suc zero) a b s n c f = refl
+kind-three (suc (suc zero)) a b s n c f = refl
+kind-three (suc (suc (suc zero))) a b s n c f = refl
+kind-three (suc (suc (suc (suc zero)))) a b s n c f = refl
+kind-three (suc (suc (suc (suc (suc zero))))) a b s n c f = refl
+kind-three (suc (suc (suc (suc (suc (suc zero)))))) a b s n c f = refl
+kind-three (suc (suc (suc (suc (suc (suc (suc zero))))))) a b s n c f = refl
+kind-three (suc (suc (suc (suc (suc (suc (suc (suc zero)))))))) a b s n c f = refl
+kind-three (suc (suc (suc (suc (suc (suc (suc (suc (suc j))))))))) a b s n c f = go (suc (suc (suc (suc (suc (suc (suc (suc (suc j))))))))) (omega arith)
+  where
+    go : (k : ℕ) → 8 < k → eqb (kind (row-of k a b s n c f)) 3 ≡ eqb k 3
+    go k l = simp (ne-eqb k 1 (omega arith), ne-eqb k 2 (omega arith), ne-eqb k 3 (omega arith), ne-eqb k 4 (omega arith), ne-eqb k 5 (omega arith), ne-eqb k 6 (omega arith), ne-eqb k 7 (omega arith), ne-eqb k 8 (omega arith))
+
+-- node i of a table's rows
+pub rows-at : (n : ℕ) (t : List ℕ) (i : ℕ) → i < n → getD (rows n t) i nil ≡ row (take width (drop (i * width) t))
+unfolding rows
+rows-at zero t i h = absurd (omega arith)
+rows-at (suc n) t zero h = refl
+rows-at (suc n) t (suc i) h =
+    let z : i * 7 + 7 ≡ suc i * 7 = omega arith in
+    let y : 7 + i * 7 ≡ suc i * 7 = omega arith in
+    rows-at n (drop width t) i (omega arith) ∙ ap (λ (l : List ℕ). row (take width l)) (drop-drop (i * 7) 7 t ∙ ap (λ (k : ℕ). drop k t) y)
+
+pub length-rows : (n : ℕ) (t : List ℕ) → length (rows n t) ≡ n
+unfolding rows
+length-rows zero t = refl
+length-rows (suc n) t = ap suc (length-rows n (drop width t))
+
+first-word : (t : List ℕ) (i : ℕ) → getD (take width (drop (i * width) t)) 0 0 ≡ getD t (i * 7) 0
+first-word t i = getD-take 7 (drop (i * 7) t) 0 0 (omega arith) ∙ getD-drop (i * 7) t 0 0 ∙ ap (λ (k : ℕ). getD t k 0) (omega arith)
+
+-- a name is a node below the count whose word 0 is 3
+pub name-at : (A : Arena) (n : ℕ) (t : List ℕ) (i : ℕ) → A .nodes ≡ rows n t → i < n → eqb (getD t (i * 7) 0) 3 ≡ is-name A i
+unfolding is-name node row
+name-at A n t i e h =
+    sym (ap (λ (l : List Row). eqb (kind (getD l i nil)) 3) e
+      ∙ ap (λ (r : Row). eqb (kind r) 3) (rows-at n t i h)
+      ∙ kind-three _ _ _ _ _ _ _
+      ∙ ap (λ (k : ℕ). eqb k 3) (first-word t i))
+
+pub no-name : (A : Arena) (n : ℕ) (t : List ℕ) (i : ℕ) → A .nodes ≡ rows n t → n ≤ i → false ≡ is-name A i
+unfolding is-name node kind
+no-name A n t i e h =
+    sym (ap (λ (l : List Row). eqb (kind (getD l i nil)) 3) e ∙ ap (λ (r : Row). eqb (kind r) 3) (List·getD-eq-default (rows n t) nil {n = i} (rw (length-rows n t) h)))
+
+-- the first of each pair
+module _ (A : Arena) (l : List ℕ) (start n i : ℕ) (h : start + n * 2 ≤ length l) where
+  abbrev left : ℕ → List ℕ
+  left k = drop k (range l start (n * 2))
+
+  step : i < n → left (i * 2) ≡ getD l (start + i * 2) 0 ∷ getD l (start + suc (i * 2)) 0 ∷ left (suc (suc (i * 2)))
+  step k =
+      range-step l start (n * 2) (i * 2) h (omega arith)
+      ∙ ap (λ (t : List ℕ). getD l (start + i * 2) 0 ∷ t) (range-step l start (n * 2) (suc (i * 2)) h (omega arith))
+
+  again : suc (suc (i * 2)) ≡ (i + 1) * 2
+  again = omega arith
+
+  pub names-on : i < n → true ≡ is-name A (getD l (start + i * 2) 0) → all-names A (firsts (left (i * 2))) ≡ all-names A (firsts (left ((i + 1) * 2)))
+  unfolding all-names firsts pick
+  names-on k t =
+      ap (λ (m : List ℕ). all-names A (firsts m)) (step k)
+      ∙ ap (λ (b : Bool). pick b (all-names A (firsts (left (suc (suc (i * 2)))))) false) (sym t)
+      ∙ ap (λ (k : ℕ). all-names A (firsts (left k))) again
+
+  pub names-not : i < n → false ≡ is-name A (getD l (start + i * 2) 0) → false ≡ all-names A (firsts (left (i * 2)))
+  unfolding all-names firsts pick
+  names-not k t =
+      sym (ap (λ (m : List ℕ). all-names A (firsts m)) (step k)
+        ∙ ap (λ (b : Bool). pick b (all-names A (firsts (left (suc (suc (i * 2)))))) false) (sym t))
+
+  pub names-all : n ≤ i → true ≡ all-names A (firsts (left (i * 2)))
+  unfolding all-names firsts
+  names-all k = sym (ap (λ (m : List ℕ). all-names A (firsts m)) (range-end l start (n * 2) (i * 2) h (omega arith)))

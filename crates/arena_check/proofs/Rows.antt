@@ -1,0 +1,141 @@
+-- When seven words are a row's, kind by kind.
+use Prim.Native.Nat.{ℕ, zero, suc, _+_, _≤_, _<_}
+use native.Mathlib.Omega.{arith}
+use mathlib.Core.Bool.{Bool, true, false, not}
+use mathlib.Core.List.{List, [], _∷_}
+use mathlib.Core.Path.{_≡_, refl, sym, ap, _∙_, subst}
+use lib.Dec.{eqb, eqb→eq, T}
+use lib.ListN.{getD}
+use borrow.Author.Tests.{eq-eqb, ne-eqb}
+use Rattle.definition.specs.Run.{pick}
+use Rattle.definition.specs.Node.{Row, Vars, bool, words, row, row-of, vars, is-row, equal}
+
+-- two tests that hold together are equal
+pub same-test : (x y : Bool) → (x ≡ true → y ≡ true) → (y ≡ true → x ≡ true) → x ≡ y
+same-test true y f g = sym (f refl)
+same-test false true f g = g refl
+same-test false false f g = refl
+
+pub eqb-is : (a b : ℕ) → eqb a b ≡ true → a ≡ b
+eqb-is a b e = eqb→eq a b (subst T (sym e) tt)
+
+pub equal-same : (l m : List ℕ) → l ≡ m → equal l m ≡ true
+unfolding equal pick
+equal-same l m e = subst (λ (x : List ℕ). equal l x ≡ true) e (self l)
+  where
+    self : (l : List ℕ) → equal l l ≡ true
+    self [] = refl
+    self (a ∷ l) = rw (eq-eqb a a refl) (self l)
+
+pub equal-is : (l m : List ℕ) → equal l m ≡ true → l ≡ m
+unfolding equal pick
+equal-is [] [] e = refl
+equal-is [] (b ∷ m) e = let z : _≡_ {A = Bool} true false = sym e in absurd (subst T z tt)
+equal-is (a ∷ l) [] e = absurd (subst T (sym e) tt)
+equal-is (a ∷ l) (b ∷ m) e = go (eqb a b) refl e (λ q. equal-is l m q)
+  where
+    go : (t : Bool) → eqb a b ≡ t → pick t (equal l m) false ≡ true → (equal l m ≡ true → l ≡ m) → _≡_ {A = List ℕ} (a ∷ l) (b ∷ m)
+    go true q p ih = λ i. eqb-is a b q i ∷ ih p i
+    go false q p ih = absurd (subst T (sym p) tt)
+
+-- a test that says whether words are their row's
+row-test : (ws : List ℕ) (t : Bool) → (t ≡ true → ws ≡ words (row ws)) → (ws ≡ words (row ws) → t ≡ true) → t ≡ is-row ws
+unfolding is-row
+row-test ws t f g = same-test t (equal ws (words (row ws))) (λ e. equal-same ws _ (f e)) (λ e. g (equal-is ws _ e))
+
+-- every word of a sum that is 0 is 0
+zeros : (a b s n c f : ℕ) → eqb (a + b + s + n + c + f) 0 ≡ true → (a ≡ 0) × (b ≡ 0) × (s ≡ 0) × (n ≡ 0) × (c ≡ 0) × (f ≡ 0)
+zeros a b s n c f e = omega (arith, eqb-is (a + b + s + n + c + f) 0 e)
+
+sum : (a b s n c f : ℕ) → a + b + s + n + c + f ≡ 0 → eqb (a + b + s + n + c + f) 0 ≡ true
+sum a b s n c f e = eq-eqb (a + b + s + n + c + f) 0 e
+
+pub sum-same : {a b s n c f a' b' s' n' c' f' : ℕ} → a' ≡ a → b' ≡ b → s' ≡ s → n' ≡ n → c' ≡ c → f' ≡ f → eqb (a' + b' + s' + n' + c' + f') 0 ≡ eqb (a + b + s + n + c + f) 0
+sum-same p q r t u v = λ i. eqb (p i + q i + r i + t i + u i + v i) 0
+
+-- word i of two lists that are the same
+word : {l m : List ℕ} (i : ℕ) → l ≡ m → getD l i 0 ≡ getD m i 0
+word i e = ap (λ (x : List ℕ). getD x i 0) e
+
+module _ (a b s n c f : ℕ) where
+  abbrev ws : ℕ → List ℕ
+  ws k = k ∷ a ∷ b ∷ s ∷ n ∷ c ∷ f ∷ []
+
+  pub row-0 : eqb (a + b + s + n + c + f) 0 ≡ is-row (ws 0)
+  unfolding words row row-of pick vars
+  row-0 = row-test (ws 0) _ (λ e. let z = zeros a b s n c f e in λ i. 0 ∷ z .0 i ∷ z .1 i ∷ z .2 i ∷ z .3 i ∷ z .4 i ∷ z .5 i ∷ []) (λ e. sum a b s n c f (omega (arith, word 1 e, word 2 e, word 3 e, word 4 e, word 5 e, word 6 e)))
+
+  pub row-2 : eqb (0 + b + s + n + c + f) 0 ≡ is-row (ws 2)
+  unfolding words row row-of pick vars
+  row-2 = row-test (ws 2) _ (λ e. let z = zeros 0 b s n c f e in λ i. 2 ∷ a ∷ z .1 i ∷ z .2 i ∷ z .3 i ∷ z .4 i ∷ z .5 i ∷ []) (λ e. sum 0 b s n c f (omega (arith, word 2 e, word 3 e, word 4 e, word 5 e, word 6 e)))
+
+  pub row-3 : eqb (0 + 0 + s + n + c + f) 0 ≡ is-row (ws 3)
+  unfolding words row row-of pick vars
+  row-3 = row-test (ws 3) _ (λ e. let z = zeros 0 0 s n c f e in λ i. 3 ∷ a ∷ b ∷ z .2 i ∷ z .3 i ∷ z .4 i ∷ z .5 i ∷ []) (λ e. sum 0 0 s n c f (omega (arith, word 3 e, word 4 e, word 5 e, word 6 e)))
+
+  pub row-4 : eqb (a + b + 0 + 0 + c + f) 0 ≡ is-row (ws 4)
+  unfolding words row row-of pick vars
+  row-4 = row-test (ws 4) _ (λ e. let z = zeros a b 0 0 c f e in λ i. 4 ∷ z .0 i ∷ z .1 i ∷ s ∷ n ∷ z .4 i ∷ z .5 i ∷ []) (λ e. sum a b 0 0 c f (omega (arith, word 1 e, word 2 e, word 5 e, word 6 e)))
+
+  pub row-5 : eqb (a + b + 0 + 0 + c + 0) 0 ≡ is-row (ws 5)
+  unfolding words row row-of pick vars
+  row-5 = row-test (ws 5) _ (λ e. let z = zeros a b 0 0 c 0 e in λ i. 5 ∷ z .0 i ∷ z .1 i ∷ s ∷ n ∷ z .4 i ∷ f ∷ []) (λ e. sum a b 0 0 c 0 (omega (arith, word 1 e, word 2 e, word 5 e)))
+
+  pub row-6 : eqb (a + b + 0 + 0 + 0 + f) 0 ≡ is-row (ws 6)
+  unfolding words row row-of pick vars
+  row-6 = row-test (ws 6) _ (λ e. let z = zeros a b 0 0 0 f e in λ i. 6 ∷ z .0 i ∷ z .1 i ∷ s ∷ n ∷ c ∷ z .5 i ∷ []) (λ e. sum a b 0 0 0 f (omega (arith, word 1 e, word 2 e, word 6 e)))
+
+-- a bool's word 1 is 0 or 1
+module _ (b s n c f : ℕ) where
+  pub row-1 : (a : ℕ) → a ≤ 1 → eqb (0 + b + s + n + c + f) 0 ≡ is-row (1 ∷ a ∷ b ∷ s ∷ n ∷ c ∷ f ∷ [])
+  unfolding words row row-of pick vars
+  row-1 zero l = row-test (1 ∷ 0 ∷ b ∷ s ∷ n ∷ c ∷ f ∷ []) _ (λ e. let z = zeros 0 b s n c f e in λ i. 1 ∷ 0 ∷ z .1 i ∷ z .2 i ∷ z .3 i ∷ z .4 i ∷ z .5 i ∷ []) (λ e. sum 0 b s n c f (omega (arith, word 2 e, word 3 e, word 4 e, word 5 e, word 6 e)))
+  row-1 (suc zero) l = row-test (1 ∷ 1 ∷ b ∷ s ∷ n ∷ c ∷ f ∷ []) _ (λ e. let z = zeros 0 b s n c f e in λ i. 1 ∷ 1 ∷ z .1 i ∷ z .2 i ∷ z .3 i ∷ z .4 i ∷ z .5 i ∷ []) (λ e. sum 0 b s n c f (omega (arith, word 2 e, word 3 e, word 4 e, word 5 e, word 6 e)))
+  row-1 (suc (suc a)) l = absurd (omega arith)
+
+-- a test that fails
+not-test : (ws : List ℕ) → (ws ≡ words (row ws) → ⊥) → false ≡ is-row ws
+not-test ws g = row-test ws false (λ e. absurd (subst T (sym e) tt)) (λ e. absurd (g e))
+
+bool-word : (t : Bool) → getD (words (bool t)) 1 0 ≤ 1
+unfolding words
+bool-word true = omega arith
+bool-word false = omega arith
+
+pub row-1-not : (a b s n c f : ℕ) → 1 < a → false ≡ is-row (1 ∷ a ∷ b ∷ s ∷ n ∷ c ∷ f ∷ [])
+unfolding row row-of pick
+row-1-not a b s n c f l = not-test (1 ∷ a ∷ b ∷ s ∷ n ∷ c ∷ f ∷ []) (λ e. omega (arith, word 1 e, bool-word (eqb a 1)))
+
+-- kinds 7 and 8 without a variable list, with one, and with another mark
+module _ (a b s n c : ℕ) where
+  pub row-7-absent : (f : ℕ) → f ≡ 0 → eqb (0 + 0 + s + n + c + 0) 0 ≡ is-row (7 ∷ a ∷ b ∷ s ∷ n ∷ c ∷ f ∷ [])
+  unfolding words row row-of pick vars
+  row-7-absent zero g = row-test (7 ∷ a ∷ b ∷ s ∷ n ∷ c ∷ 0 ∷ []) _ (λ e. let z = zeros 0 0 s n c 0 e in λ i. 7 ∷ a ∷ b ∷ z .2 i ∷ z .3 i ∷ z .4 i ∷ 0 ∷ []) (λ e. sum 0 0 s n c 0 (omega (arith, word 3 e, word 4 e, word 5 e)))
+  row-7-absent (suc f) g = absurd (omega arith)
+
+  pub row-7-present : (f : ℕ) → f ≡ 1 → eqb c 0 ≡ is-row (7 ∷ a ∷ b ∷ s ∷ n ∷ c ∷ f ∷ [])
+  unfolding words row row-of pick vars
+  row-7-present zero g = absurd (omega arith)
+  row-7-present (suc f) g = row-test (7 ∷ a ∷ b ∷ s ∷ n ∷ c ∷ suc f ∷ []) _ (λ e. λ i. 7 ∷ a ∷ b ∷ s ∷ n ∷ eqb-is c 0 e i ∷ g i ∷ []) (λ e. eq-eqb c 0 (word 5 e))
+
+  pub row-7-not : (f : ℕ) → (f ≡ 0 → ⊥) → (f ≡ 1 → ⊥) → false ≡ is-row (7 ∷ a ∷ b ∷ s ∷ n ∷ c ∷ f ∷ [])
+  unfolding words row row-of pick vars
+  row-7-not zero g h = absurd (g refl)
+  row-7-not (suc f) g h = not-test (7 ∷ a ∷ b ∷ s ∷ n ∷ c ∷ suc f ∷ []) (λ e. h (word 6 e))
+
+  pub row-8-absent : (f : ℕ) → f ≡ 0 → eqb (0 + 0 + s + n + 0 + 0) 0 ≡ is-row (8 ∷ a ∷ b ∷ s ∷ n ∷ c ∷ f ∷ [])
+  unfolding words row row-of pick vars
+  row-8-absent zero g = row-test (8 ∷ a ∷ b ∷ s ∷ n ∷ c ∷ 0 ∷ []) _ (λ e. let z = zeros 0 0 s n 0 0 e in λ i. 8 ∷ a ∷ b ∷ z .2 i ∷ z .3 i ∷ c ∷ 0 ∷ []) (λ e. sum 0 0 s n 0 0 (omega (arith, word 3 e, word 4 e)))
+  row-8-absent (suc f) g = absurd (omega arith)
+
+  pub row-8-present : (f : ℕ) → (f ≡ 0 → ⊥) → eqb f 1 ≡ is-row (8 ∷ a ∷ b ∷ s ∷ n ∷ c ∷ f ∷ [])
+  unfolding words row row-of pick vars
+  row-8-present zero g = absurd (g refl)
+  row-8-present (suc f) g = row-test (8 ∷ a ∷ b ∷ s ∷ n ∷ c ∷ suc f ∷ []) _ (λ e. λ i. 8 ∷ a ∷ b ∷ s ∷ n ∷ c ∷ eqb-is (suc f) 1 e i ∷ []) (λ e. eq-eqb (suc f) 1 (word 6 e))
+
+-- an unknown kind
+pub row-not : (k a b s n c f : ℕ) → (k ≡ 0 → ⊥) → (k ≡ 1 → ⊥) → (k ≡ 2 → ⊥) → (k ≡ 3 → ⊥) → (k ≡ 4 → ⊥) → (k ≡ 5 → ⊥) → (k ≡ 6 → ⊥) → (k ≡ 7 → ⊥) → (k ≡ 8 → ⊥) → false ≡ is-row (k ∷ a ∷ b ∷ s ∷ n ∷ c ∷ f ∷ [])
+unfolding words row row-of pick
+row-not k a b s n c f n0 n1 n2 n3 n4 n5 n6 n7 n8 =
+    not-test (k ∷ a ∷ b ∷ s ∷ n ∷ c ∷ f ∷ [])
+      (λ e. n0 (word 0 e ∙ simp (ne-eqb k 1 n1, ne-eqb k 2 n2, ne-eqb k 3 n3, ne-eqb k 4 n4, ne-eqb k 5 n5, ne-eqb k 6 n6, ne-eqb k 7 n7, ne-eqb k 8 n8)))

@@ -1,0 +1,74 @@
+use borrow.Author.Needs.{needs}
+use native.Mathlib.Omega.{arith}
+use Prim.Native.Nat.{ℕ, suc, _+_, _-_, _*_, _≤_, _<_}
+use mathlib.Core.Bool.{Bool, true, false, _&&_}
+use mathlib.Core.Path.{_≡_, refl, sym, ap, _∙_, subst}
+use mathlib.Core.List.{List, [], _∷_}
+use lib.Dec.{leb}
+use lib.ListN.{length, drop, take, getD}
+use Rattle.definition.specs.Node.{rows, vars}
+use Rattle.definition.specs.Arena.{Arena, Tables, arena, bytes-right, list-right, pairs-right, vars-right, is-name, faulty, counts-fit}
+use Rattle.arena_check.specs.Held.{Held, tables, counted}
+use Rattle.arena_check.proofs.Lists.{length-rows}
+use Rattle.arena_check.specs.Held.{checked}
+use Rattle.arena_check.proofs.Rights.{held, checked-in, checked-out}
+use borrow.Author.Needs.{needs}
+use Rattle.arena_check.proofs.check.Statement.{statement}
+use Rattle.arena_check.proofs.check.Tie as tie
+use Rattle.arena_check.proofs.check.Reads as reads
+use Rattle.arena_check.proofs.check.Lts as lts
+use Rattle.arena_check.proofs.counts_fit_at.Reads as counts-fit-at-reads
+use Rattle.arena_check.proofs.first_faulty.Reads as first-faulty-reads
+
+-- src/lib.rt:274:8
+counts-fit-at-requires : tie.Need-counts-fit-at-requires
+counts-fit-at-requires c κs = search needs
+
+-- src/lib.rt:275:15
+first-faulty-requires : tie.Need-first-faulty-requires
+first-faulty-requires c κs =
+    let f = c .before .counts-fit-at .ensures .1 (c .if1 .taken) in
+    (c .before .before .before .before .before .pre, f .nodes-fit, f .references-fit)
+
+-- src/lib.rt:276:31
+enum-told : tie.Need-enum-told
+enum-told c = search needs
+
+-- src/lib.rt:277:28
+enum-known-f : tie.Need-enum-known-f
+enum-known-f c = search needs
+
+-- src/lib.rt:265:1
+returns : tie.Need-returns
+returns c =
+    let a = c .before .before .before .before .before .before .before .before .args in
+    let T = tables (a .nodes .now) (a .references .now) (a .bytes .now) in
+    let f = c .before .before .before .before .counts-fit-at .ensures .1 (c .before .before .before .if1 .taken) in
+    (checked-in T (a .counts) _ (sym (c .before .before .before .if1 .taken) ∙ c .before .before .before .before .counts-fit-at .ensures .0 T refl refl refl) (ap checked (sym (c .enum-told .given .1)) ∙ c .before .before .first-faulty .ensures (arena T (a .counts)) (held T (a .counts) f)), f)
+
+-- src/lib.rt:265:1
+returns-2 : tie.Need-returns-2
+returns-2 c =
+    let a = c .before .before .before .before .before .before .before .before .before .args in
+    let T = tables (a .nodes .now) (a .references .now) (a .bytes .now) in
+    let f = c .before .before .before .before .before .counts-fit-at .ensures .1 (c .before .before .before .before .if1 .taken) in
+    (checked-in T (a .counts) _ (sym (c .before .before .before .before .if1 .taken) ∙ c .before .before .before .before .before .counts-fit-at .ensures .0 T refl refl refl) (ap checked (sym (c .before .f .given .1)) ∙ c .before .before .before .first-faulty .ensures (arena T (a .counts)) (held T (a .counts) f)), tt)
+
+-- src/lib.rt:265:1
+returns-3 : tie.Need-returns-3
+returns-3 c =
+    let a = c .before .before .before .before .before .args in
+    let T = tables (a .nodes .now) (a .references .now) (a .bytes .now) in
+    (checked-out T (a .counts) (sym (c .if1 .left) ∙ c .before .counts-fit-at .ensures .0 T refl refl refl), tt)
+
+pub check-spec : {M : Type 1} → statement M
+check-spec =
+    tie.close
+    (tie.spec
+    counts-fit-at-requires
+    first-faulty-requires
+    enum-told
+    enum-known-f
+    returns
+    returns-2
+    returns-3)

@@ -1,0 +1,57 @@
+use borrow.Author.Needs.{needs}
+use native.Mathlib.Omega.{arith}
+use Prim.Native.Nat.{ℕ, suc, _+_, _-_, _*_, _≤_, _<_}
+use mathlib.Core.Bool.{Bool, true, false, _&&_}
+use mathlib.Core.Path.{_≡_, refl, sym, ap, _∙_, subst}
+use mathlib.Core.List.{List, [], _∷_}
+use lib.Dec.{leb}
+use lib.ListN.{length, drop, take, getD}
+use Rattle.definition.specs.Node.{rows, vars}
+use Rattle.definition.specs.Arena.{Arena, Tables, arena, bytes-right, list-right, pairs-right, vars-right, is-name, faulty, counts-fit}
+use Rattle.arena_check.specs.Held.{Held, tables, counted}
+use Rattle.arena_check.proofs.Lists.{length-rows}
+use Rattle.arena_check.proofs.Rights.{no-nodes, nodes-past, references-past, bytes-past, counts-in, fits, not-so, test-lt}
+use borrow.Author.Needs.{needs}
+use Rattle.arena_check.proofs.counts_fit_at.Statement.{statement}
+use Rattle.arena_check.proofs.counts_fit_at.Tie as tie
+use Rattle.arena_check.proofs.counts_fit_at.Reads as reads
+use Rattle.arena_check.proofs.counts_fit_at.Lts as lts
+use Rattle.arena_check.proofs.size.Reads as size-reads
+
+-- src/lib.rt:250:9
+returns : tie.Need-returns
+returns c =
+    let a = c .before .args in
+    (no-nodes (a .nodes) (a .references) (a .bytes) (a .count) (a .used) (a .stored) (a .root) (c .if1 .taken), λ t. not-so t)
+
+-- src/lib.rt:253:9
+returns-2 : tie.Need-returns-2
+returns-2 c =
+    let a = c .before .before .args in
+    (nodes-past (a .nodes) (a .references) (a .bytes) (a .count) (a .used) (a .stored) (a .root) (c .if2 .taken), λ t. not-so t)
+
+-- src/lib.rt:256:9
+returns-3 : tie.Need-returns-3
+returns-3 c =
+    let a = c .before .before .before .args in
+    (references-past (a .nodes) (a .references) (a .bytes) (a .count) (a .used) (a .stored) (a .root) (c .if3 .taken), λ t. not-so t)
+
+-- src/lib.rt:259:9
+returns-4 : tie.Need-returns-4
+returns-4 c =
+    let a = c .before .before .before .before .args in
+    (bytes-past (a .nodes) (a .references) (a .bytes) (a .count) (a .used) (a .stored) (a .root) (c .if4 .taken), λ t. not-so t)
+
+-- src/lib.rt:261:5
+size-requires : tie.Need-size-requires
+size-requires c κs = search needs
+
+-- src/lib.rt:245:1
+returns-5 : tie.Need-returns-5
+returns-5 c =
+    let a = c .before .before .before .before .before .args in
+    (counts-in (a .nodes) (a .references) (a .bytes) (a .count) (a .used) (a .stored) (a .root) (c .before .before .before .before .if1 .left) (c .before .before .before .if2 .left) (c .before .before .if3 .left) (c .before .if4 .left) _ (c .size .ensures), λ t. fits (a .nodes) (a .references) (a .bytes) (a .count) (a .used) (a .stored) (a .root) (c .before .before .before .if2 .left) (c .before .before .if3 .left) (c .before .if4 .left) _ (c .size .ensures) (test-lt _ _ t))
+
+pub counts-fit-at-spec : {M : Type 1} → statement M
+counts-fit-at-spec =
+    tie.close (tie.spec returns returns-2 returns-3 returns-4 size-requires returns-5)

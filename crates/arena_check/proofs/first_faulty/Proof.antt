@@ -1,0 +1,83 @@
+use borrow.Author.Needs.{needs}
+use native.Mathlib.Omega.{arith}
+use Prim.Native.Nat.{ℕ, suc, _+_, _-_, _*_, _≤_, _<_}
+use mathlib.Core.Bool.{Bool, true, false, _&&_}
+use mathlib.Core.Path.{_≡_, refl, sym, ap, _∙_, subst}
+use mathlib.Core.List.{List, [], _∷_}
+use lib.Dec.{leb}
+use lib.ListN.{length, drop, take, getD}
+use Rattle.definition.specs.Node.{rows, vars}
+use Rattle.definition.specs.Arena.{Arena, Tables, arena, bytes-right, list-right, pairs-right, vars-right, is-name, faulty, counts-fit}
+use Rattle.arena_check.specs.Held.{Held, tables, counted}
+use Rattle.arena_check.proofs.Lists.{length-rows}
+use Rattle.arena_check.proofs.Rights.{faulty-on, faulty-here, faulty-none, faulty-start}
+use Rattle.arena_check.proofs.first_faulty.Statement.{statement}
+use Rattle.arena_check.proofs.first_faulty.Tie as tie
+use Rattle.arena_check.proofs.first_faulty.Reads as reads
+use Rattle.arena_check.proofs.first_faulty.Lts as lts
+use Rattle.arena_check.proofs.node_right_at.Reads as node-right-at-reads
+
+abbrev Inv-loop : tie.InvT-loop
+Inv-loop nodes references count used stored i₀ i =
+    (i ≤ count) × ((A : Arena) → Held A nodes references count used stored → faulty A count 0 nodes ≡ faulty A (count - i) i (drop (i * 7) nodes))
+
+abbrev μ-loop : tie.MeasureT-loop
+μ-loop nodes references count used stored i₀ i =
+    count - i
+
+-- src/lib.rt:235:5
+loop-holds : tie.Need-loop-holds Inv-loop μ-loop
+loop-holds c =
+    let a = c .before .before .args in
+    (omega arith, λ A H. faulty-start A (a .nodes .now) (a .count))
+
+-- src/lib.rt:236:12
+node-right-at-requires : tie.Need-node-right-at-requires Inv-loop μ-loop
+node-right-at-requires c κs =
+    (c .loop-test .taken, c .before .before .before .before .pre .1, c .before .before .before .before .pre .2)
+
+-- src/lib.rt:237:17
+add-i : tie.Need-add-i Inv-loop μ-loop
+add-i c = search needs
+
+-- src/lib.rt:235:5
+loop-less : tie.Need-loop-less Inv-loop μ-loop
+loop-less c = search needs
+
+-- src/lib.rt:235:5
+loop-again : tie.Need-loop-again Inv-loop μ-loop
+loop-again c =
+    let a = c .before .before .before .before .before .before .args in
+    (omega (arith, c .before .before .loop-test .taken), λ A H. c .before .before .before .loop .inv .1 A H ∙ faulty-on A (a .nodes .now) (a .count) (c .before .before .before .loop .i) (c .before .before .loop-test .taken) (sym (c .if1 .taken) ∙ c .before .node-right-at .ensures A H))
+
+-- src/lib.rt:239:47
+cast-t13 : tie.Need-cast-t13 Inv-loop μ-loop
+cast-t13 c =
+    omega (arith, c .before .before .loop-test .taken, c .before .before .before .before .before .before .pre .0, c .before .before .before .before .before .before .pre .1)
+
+-- src/lib.rt:239:13
+returns : tie.Need-returns Inv-loop μ-loop
+returns c =
+    let a = c .before .before .before .before .before .before .args in
+    λ A H. faulty-here A (a .nodes .now) (a .count) (c .before .before .before .loop .i) (c .before .before .loop-test .taken) (sym (c .if1 .left) ∙ c .before .node-right-at .ensures A H) ∙ sym (c .before .before .before .loop .inv .1 A H)
+
+-- src/lib.rt:230:1
+returns-2 : tie.Need-returns-2 Inv-loop μ-loop
+returns-2 c =
+    let a = c .before .before .before .before .args in
+    λ A H. faulty-none A (a .nodes .now) (a .count) (c .before .loop .i) (c .loop-test .left) ∙ sym (c .before .loop .inv .1 A H)
+
+pub first-faulty-spec : {M : Type 1} → statement M
+first-faulty-spec =
+    tie.close
+    (tie.spec
+    Inv-loop
+    μ-loop
+    loop-holds
+    node-right-at-requires
+    add-i
+    loop-less
+    loop-again
+    cast-t13
+    returns
+    returns-2)

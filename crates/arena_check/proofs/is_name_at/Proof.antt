@@ -1,0 +1,46 @@
+use borrow.Author.Needs.{needs}
+use native.Mathlib.Omega.{arith}
+use Prim.Native.Nat.{ℕ, suc, _+_, _-_, _*_, _≤_, _<_}
+use mathlib.Core.Path.{_≡_, refl, sym, ap, _∙_, subst}
+use mathlib.Core.List.{List, [], _∷_}
+use lib.ListN.{length, drop, getD}
+use Rattle.arena_check.proofs.Lists.{name-at, no-name}
+use borrow.Author.Needs.{needs}
+use Rattle.arena_check.proofs.is_name_at.Statement.{statement}
+use Rattle.arena_check.proofs.is_name_at.Tie as tie
+use Rattle.arena_check.proofs.is_name_at.Reads as reads
+use Rattle.arena_check.proofs.is_name_at.Lts as lts
+use Rattle.arena_check.proofs.size.Reads as size-reads
+
+-- src/lib.rt:81:9
+size-requires : tie.Need-size-requires
+size-requires c κs = search needs
+
+-- src/lib.rt:83:15
+mul-result : tie.Need-mul-result
+mul-result c = search needs
+
+-- src/lib.rt:83:9
+mul-result-2 : tie.Need-mul-result-2
+mul-result-2 c = search needs
+
+-- src/lib.rt:83:9
+shared-slice-read-result : tie.Need-shared-slice-read-result
+shared-slice-read-result c = search needs
+
+-- src/lib.rt:77:1
+returns : tie.Need-returns
+returns c =
+    let a = c .before .before .before .before .args in
+    λ A e. rw (c .before .before .size .ensures) (name-at A (a .count) (a .nodes .now) (a .i) e (rw (c .before .before .size .ensures) at (c .before .if1 .taken)))
+
+-- src/lib.rt:77:1
+returns-2 : tie.Need-returns-2
+returns-2 c =
+    let a = c .before .before .before .args in
+    λ A e. no-name A (a .count) (a .nodes .now) (a .i) e (rw (c .before .size .ensures) at (c .if1 .left))
+
+pub is-name-at-spec : {M : Type 1} → statement M
+is-name-at-spec =
+    tie.close
+    (tie.spec size-requires mul-result mul-result-2 shared-slice-read-result returns returns-2)

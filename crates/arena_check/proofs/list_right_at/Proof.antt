@@ -1,0 +1,48 @@
+use borrow.Author.Needs.{needs}
+use native.Mathlib.Omega.{arith}
+use Prim.Native.Nat.{ℕ, suc, _+_, _-_, _*_, _≤_, _<_}
+use mathlib.Core.Bool.{Bool, true, false, _&&_}
+use mathlib.Core.Path.{_≡_, refl, sym, ap, _∙_, subst}
+use mathlib.Core.List.{List, [], _∷_}
+use lib.Dec.{leb}
+use lib.ListN.{length, drop, take, getD}
+use Rattle.definition.specs.Node.{rows, vars}
+use Rattle.definition.specs.Arena.{Arena, Tables, arena, bytes-right, list-right, pairs-right, vars-right, is-name, faulty, counts-fit}
+use Rattle.arena_check.specs.Held.{Held, tables, counted}
+use Rattle.arena_check.proofs.Lists.{length-rows}
+use Rattle.arena_check.proofs.Rights.{list-in, list-out, not-so}
+use borrow.Author.Needs.{needs}
+use Rattle.arena_check.proofs.list_right_at.Statement.{statement}
+use Rattle.arena_check.proofs.list_right_at.Tie as tie
+use Rattle.arena_check.proofs.list_right_at.Reads as reads
+use Rattle.arena_check.proofs.list_right_at.Lts as lts
+use Rattle.arena_check.proofs.all_below_at.Reads as all-below-at-reads
+use Rattle.arena_check.proofs.size.Reads as size-reads
+
+-- src/lib.rt:135:9
+size-requires : tie.Need-size-requires
+size-requires c κs = search needs
+
+-- src/lib.rt:136:8
+add-if1 : tie.Need-add-if1
+add-if1 c = search needs
+
+-- src/lib.rt:137:9
+all-below-at-requires : tie.Need-all-below-at-requires
+all-below-at-requires c κs = search needs
+
+-- src/lib.rt:130:1
+returns : tie.Need-returns
+returns c =
+    let a = c .before .before .before .before .args in
+    (λ A e g. c .all-below-at .ensures ∙ list-in A (a .references .now) (a .used) (a .count) e g (c .before .before .before .before .pre .0) (a .start) (a .n) _ (c .before .before .size .ensures) (c .before .if1 .taken), λ t. omega (arith, c .before .before .size .ensures, c .before .if1 .taken))
+
+-- src/lib.rt:130:1
+returns-2 : tie.Need-returns-2
+returns-2 c =
+    let a = c .before .before .before .args in
+    (λ A e g. list-out A (a .references .now) (a .used) (a .count) e g (c .before .before .before .pre .0) (a .start) (a .n) _ (c .before .size .ensures) (c .if1 .left), λ t. not-so t)
+
+pub list-right-at-spec : {M : Type 1} → statement M
+list-right-at-spec =
+    tie.close (tie.spec size-requires add-if1 all-below-at-requires returns returns-2)

@@ -1,0 +1,70 @@
+use borrow.Author.Needs.{needs}
+use native.Mathlib.Omega.{arith}
+use Prim.Native.Nat.{ℕ, suc, _+_, _-_, _*_, _≤_, _<_}
+use mathlib.Core.Bool.{Bool, true, false, _&&_}
+use mathlib.Core.Path.{_≡_, refl, sym, ap, _∙_, subst}
+use mathlib.Core.List.{List, [], _∷_}
+use lib.Dec.{leb}
+use lib.ListN.{length, drop, take, getD}
+use Rattle.definition.specs.Node.{rows, vars}
+use Rattle.definition.specs.Arena.{Arena, Tables, arena, bytes-right, list-right, pairs-right, vars-right, is-name, faulty, counts-fit}
+use Rattle.arena_check.specs.Held.{Held, tables, counted}
+use Rattle.arena_check.proofs.Lists.{length-rows}
+use Rattle.arena_check.proofs.Rights.{pairs-in, pairs-out}
+use borrow.Author.Needs.{needs}
+use Rattle.arena_check.proofs.pairs_right_at.Statement.{statement}
+use Rattle.arena_check.proofs.pairs_right_at.Tie as tie
+use Rattle.arena_check.proofs.pairs_right_at.Reads as reads
+use Rattle.arena_check.proofs.pairs_right_at.Lts as lts
+use Rattle.arena_check.proofs.all_names_at.Reads as all-names-at-reads
+use Rattle.arena_check.proofs.list_right_at.Reads as list-right-at-reads
+use Rattle.arena_check.proofs.size.Reads as size-reads
+
+-- src/lib.rt:147:9
+size-requires : tie.Need-size-requires
+size-requires c κs = search needs
+
+-- src/lib.rt:148:59
+mul-list-right-at : tie.Need-mul-list-right-at
+mul-list-right-at c = search needs
+
+-- src/lib.rt:148:8
+list-right-at-requires : tie.Need-list-right-at-requires
+list-right-at-requires c κs = search needs
+
+-- src/lib.rt:149:58
+size-requires-2 : tie.Need-size-requires-2
+size-requires-2 c κs = search needs
+
+-- src/lib.rt:149:9
+all-names-at-requires : tie.Need-all-names-at-requires
+all-names-at-requires c κs =
+    (c .before .before .before .before .before .before .pre .0, omega (arith, c .size2 .ensures, c .before .before .list-right-at .ensures .1 (c .before .if1 .taken), c .before .before .before .before .before .before .pre .1))
+
+-- src/lib.rt:143:1
+returns : tie.Need-returns
+returns c =
+    let a = c .before .before .before .before .before .before .before .args in
+    λ A e g.
+      let l : length (A .nodes) ≡ a .count = ap length e ∙ length-rows (a .count) (a .nodes .now) in
+      c .all-names-at .ensures A e ∙ pairs-in A (a .references .now) (a .used) (a .count) g l (c .before .before .before .before .before .before .before .pre .1) (a .start) (a .n) _ _ (c .before .size2 .ensures) (c .before .before .before .before .size .ensures) (sym (c .before .before .if1 .taken) ∙ c .before .before .before .list-right-at .ensures .0 A g l) (c .before .before .before .list-right-at .ensures .1 (c .before .before .if1 .taken))
+
+-- src/lib.rt:143:1
+returns-2 : tie.Need-returns-2
+returns-2 c =
+    let a = c .before .before .before .before .before .args in
+    λ A e g.
+      let l : length (A .nodes) ≡ a .count = ap length e ∙ length-rows (a .count) (a .nodes .now) in
+      pairs-out A (a .start) (a .n) _ (c .before .before .size .ensures) (sym (c .if1 .left) ∙ c .before .list-right-at .ensures .0 A g l)
+
+pub pairs-right-at-spec : {M : Type 1} → statement M
+pairs-right-at-spec =
+    tie.close
+    (tie.spec
+    size-requires
+    mul-list-right-at
+    list-right-at-requires
+    size-requires-2
+    all-names-at-requires
+    returns
+    returns-2)

@@ -1,0 +1,38 @@
+use borrow.Author.Needs.{needs}
+use native.Mathlib.Omega.{arith}
+use Prim.Native.Nat.{ℕ, suc, _+_, _-_, _*_, _≤_, _<_}
+use mathlib.Core.Bool.{Bool, true, false, _&&_}
+use mathlib.Core.Path.{_≡_, refl, sym, ap, _∙_, subst}
+use mathlib.Core.List.{List, [], _∷_}
+use lib.Dec.{leb}
+use lib.ListN.{length, drop, take, getD}
+use Rattle.definition.specs.Node.{rows, vars}
+use Rattle.definition.specs.Arena.{Arena, Tables, arena, bytes-right, list-right, pairs-right, vars-right, is-name, faulty, counts-fit}
+use Rattle.arena_check.specs.Held.{Held, tables, counted}
+use Rattle.arena_check.proofs.Lists.{length-rows}
+use Rattle.arena_check.proofs.Rights.{vars-none, vars-some}
+use borrow.Author.Needs.{needs}
+use Rattle.arena_check.proofs.vars_right_at.Statement.{statement}
+use Rattle.arena_check.proofs.vars_right_at.Tie as tie
+use Rattle.arena_check.proofs.vars_right_at.Reads as reads
+use Rattle.arena_check.proofs.vars_right_at.Lts as lts
+use Rattle.arena_check.proofs.pairs_right_at.Reads as pairs-right-at-reads
+
+-- src/lib.rt:162:9
+pairs-right-at-requires : tie.Need-pairs-right-at-requires
+pairs-right-at-requires c κs = search needs
+
+-- src/lib.rt:155:1
+returns : tie.Need-returns
+returns c =
+    let a = c .before .before .before .args in
+    λ A e g. vars-none A (a .f) (a .start) (a .n) (c .if1 .taken)
+
+-- src/lib.rt:155:1
+returns-2 : tie.Need-returns-2
+returns-2 c =
+    let a = c .before .before .before .before .args in
+    λ A e g. c .pairs-right-at .ensures A e g ∙ vars-some A (a .f) (a .start) (a .n) (c .before .if1 .left)
+
+pub vars-right-at-spec : {M : Type 1} → statement M
+vars-right-at-spec = tie.close (tie.spec pairs-right-at-requires returns returns-2)

@@ -1,0 +1,2 @@
+-- What the check's contracts say.
+pub mod Held

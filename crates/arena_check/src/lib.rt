@@ -1,0 +1,282 @@
+// Whether an arena is well formed.
+use definition::Counts;
+use definition::Fault;
+ghost use mathlib.Core.Path.{_≡_};
+ghost use mathlib.Core.List.{List, [], _∷_};
+ghost use Prim.Native.Nat.{ℕ, _+_, _-_, _*_, _/_, _<_, _≤_};
+ghost use lib.Dec.{eqb};
+ghost use lib.ListN.{length, getD, take, drop};
+ghost use Rattle.definition.specs.Node.{is-row, row-of, rows, vars};
+ghost use mathlib.Core.Bool.{true};
+ghost use Rattle.definition.specs.Arena.{Arena, Tables, range, firsts, all-below, all-names, is-name, bytes-right, list-right, pairs-right, vars-right, row-right, node-right, faulty, counts-fit, fault};
+ghost use Rattle.arena_check.specs.Held.{Held, checked, tables, Fits, FitIf, counted};
+
+pub enum Checked {
+    Right,
+    Wrong(Fault),
+}
+
+fn wide(x: u32) -> u64
+    ensures { λ r. ⌜ r ≡ x ⌝ }
+{
+    x as u64
+}
+
+fn size(x: u32) -> usize
+    ensures { λ r. ⌜ r ≡ x ⌝ }
+{
+    x as usize
+}
+
+fn all_zero(a: u32, b: u32, s: u32, n: u32, c: u32, f: u32) -> bool
+    ensures { λ r. ⌜ r ≡ eqb (a + b + s + n + c + f) 0 ⌝ }
+{
+    wide(a) + wide(b) + wide(s) + wide(n) + wide(c) + wide(f) == 0
+}
+
+// Unused words are zero, flags are 0 or 1.
+fn is_row_of(k: u32, a: u32, b: u32, s: u32, n: u32, c: u32, f: u32) -> bool
+    ensures { λ r. ⌜ r ≡ is-row (k ∷ a ∷ b ∷ s ∷ n ∷ c ∷ f ∷ []) ⌝ }
+{
+    match k {
+        0 => all_zero(a, b, s, n, c, f),
+        1 => {
+            if a <= 1 {
+                all_zero(0, b, s, n, c, f)
+            } else {
+                false
+            }
+        }
+        2 => all_zero(0, b, s, n, c, f),
+        3 => all_zero(0, 0, s, n, c, f),
+        4 => all_zero(a, b, 0, 0, c, f),
+        5 => all_zero(a, b, 0, 0, c, 0),
+        6 => all_zero(a, b, 0, 0, 0, f),
+        7 => {
+            if f == 0 {
+                all_zero(0, 0, s, n, c, 0)
+            } else {
+                if f == 1 {
+                    c == 0
+                } else {
+                    false
+                }
+            }
+        }
+        8 => {
+            if f == 0 {
+                all_zero(0, 0, s, n, 0, 0)
+            } else {
+                f == 1
+            }
+        }
+        _ => false,
+    }
+}
+
+// Is the entry below the node count a symbol?
+fn is_name_at(nodes: &[u32], count: usize, i: u32) -> bool
+    requires { ⌜ count * 7 ≤ length (now nodes) ⌝ }
+    ensures { λ r. ⌜ ((A : Arena) → A .nodes ≡ rows count (now (nodes .entry)) → r ≡ is-name A i) ⌝ }
+{
+    let at = size(i);
+    if at < count {
+        nodes[at * 7] == 3
+    } else {
+        false
+    }
+}
+
+// Are the n references from `start` on below the count?
+fn all_below_at(references: &[u32], start: usize, n: usize, count: usize) -> bool
+    requires { ⌜ start + n ≤ length (now references) ⌝ }
+    ensures { λ r. ⌜ r ≡ all-below count (range (now (references .entry)) start n) ⌝ }
+{
+    let mut i = 0;
+    while i < n {
+        let m = size(references[start + i]);
+        if m < count {
+            i = i + 1;
+        } else {
+            return false;
+        }
+    }
+    true
+}
+
+// Is the first of each of the n pairs from `start` on a symbol?
+fn all_names_at(nodes: &[u32], count: usize, references: &[u32], start: usize, n: usize) -> bool
+    requires { ⌜ (count * 7 ≤ length (now nodes)) × (start + n * 2 ≤ length (now references)) ⌝ }
+    ensures { λ r. ⌜ ((A : Arena) → A .nodes ≡ rows count (now (nodes .entry)) → r ≡ all-names A (firsts (range (now (references .entry)) start (n * 2)))) ⌝ }
+{
+    let mut i = 0;
+    while i < n {
+        if is_name_at(&nodes[..], count, references[start + i * 2]) {
+            i = i + 1;
+        } else {
+            return false;
+        }
+    }
+    true
+}
+
+fn bytes_right_at(stored: usize, start: u32, n: u32) -> bool
+    ensures { λ r. ⌜ ((A : Arena) → length (A .bytes) ≡ stored → r ≡ bytes-right A start n) ⌝ }
+{
+    size(start) + size(n) <= stored
+}
+
+// A list of n references from `start` on lies inside the count, and its members below the node count.
+fn list_right_at(references: &[u32], used: usize, count: usize, start: u32, n: usize) -> bool
+    requires { ⌜ (used ≤ length (now references)) × (n ≤ 8589934592) ⌝ }
+    ensures { λ r. ⌜ ((A : Arena) → A .references ≡ take used (now (references .entry)) → length (A .nodes) ≡ count → r ≡ list-right A start n) ⌝ }
+    ensures { λ r. ⌜ (r ≡ true → start + n ≤ used) ⌝ }
+{
+    let from = size(start);
+    if from + n <= used {
+        all_below_at(&references[..], from, n, count)
+    } else {
+        false
+    }
+}
+
+fn pairs_right_at(nodes: &[u32], references: &[u32], count: usize, used: usize, start: u32, n: u32) -> bool
+    requires { ⌜ (count * 7 ≤ length (now nodes)) × (used ≤ length (now references)) ⌝ }
+    ensures { λ r. ⌜ ((A : Arena) → A .nodes ≡ rows count (now (nodes .entry)) → A .references ≡ take used (now (references .entry)) → r ≡ pairs-right A start n) ⌝ }
+{
+    let pairs = size(n);
+    if list_right_at(&references[..], used, count, start, pairs * 2) {
+        all_names_at(&nodes[..], count, &references[..], size(start), pairs)
+    } else {
+        false
+    }
+}
+
+fn vars_right_at(nodes: &[u32], references: &[u32], count: usize, used: usize, f: u32, start: u32, n: u32) -> bool
+    requires { ⌜ (count * 7 ≤ length (now nodes)) × (used ≤ length (now references)) ⌝ }
+    ensures { λ r. ⌜ ((A : Arena) → A .nodes ≡ rows count (now (nodes .entry)) → A .references ≡ take used (now (references .entry)) → r ≡ vars-right A (vars f start n)) ⌝ }
+{
+    if f == 0 {
+        true
+    } else {
+        pairs_right_at(&nodes[..], &references[..], count, used, start, n)
+    }
+}
+
+// The ranges, members and names of a row of kind k with words 1 to 6.
+fn row_right_at(nodes: &[u32], references: &[u32], count: usize, used: usize, stored: usize, k: u32, a: u32, b: u32, s: u32, n: u32, c: u32, f: u32) -> bool
+    requires { ⌜ (count * 7 ≤ length (now nodes)) × (used ≤ length (now references)) ⌝ }
+    ensures { λ r. ⌜ ((A : Arena) → Held A (now (nodes .entry)) (now (references .entry)) count used stored → r ≡ row-right A (row-of k a b s n c f)) ⌝ }
+{
+    match k {
+        3 => bytes_right_at(stored, a, b),
+        4 => list_right_at(&references[..], used, count, s, size(n)),
+        5 => {
+            if list_right_at(&references[..], used, count, s, size(n) * 2) {
+                size(f) <= count
+            } else {
+                false
+            }
+        }
+        6 => {
+            if is_name_at(&nodes[..], count, c) {
+                pairs_right_at(&nodes[..], &references[..], count, used, s, n)
+            } else {
+                false
+            }
+        }
+        7 => {
+            if bytes_right_at(stored, a, b) {
+                vars_right_at(&nodes[..], &references[..], count, used, f, s, n)
+            } else {
+                false
+            }
+        }
+        8 => {
+            if bytes_right_at(stored, a, b) {
+                if is_name_at(&nodes[..], count, c) {
+                    vars_right_at(&nodes[..], &references[..], count, used, f, s, n)
+                } else {
+                    false
+                }
+            } else {
+                false
+            }
+        }
+        _ => true,
+    }
+}
+
+fn node_right_at(nodes: &[u32], references: &[u32], count: usize, used: usize, stored: usize, i: usize) -> bool
+    requires { ⌜ (i < count) × (count * 7 ≤ length (now nodes)) × (used ≤ length (now references)) ⌝ }
+    ensures { λ r. ⌜ ((A : Arena) → Held A (now (nodes .entry)) (now (references .entry)) count used stored → r ≡ node-right A (take 7 (drop (i * 7) (now (nodes .entry))))) ⌝ }
+{
+    let at = i * 7;
+    let k = nodes[at];
+    let a = nodes[at + 1];
+    let b = nodes[at + 2];
+    let s = nodes[at + 3];
+    let n = nodes[at + 4];
+    let c = nodes[at + 5];
+    let f = nodes[at + 6];
+    if is_row_of(k, a, b, s, n, c, f) {
+        row_right_at(&nodes[..], &references[..], count, used, stored, k, a, b, s, n, c, f)
+    } else {
+        false
+    }
+}
+
+// The lowest node that breaks a rule.
+fn first_faulty(nodes: &[u32], references: &[u32], count: usize, used: usize, stored: usize) -> Checked
+    requires { ⌜ (length (now nodes) ≤ 2147483647) × (count * 7 ≤ length (now nodes)) × (used ≤ length (now references)) ⌝ }
+    ensures { λ r. ⌜ ((A : Arena) → Held A (now (nodes .entry)) (now (references .entry)) count used stored → checked r ≡ faulty A count 0 (now (nodes .entry))) ⌝ }
+{
+    let mut i = 0;
+    while i < count {
+        if node_right_at(&nodes[..], &references[..], count, used, stored, i) {
+            i = i + 1;
+        } else {
+            return Checked::Wrong(Fault::Node(i as u32));
+        }
+    }
+    Checked::Right
+}
+
+fn counts_fit_at(nodes: usize, references: usize, bytes: usize, count: usize, used: usize, stored: usize, root: u32) -> bool
+    ensures { λ r. ⌜ ((T : Tables) → length (T .nodes) ≡ nodes → length (T .references) ≡ references → length (T .bytes) ≡ bytes → r ≡ counts-fit T (counted count used stored root)) ⌝ }
+    ensures { λ r. ⌜ (r ≡ true → Fits nodes references bytes (counted count used stored root)) ⌝ }
+{
+    if count == 0 {
+        return false;
+    }
+    if nodes / 7 < count {
+        return false;
+    }
+    if references < used {
+        return false;
+    }
+    if bytes < stored {
+        return false;
+    }
+    size(root) < count
+}
+
+// BAD-ARENA: what is not well formed, counts before nodes.
+pub fn check(nodes: &[u32], references: &[u32], bytes: &[u8], counts: Counts) -> Checked
+    requires { ⌜ length (now nodes) ≤ 2147483647 ⌝ }
+    ensures { λ r. ⌜ checked r ≡ fault (tables (now (nodes .entry)) (now (references .entry)) (now (bytes .entry))) counts ⌝ }
+    ensures { λ r. ⌜ FitIf r (length (now (nodes .entry))) (length (now (references .entry))) (length (now (bytes .entry))) counts ⌝ }
+{
+    let count = counts.nodes;
+    let used = counts.references;
+    let stored = counts.bytes;
+    let root = counts.root;
+    if counts_fit_at(nodes.len(), references.len(), bytes.len(), count, used, stored, root) {
+        match first_faulty(&nodes[..], &references[..], count, used, stored) {
+            Checked::Right => Checked::Right,
+            Checked::Wrong(f) => Checked::Wrong(f),
+        }
+    } else {
+        Checked::Wrong(Fault::Counts)
+    }
+}
