@@ -87,9 +87,9 @@ pub name-at : (A : Arena) (n : ℕ) (t : List ℕ) (i : ℕ) → A .nodes ≡ ro
 unfolding is-name node row
 name-at A n t i e h =
     sym (ap (λ (l : List Row). eqb (kind (getD l i nil)) 3) e
-      ∙ ap (λ (r : Row). eqb (kind r) 3) (rows-at n t i h)
-      ∙ kind-three _ _ _ _ _ _ _
-      ∙ ap (λ (k : ℕ). eqb k 3) (first-word t i))
+    ∙ ap (λ (r : Row). eqb (kind r) 3) (rows-at n t i h)
+    ∙ kind-three _ _ _ _ _ _ _
+    ∙ ap (λ (k : ℕ). eqb k 3) (first-word t i))
 
 pub no-name : (A : Arena) (n : ℕ) (t : List ℕ) (i : ℕ) → A .nodes ≡ rows n t → n ≤ i → false ≡ is-name A i
 unfolding is-name node kind
@@ -120,7 +120,7 @@ module _ (A : Arena) (l : List ℕ) (start n i : ℕ) (h : start + n * 2 ≤ len
   unfolding all-names firsts pick
   names-not k t =
       sym (ap (λ (m : List ℕ). all-names A (firsts m)) (step k)
-        ∙ ap (λ (b : Bool). pick b (all-names A (firsts (left (suc (suc (i * 2)))))) false) (sym t))
+      ∙ ap (λ (b : Bool). pick b (all-names A (firsts (left (suc (suc (i * 2)))))) false) (sym t))
 
   pub names-all : n ≤ i → true ≡ all-names A (firsts (left (i * 2)))
   unfolding all-names firsts

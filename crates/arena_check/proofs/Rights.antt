@@ -43,9 +43,9 @@ module _ (A : Arena) (l : List ℕ) (used count : ℕ) (e : A .references ≡ ta
   list-in start n x p h =
       let h′ : start + n ≤ length (A .references) = omega (arith, listed) in
       sym (rw (le-leb (start + n) (length (A .references)) h′)
-        (ap (λ (m : List ℕ). all-below (length (A .nodes)) (range m start n)) e
-          ∙ ap (all-below (length (A .nodes))) (range-take l used start n (omega arith))
-          ∙ λ i. all-below (g i) (range l (sym p i) n)))
+      (ap (λ (m : List ℕ). all-below (length (A .nodes)) (range m start n)) e
+      ∙ ap (all-below (length (A .nodes))) (range-take l used start n (omega arith))
+      ∙ λ i. all-below (g i) (range l (sym p i) n)))
 
   pub list-out : (start n x : ℕ) → x ≡ start → used < x + n → false ≡ list-right A start n
   unfolding list-right

@@ -138,4 +138,4 @@ pub row-not : (k a b s n c f : ℕ) → (k ≡ 0 → ⊥) → (k ≡ 1 → ⊥) 
 unfolding words row row-of pick
 row-not k a b s n c f n0 n1 n2 n3 n4 n5 n6 n7 n8 =
     not-test (k ∷ a ∷ b ∷ s ∷ n ∷ c ∷ f ∷ [])
-      (λ e. n0 (word 0 e ∙ simp (ne-eqb k 1 n1, ne-eqb k 2 n2, ne-eqb k 3 n3, ne-eqb k 4 n4, ne-eqb k 5 n5, ne-eqb k 6 n6, ne-eqb k 7 n7, ne-eqb k 8 n8)))
+    (λ e. n0 (word 0 e ∙ simp (ne-eqb k 1 n1, ne-eqb k 2 n2, ne-eqb k 3 n3, ne-eqb k 4 n4, ne-eqb k 5 n5, ne-eqb k 6 n6, ne-eqb k 7 n7, ne-eqb k 8 n8)))

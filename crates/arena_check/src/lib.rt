@@ -22,7 +22,7 @@ fn wide(x: u32) -> u64
     x as u64
 }
 
-fn size(x: u32) -> usize
+pub fn size(x: u32) -> usize
     ensures { λ r. ⌜ r ≡ x ⌝ }
 {
     x as usize
@@ -56,11 +56,7 @@ fn is_row_of(k: u32, a: u32, b: u32, s: u32, n: u32, c: u32, f: u32) -> bool
             if f == 0 {
                 all_zero(0, 0, s, n, c, 0)
             } else {
-                if f == 1 {
-                    c == 0
-                } else {
-                    false
-                }
+                if f == 1 { c == 0 } else { false }
             }
         }
         8 => {
@@ -75,7 +71,7 @@ fn is_row_of(k: u32, a: u32, b: u32, s: u32, n: u32, c: u32, f: u32) -> bool
 }
 
 // Is the entry below the node count a symbol?
-fn is_name_at(nodes: &[u32], count: usize, i: u32) -> bool
+pub fn is_name_at(nodes: &[u32], count: usize, i: u32) -> bool
     requires { ⌜ count * 7 ≤ length (now nodes) ⌝ }
     ensures { λ r. ⌜ ((A : Arena) → A .nodes ≡ rows count (now (nodes .entry)) → r ≡ is-name A i) ⌝ }
 {
@@ -140,7 +136,14 @@ fn list_right_at(references: &[u32], used: usize, count: usize, start: u32, n: u
     }
 }
 
-fn pairs_right_at(nodes: &[u32], references: &[u32], count: usize, used: usize, start: u32, n: u32) -> bool
+fn pairs_right_at(
+    nodes: &[u32],
+    references: &[u32],
+    count: usize,
+    used: usize,
+    start: u32,
+    n: u32,
+) -> bool
     requires { ⌜ (count * 7 ≤ length (now nodes)) × (used ≤ length (now references)) ⌝ }
     ensures { λ r. ⌜ ((A : Arena) → A .nodes ≡ rows count (now (nodes .entry)) → A .references ≡ take used (now (references .entry)) → r ≡ pairs-right A start n) ⌝ }
 {
@@ -152,7 +155,15 @@ fn pairs_right_at(nodes: &[u32], references: &[u32], count: usize, used: usize, 
     }
 }
 
-fn vars_right_at(nodes: &[u32], references: &[u32], count: usize, used: usize, f: u32, start: u32, n: u32) -> bool
+fn vars_right_at(
+    nodes: &[u32],
+    references: &[u32],
+    count: usize,
+    used: usize,
+    f: u32,
+    start: u32,
+    n: u32,
+) -> bool
     requires { ⌜ (count * 7 ≤ length (now nodes)) × (used ≤ length (now references)) ⌝ }
     ensures { λ r. ⌜ ((A : Arena) → A .nodes ≡ rows count (now (nodes .entry)) → A .references ≡ take used (now (references .entry)) → r ≡ vars-right A (vars f start n)) ⌝ }
 {
@@ -164,7 +175,20 @@ fn vars_right_at(nodes: &[u32], references: &[u32], count: usize, used: usize, f
 }
 
 // The ranges, members and names of a row of kind k with words 1 to 6.
-fn row_right_at(nodes: &[u32], references: &[u32], count: usize, used: usize, stored: usize, k: u32, a: u32, b: u32, s: u32, n: u32, c: u32, f: u32) -> bool
+fn row_right_at(
+    nodes: &[u32],
+    references: &[u32],
+    count: usize,
+    used: usize,
+    stored: usize,
+    k: u32,
+    a: u32,
+    b: u32,
+    s: u32,
+    n: u32,
+    c: u32,
+    f: u32,
+) -> bool
     requires { ⌜ (count * 7 ≤ length (now nodes)) × (used ≤ length (now references)) ⌝ }
     ensures { λ r. ⌜ ((A : Arena) → Held A (now (nodes .entry)) (now (references .entry)) count used stored → r ≡ row-right A (row-of k a b s n c f)) ⌝ }
 {
@@ -207,7 +231,14 @@ fn row_right_at(nodes: &[u32], references: &[u32], count: usize, used: usize, st
     }
 }
 
-fn node_right_at(nodes: &[u32], references: &[u32], count: usize, used: usize, stored: usize, i: usize) -> bool
+fn node_right_at(
+    nodes: &[u32],
+    references: &[u32],
+    count: usize,
+    used: usize,
+    stored: usize,
+    i: usize,
+) -> bool
     requires { ⌜ (i < count) × (count * 7 ≤ length (now nodes)) × (used ≤ length (now references)) ⌝ }
     ensures { λ r. ⌜ ((A : Arena) → Held A (now (nodes .entry)) (now (references .entry)) count used stored → r ≡ node-right A (take 7 (drop (i * 7) (now (nodes .entry))))) ⌝ }
 {
@@ -220,14 +251,33 @@ fn node_right_at(nodes: &[u32], references: &[u32], count: usize, used: usize, s
     let c = nodes[at + 5];
     let f = nodes[at + 6];
     if is_row_of(k, a, b, s, n, c, f) {
-        row_right_at(&nodes[..], &references[..], count, used, stored, k, a, b, s, n, c, f)
+        row_right_at(
+            &nodes[..],
+            &references[..],
+            count,
+            used,
+            stored,
+            k,
+            a,
+            b,
+            s,
+            n,
+            c,
+            f,
+        )
     } else {
         false
     }
 }
 
 // The lowest node that breaks a rule.
-fn first_faulty(nodes: &[u32], references: &[u32], count: usize, used: usize, stored: usize) -> Checked
+fn first_faulty(
+    nodes: &[u32],
+    references: &[u32],
+    count: usize,
+    used: usize,
+    stored: usize,
+) -> Checked
     requires { ⌜ (length (now nodes) ≤ 2147483647) × (count * 7 ≤ length (now nodes)) × (used ≤ length (now references)) ⌝ }
     ensures { λ r. ⌜ ((A : Arena) → Held A (now (nodes .entry)) (now (references .entry)) count used stored → checked r ≡ faulty A count 0 (now (nodes .entry))) ⌝ }
 {
@@ -242,7 +292,15 @@ fn first_faulty(nodes: &[u32], references: &[u32], count: usize, used: usize, st
     Checked::Right
 }
 
-fn counts_fit_at(nodes: usize, references: usize, bytes: usize, count: usize, used: usize, stored: usize, root: u32) -> bool
+fn counts_fit_at(
+    nodes: usize,
+    references: usize,
+    bytes: usize,
+    count: usize,
+    used: usize,
+    stored: usize,
+    root: u32,
+) -> bool
     ensures { λ r. ⌜ ((T : Tables) → length (T .nodes) ≡ nodes → length (T .references) ≡ references → length (T .bytes) ≡ bytes → r ≡ counts-fit T (counted count used stored root)) ⌝ }
     ensures { λ r. ⌜ (r ≡ true → Fits nodes references bytes (counted count used stored root)) ⌝ }
 {
@@ -271,7 +329,15 @@ pub fn check(nodes: &[u32], references: &[u32], bytes: &[u8], counts: Counts) ->
     let used = counts.references;
     let stored = counts.bytes;
     let root = counts.root;
-    if counts_fit_at(nodes.len(), references.len(), bytes.len(), count, used, stored, root) {
+    if counts_fit_at(
+        nodes.len(),
+        references.len(),
+        bytes.len(),
+        count,
+        used,
+        stored,
+        root,
+    ) {
         match first_faulty(&nodes[..], &references[..], count, used, stored) {
             Checked::Right => Checked::Right,
             Checked::Wrong(f) => Checked::Wrong(f),

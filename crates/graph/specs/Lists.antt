@@ -176,7 +176,7 @@ below-snoc n l v h b k u e = go (at-snoc-inv l v k u e)
     go (inl a) = b k u a
     go (inr a) = omega arith
 
-below-cons : (n v : ℕ) (l : List ℕ) → v < n → Below n l → Below n (v ∷ l)
+pub below-cons : (n v : ℕ) (l : List ℕ) → v < n → Below n l → Below n (v ∷ l)
 below-cons n v l h b zero u e = let z : v ≡ u = cc in omega arith
 below-cons n v l h b (suc k) u e = b k u e
 

@@ -46,16 +46,16 @@ returns : tie.Need-returns
 returns c =
     let a = c .before .before .before .before .before .before .before .args in
     λ A e g.
-      let l : length (A .nodes) ≡ a .count = ap length e ∙ length-rows (a .count) (a .nodes .now) in
-      c .all-names-at .ensures A e ∙ pairs-in A (a .references .now) (a .used) (a .count) g l (c .before .before .before .before .before .before .before .pre .1) (a .start) (a .n) _ _ (c .before .size2 .ensures) (c .before .before .before .before .size .ensures) (sym (c .before .before .if1 .taken) ∙ c .before .before .before .list-right-at .ensures .0 A g l) (c .before .before .before .list-right-at .ensures .1 (c .before .before .if1 .taken))
+    let l : length (A .nodes) ≡ a .count = ap length e ∙ length-rows (a .count) (a .nodes .now) in
+    c .all-names-at .ensures A e ∙ pairs-in A (a .references .now) (a .used) (a .count) g l (c .before .before .before .before .before .before .before .pre .1) (a .start) (a .n) _ _ (c .before .size2 .ensures) (c .before .before .before .before .size .ensures) (sym (c .before .before .if1 .taken) ∙ c .before .before .before .list-right-at .ensures .0 A g l) (c .before .before .before .list-right-at .ensures .1 (c .before .before .if1 .taken))
 
 -- src/lib.rt:143:1
 returns-2 : tie.Need-returns-2
 returns-2 c =
     let a = c .before .before .before .before .before .args in
     λ A e g.
-      let l : length (A .nodes) ≡ a .count = ap length e ∙ length-rows (a .count) (a .nodes .now) in
-      pairs-out A (a .start) (a .n) _ (c .before .before .size .ensures) (sym (c .if1 .left) ∙ c .before .list-right-at .ensures .0 A g l)
+    let l : length (A .nodes) ≡ a .count = ap length e ∙ length-rows (a .count) (a .nodes .now) in
+    pairs-out A (a .start) (a .n) _ (c .before .before .size .ensures) (sym (c .if1 .left) ∙ c .before .list-right-at .ensures .0 A g l)
 
 pub pairs-right-at-spec : {M : Type 1} → statement M
 pairs-right-at-spec =

@@ -90,26 +90,26 @@ returns-2 : tie.Need-returns-2
 returns-2 c =
     let a = c .before .before .before .before .before .args in
     λ A H.
-      let l : length (A .nodes) ≡ a .count = ap length (H .nodes-same) ∙ length-rows (a .count) (a .nodes .now) in
-      c .list-right-at .ensures .0 A (H .references-same) l ∙ ap (λ (k : ℕ). list-right A (a .s) k) (c .before .size .ensures) ∙ right-4 A (a .a) (a .b) (a .s) (a .n) (a .c) (a .f) (a .k) (c .before .before .match .keys2)
+    let l : length (A .nodes) ≡ a .count = ap length (H .nodes-same) ∙ length-rows (a .count) (a .nodes .now) in
+    c .list-right-at .ensures .0 A (H .references-same) l ∙ ap (λ (k : ℕ). list-right A (a .s) k) (c .before .size .ensures) ∙ right-4 A (a .a) (a .b) (a .s) (a .n) (a .c) (a .f) (a .k) (c .before .before .match .keys2)
 
 -- src/lib.rt:167:1
 returns-3 : tie.Need-returns-3
 returns-3 c =
     let a = c .before .before .before .before .before .before .before .args in
     λ A H.
-      let l : length (A .nodes) ≡ a .count = ap length (H .nodes-same) ∙ length-rows (a .count) (a .nodes .now) in
-      let t : true ≡ list-right A (a .s) (a .n * 2) = sym (c .before .if1 .taken) ∙ c .before .before .list-right-at2 .ensures .0 A (H .references-same) l ∙ ap (λ (k : ℕ). list-right A (a .s) (k * 2)) (c .before .before .before .size2 .ensures) in
-      (λ i. leb (c .size3 .ensures i) (sym l i)) ∙ and-in (list-right A (a .s) (a .n * 2)) (leb (a .f) (length (A .nodes))) t ∙ right-5 A (a .a) (a .b) (a .s) (a .n) (a .c) (a .f) (a .k) (c .before .before .before .before .match .keys3)
+    let l : length (A .nodes) ≡ a .count = ap length (H .nodes-same) ∙ length-rows (a .count) (a .nodes .now) in
+    let t : true ≡ list-right A (a .s) (a .n * 2) = sym (c .before .if1 .taken) ∙ c .before .before .list-right-at2 .ensures .0 A (H .references-same) l ∙ ap (λ (k : ℕ). list-right A (a .s) (k * 2)) (c .before .before .before .size2 .ensures) in
+    (λ i. leb (c .size3 .ensures i) (sym l i)) ∙ and-in (list-right A (a .s) (a .n * 2)) (leb (a .f) (length (A .nodes))) t ∙ right-5 A (a .a) (a .b) (a .s) (a .n) (a .c) (a .f) (a .k) (c .before .before .before .before .match .keys3)
 
 -- src/lib.rt:167:1
 returns-4 : tie.Need-returns-4
 returns-4 c =
     let a = c .before .before .before .before .before .before .args in
     λ A H.
-      let l : length (A .nodes) ≡ a .count = ap length (H .nodes-same) ∙ length-rows (a .count) (a .nodes .now) in
-      let t : false ≡ list-right A (a .s) (a .n * 2) = sym (c .if1 .left) ∙ c .before .list-right-at2 .ensures .0 A (H .references-same) l ∙ ap (λ (k : ℕ). list-right A (a .s) (k * 2)) (c .before .before .size2 .ensures) in
-      and-out (list-right A (a .s) (a .n * 2)) (leb (a .f) (length (A .nodes))) t ∙ right-5 A (a .a) (a .b) (a .s) (a .n) (a .c) (a .f) (a .k) (c .before .before .before .match .keys3)
+    let l : length (A .nodes) ≡ a .count = ap length (H .nodes-same) ∙ length-rows (a .count) (a .nodes .now) in
+    let t : false ≡ list-right A (a .s) (a .n * 2) = sym (c .if1 .left) ∙ c .before .list-right-at2 .ensures .0 A (H .references-same) l ∙ ap (λ (k : ℕ). list-right A (a .s) (k * 2)) (c .before .before .size2 .ensures) in
+    and-out (list-right A (a .s) (a .n * 2)) (leb (a .f) (length (A .nodes))) t ∙ right-5 A (a .a) (a .b) (a .s) (a .n) (a .c) (a .f) (a .k) (c .before .before .before .match .keys3)
 
 -- src/lib.rt:167:1
 returns-5 : tie.Need-returns-5
@@ -140,26 +140,26 @@ returns-9 : tie.Need-returns-9
 returns-9 c =
     let a = c .before .before .before .before .before .before .before .before .args in
     λ A H.
-      let p : true ≡ bytes-right A (a .a) (a .b) = sym (c .before .before .before .if4 .taken) ∙ c .before .before .before .before .bytes-right-at3 .ensures A (H .bytes-same) in
-      let q : true ≡ is-name A (a .c) = sym (c .before .if5 .taken) ∙ c .before .before .is-name-at2 .ensures A (H .nodes-same) in
-      c .vars-right-at2 .ensures A (H .nodes-same) (H .references-same) ∙ and-in (bytes-right A (a .a) (a .b) && is-name A (a .c)) (vars-right A (vars (a .f) (a .s) (a .n))) (q ∙ and-in (bytes-right A (a .a) (a .b)) (is-name A (a .c)) p) ∙ right-8 A (a .a) (a .b) (a .s) (a .n) (a .c) (a .f) (a .k) (c .before .before .before .before .before .match .keys6)
+    let p : true ≡ bytes-right A (a .a) (a .b) = sym (c .before .before .before .if4 .taken) ∙ c .before .before .before .before .bytes-right-at3 .ensures A (H .bytes-same) in
+    let q : true ≡ is-name A (a .c) = sym (c .before .if5 .taken) ∙ c .before .before .is-name-at2 .ensures A (H .nodes-same) in
+    c .vars-right-at2 .ensures A (H .nodes-same) (H .references-same) ∙ and-in (bytes-right A (a .a) (a .b) && is-name A (a .c)) (vars-right A (vars (a .f) (a .s) (a .n))) (q ∙ and-in (bytes-right A (a .a) (a .b)) (is-name A (a .c)) p) ∙ right-8 A (a .a) (a .b) (a .s) (a .n) (a .c) (a .f) (a .k) (c .before .before .before .before .before .match .keys6)
 
 -- src/lib.rt:167:1
 returns-10 : tie.Need-returns-10
 returns-10 c =
     let a = c .before .before .before .before .before .before .before .args in
     λ A H.
-      let p : true ≡ bytes-right A (a .a) (a .b) = sym (c .before .before .if4 .taken) ∙ c .before .before .before .bytes-right-at3 .ensures A (H .bytes-same) in
-      let q : false ≡ is-name A (a .c) = sym (c .if5 .left) ∙ c .before .is-name-at2 .ensures A (H .nodes-same) in
-      and-out (bytes-right A (a .a) (a .b) && is-name A (a .c)) (vars-right A (vars (a .f) (a .s) (a .n))) (q ∙ and-in (bytes-right A (a .a) (a .b)) (is-name A (a .c)) p) ∙ right-8 A (a .a) (a .b) (a .s) (a .n) (a .c) (a .f) (a .k) (c .before .before .before .before .match .keys6)
+    let p : true ≡ bytes-right A (a .a) (a .b) = sym (c .before .before .if4 .taken) ∙ c .before .before .before .bytes-right-at3 .ensures A (H .bytes-same) in
+    let q : false ≡ is-name A (a .c) = sym (c .if5 .left) ∙ c .before .is-name-at2 .ensures A (H .nodes-same) in
+    and-out (bytes-right A (a .a) (a .b) && is-name A (a .c)) (vars-right A (vars (a .f) (a .s) (a .n))) (q ∙ and-in (bytes-right A (a .a) (a .b)) (is-name A (a .c)) p) ∙ right-8 A (a .a) (a .b) (a .s) (a .n) (a .c) (a .f) (a .k) (c .before .before .before .before .match .keys6)
 
 -- src/lib.rt:167:1
 returns-11 : tie.Need-returns-11
 returns-11 c =
     let a = c .before .before .before .before .before .args in
     λ A H.
-      let p : false ≡ bytes-right A (a .a) (a .b) = sym (c .if4 .left) ∙ c .before .bytes-right-at3 .ensures A (H .bytes-same) in
-      and-out (bytes-right A (a .a) (a .b) && is-name A (a .c)) (vars-right A (vars (a .f) (a .s) (a .n))) (and-out (bytes-right A (a .a) (a .b)) (is-name A (a .c)) p) ∙ right-8 A (a .a) (a .b) (a .s) (a .n) (a .c) (a .f) (a .k) (c .before .before .match .keys6)
+    let p : false ≡ bytes-right A (a .a) (a .b) = sym (c .if4 .left) ∙ c .before .bytes-right-at3 .ensures A (H .bytes-same) in
+    and-out (bytes-right A (a .a) (a .b) && is-name A (a .c)) (vars-right A (vars (a .f) (a .s) (a .n))) (and-out (bytes-right A (a .a) (a .b)) (is-name A (a .c)) p) ∙ right-8 A (a .a) (a .b) (a .s) (a .n) (a .c) (a .f) (a .k) (c .before .before .match .keys6)
 
 -- src/lib.rt:167:1
 returns-12 : tie.Need-returns-12

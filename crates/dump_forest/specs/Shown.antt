@@ -1,0 +1,50 @@
+-- A row by the node that is seen of it.
+use Prim.Native.Nat.{ℕ, zero, suc, _*_}
+use mathlib.Core.Path.{_≡_, refl, subst}
+use mathlib.Core.Bool.{true, false}
+use mathlib.Core.List.{List, [], _∷_, _++_}
+use Rattle.definition.specs.Node.{Row, nil, bool, fixnum, symbol, array, hash, object, string, user, absent, present}
+use Rattle.definition.specs.Arena.{Arena, node, range, name-of}
+use Rattle.definition.specs.Graph.{header-of, header, links, vars-links, vars-count, vars-present, default-link, default-present}
+use Rattle.graph.specs.Lists.{At}
+use Rattle.graph.specs.Forest.{Node, leaf, sym, box}
+use Rattle.graph.specs.View.{see, seen}
+use Rattle.dump_forest.specs.Right.{at-see}
+
+pub data Shown (A : Arena) : Row → Node → Type 0 where
+  nil-shown : Shown A nil (leaf 0 0)
+  false-shown : Shown A (bool false) (leaf 1 0)
+  true-shown : Shown A (bool true) (leaf 1 1)
+  fixnum-shown : {w : ℕ} → Shown A (fixnum w) (leaf 2 w)
+  symbol-shown : {s l : ℕ} → Shown A (symbol s l) (sym (range (A .bytes) s l))
+  array-shown : {s n : ℕ} → Shown A (array s n) (box (header-of 4 0 [] n false) (range (A .references) s n))
+  hash-shown : {s n : ℕ} → Shown A (hash s n 0) (box (header-of 5 0 [] n false) (range (A .references) s (n * 2) ++ []))
+  default-shown : {s n d : ℕ} → Shown A (hash s n (suc d)) (box (header-of 5 0 [] n true) (range (A .references) s (n * 2) ++ (d ∷ [])))
+  object-shown : {s n c : ℕ} → Shown A (object s n c) (box (header-of 6 0 [] n false) (c ∷ range (A .references) s (n * 2)))
+  string-shown : {s l : ℕ} → Shown A (string s l absent) (box (header-of 7 0 (range (A .bytes) s l) 0 false) [])
+  string-vars-shown : {s l p n : ℕ} → Shown A (string s l (present p n)) (box (header-of 7 0 (range (A .bytes) s l) n true) (range (A .references) p (n * 2)))
+  user-shown : {s l c : ℕ} → Shown A (user s l c absent) (box (header-of 8 0 (range (A .bytes) s l) 0 false) (c ∷ []))
+  user-vars-shown : {s l c p n : ℕ} → Shown A (user s l c (present p n)) (box (header-of 8 0 (range (A .bytes) s l) n true) (c ∷ range (A .references) p (n * 2)))
+
+pub shown : (A : Arena) (r : Row) → Shown A r (see A r)
+unfolding see header links vars-links vars-count vars-present default-link default-present
+shown A nil = nil-shown
+shown A (bool false) = false-shown
+shown A (bool true) = true-shown
+shown A (fixnum w) = fixnum-shown
+shown A (symbol s l) = symbol-shown
+shown A (array s n) = array-shown
+shown A (hash s n zero) = hash-shown
+shown A (hash s n (suc d)) = default-shown
+shown A (object s n c) = object-shown
+shown A (string s l absent) = string-shown
+shown A (string s l (present p n)) = string-vars-shown
+shown A (user s l c absent) = user-shown
+shown A (user s l c (present p n)) = user-vars-shown
+
+pub shown-at : (A : Arena) (v : ℕ) (n : Node) → At (seen A) v n → Shown A (node A v) n
+shown-at A v n a = subst (Shown A (node A v)) (at-see A v n a .0) (shown A (node A v))
+
+pub name-shown : (A : Arena) (r : Row) (b : List ℕ) → Shown A r (sym b) → name-of (A .bytes) r ≡ b
+unfolding name-of
+name-shown A r b symbol-shown = refl

@@ -1,0 +1,2 @@
+-- Laws of stores, for the proofs here and above.
+pub mod Laws
