@@ -436,20 +436,20 @@ im-snoc P σ s x n h i b e = go (at-snoc-inv (s .nodes) x i (sym b) e)
     go (inl a) = h .im i b a
     go (inr a) = absurd (n b (psym (a .1)))
 
-inv-push : (P : List Node) (σ : Num) (s : St) (x : Node) → ((b : List ℕ) → x ≡ sym b → ⊥) → Inv P σ s → Inv P σ (push x s)
+pub inv-push : (P : List Node) (σ : Num) (s : St) (x : Node) → ((b : List ℕ) → x ≡ sym b → ⊥) → Inv P σ s → Inv P σ (push x s)
 inv-push P σ s x n h = record { io = h .io; iy = h .iy; im = im-snoc P σ s x n h }
 
-inv-pushO : (P : List Node) (σ : Num) (s : St) (v : ℕ) (x : Node) → ((b : List ℕ) → x ≡ sym b → ⊥) → Inv P σ s → Inv P (addO v σ) (pushO x s)
+pub inv-pushO : (P : List Node) (σ : Num) (s : St) (v : ℕ) (x : Node) → ((b : List ℕ) → x ≡ sym b → ⊥) → Inv P σ s → Inv P (addO v σ) (pushO x s)
 inv-pushO P σ s v x n h = record { io = simp len-snoc (omega (arith, h .io)); iy = h .iy; im = im-snoc P σ s x n h }
 
-inv-put : (P : List Node) (σ : Num) (s : St) (k : ℕ) (hd : Header) (ms : List ℕ) → Inv P σ s → Inv P σ (put k (box hd ms) s)
+pub inv-put : (P : List Node) (σ : Num) (s : St) (k : ℕ) (hd : Header) (ms : List ℕ) → Inv P σ s → Inv P σ (put k (box hd ms) s)
 inv-put P σ s k hd ms h = record { io = h .io; iy = h .iy; im = λ i b e. go i b (at-set-inv (s .nodes) k i (box hd ms) (sym b) e) }
   where
     go : (i : ℕ) (b : List ℕ) → ((i ≡ k) × (sym b ≡ box hd ms)) ⊎ ((i ≢ k) × At (s .nodes) i (sym b)) → (k : ℕ) × (u : ℕ) × At (σ .syms) k u × At P u (sym b)
     go i b (inl a) = apart (cc (a .1))
     go i b (inr a) = h .im i b (a .1)
 
-inv-sym : (P : List Node) (σ : Num) (s : St) (v : ℕ) (b : List ℕ) → At P v (sym b) → Inv P σ s → Inv P (addS v σ) (addSym (length (s .nodes)) (push (sym b) s))
+pub inv-sym : (P : List Node) (σ : Num) (s : St) (v : ℕ) (b : List ℕ) → At P v (sym b) → Inv P σ s → Inv P (addS v σ) (addSym (length (s .nodes)) (push (sym b) s))
 inv-sym P σ s v b a h = record {
   io = h .io;
   iy = simp len-snoc (omega (arith, h .iy));
@@ -465,7 +465,7 @@ module _ (P : List Node) (nm : Names P) (ph : Header → List ℕ → Node) (pho
   abbrev Made : F → Num → St → Type 0
   Made f σ′ s = (vs : List ℕ) × (s′ : St) × B ⊥ f s vs s′ × Inv P σ′ s′
 
-  new-name : (σ : Num) (s : St) (v : ℕ) (b : List ℕ) → Inv P σ s → At P v (sym b) → NotIn v (σ .syms) → NotIn (sym b) (s .nodes)
+  pub new-name : (σ : Num) (s : St) (v : ℕ) (b : List ℕ) → Inv P σ s → At P v (sym b) → NotIn v (σ .syms) → NotIn (sym b) (s .nodes)
   new-name σ s v b h a n i e =
       let (k, u, p, q) = h .im i b e in
       let z : u ≡ v = nm u v b q a in

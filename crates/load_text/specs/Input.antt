@@ -1,0 +1,100 @@
+-- What stands ahead in the input, and what the readers of bytes, integers and byte strings make of it.
+use Prim.Native.Nat.{ℕ, zero, suc, _+_, _-_, _≤_, _<_}
+use mathlib.Core.Path.{_≡_, refl, ap, subst}
+use mathlib.Core.Path.{sym as psym, _∙_}
+use mathlib.Core.List.{List, [], _∷_, _++_, append-assoc}
+use lib.ListN.{length, getD, take, drop, length-append, length-drop}
+use native.Mathlib.Omega.{arith}
+use Rattle.definition.specs.Run.{ok, pure, pick}
+use Rattle.definition.specs.Integer.{value, form, integer-bytes}
+use Rattle.definition.specs.Arena.{range}
+use Rattle.definition.specs.Dump.{byte-string-bytes}
+use Rattle.definition.specs.Load.{State, at-set, read-byte, read-bytes, read-form, read-integer, read-count, read-byte-string}
+use Rattle.load_text.specs.Tests.{leb-yes, step}
+use Rattle.load_text.specs.Codec.{Codes, short, long, codes}
+
+-- from offset n on the input is x
+pub record Ahead (input : List ℕ) (n : ℕ) (x : List ℕ) : Type 0 where
+  pub rest : drop n input ≡ x
+  pub size : length input ≡ n + length x
+
+-- the offset is inside, and the rest is x
+pub ahead-of : (input : List ℕ) (n : ℕ) (x : List ℕ) → drop n input ≡ x → n ≤ length input → Ahead input n x
+ahead-of input n x e h = record { rest = e; size = omega (arith, psym (ap length e) ∙ length-drop n input) }
+
+take-all : {A : Type 0} (l m : List A) → take (length l) (l ++ m) ≡ l
+take-all [] m = refl
+take-all (x ∷ l) m = ap (λ (t : List _). x ∷ t) (take-all l m)
+
+drop-all : {A : Type 0} (l m : List A) → drop (length l) (l ++ m) ≡ m
+drop-all [] m = refl
+drop-all (x ∷ l) m = drop-all l m
+
+drop-drop : {A : Type 0} (n k : ℕ) (l : List A) → drop k (drop n l) ≡ drop (n + k) l
+drop-drop zero k l = let z : k ≡ zero + k = omega arith in ap (λ (t : ℕ). drop t l) z
+drop-drop (suc n) zero [] = let z : suc n + 0 ≡ suc n = omega arith in rw z refl
+drop-drop (suc n) (suc k) [] = let z : suc n + suc k ≡ suc (n + suc k) = omega arith in rw z refl
+drop-drop (suc n) k (x ∷ l) = let z : suc n + k ≡ suc (n + k) = omega arith in rw z (drop-drop n k l)
+
+getD-drop : (n : ℕ) (l x : List ℕ) (b : ℕ) → drop n l ≡ b ∷ x → getD l n 0 ≡ b
+getD-drop zero [] x b e = let z : _≡_ {A = ℕ} 0 1 = cc in absurd (omega arith)
+getD-drop (suc n) [] x b e = let z : _≡_ {A = ℕ} 0 1 = cc in absurd (omega arith)
+getD-drop zero (y ∷ l) x b e = cc
+getD-drop (suc n) (y ∷ l) x b e = getD-drop n l x b e
+
+pub ahead-past : {input : List ℕ} {n : ℕ} (bs x : List ℕ) → Ahead input n (bs ++ x) → Ahead input (n + length bs) x
+ahead-past {input = input} {n = n} bs x a = record {
+  rest = psym (drop-drop n (length bs) input) ∙ ap (drop (length bs)) (a .rest) ∙ drop-all bs x;
+  size = omega (arith, a .size, length-append bs x);
+}
+
+-- the same bytes, parted otherwise
+pub ahead-as : {input : List ℕ} {n : ℕ} (x y : List ℕ) → x ≡ y → Ahead input n x → Ahead input n y
+ahead-as {input = input} {n = n} x y e a = subst (Ahead input n) e a
+
+pub read-byte-ahead : (input : List ℕ) (s : State) (b : ℕ) (x : List ℕ) → Ahead input (s .at) (b ∷ x) → read-byte input s ≡ ok b (at-set (s .at + 1) s)
+unfolding read-byte pick
+read-byte-ahead input s b x a = rw (leb-yes (suc (s .at)) (length input) (omega (arith, a .size)), getD-drop (s .at) input x b (a .rest))
+
+pub read-bytes-ahead : (input : List ℕ) (s : State) (bs x : List ℕ) → Ahead input (s .at) (bs ++ x) → read-bytes input (length bs) s ≡ ok bs (at-set (s .at + length bs) s)
+unfolding read-bytes range pick
+read-bytes-ahead input s bs x a =
+    rw (leb-yes (length bs) (length input - s .at) (omega (arith, a .size, length-append bs x)), a .rest, take-all bs x)
+
+-- ---- integers
+
+read-coded : (input : List ℕ) (s : State) (w : ℕ) (bs x : List ℕ) → Codes w bs → Ahead input (s .at) (bs ++ x) → read-integer input s ≡ ok w (at-set (s .at + length bs) s)
+unfolding read-integer read-form pure
+read-coded input s w _ x (short b f) a = step _ _ s b _ (read-byte-ahead input s b x a) ∙ go f
+  where
+    go : form b ≡ value w → read-form input (form b) (at-set (s .at + 1) s) ≡ ok w (at-set (s .at + 1) s)
+    go e = rw e
+read-coded input s w _ x (long b n hi bs f l e) a =
+    step _ _ s b _ (read-byte-ahead input s b (bs ++ x) a) ∙ go (ahead-past (b ∷ []) (bs ++ x) a)
+  where
+    go : Ahead input (s .at + 1) (bs ++ x) → read-form input (form b) (at-set (s .at + 1) s) ≡ ok w (at-set (s .at + length (b ∷ bs)) s)
+    go h =
+        let z : s .at + 1 + length bs ≡ s .at + suc (length bs) = omega arith in
+        rw (f, ← l) (step _ _ _ bs _ (read-bytes-ahead input (at-set (s .at + 1) s) bs x h) ∙ rw (e, z))
+
+pub read-integer-ahead : (input : List ℕ) (s : State) (w : ℕ) (x : List ℕ) → w < 4294967296 → Ahead input (s .at) (integer-bytes w ++ x)
+    → read-integer input s ≡ ok w (at-set (s .at + length (integer-bytes w)) s)
+read-integer-ahead input s w x h a = read-coded input s w (integer-bytes w) x (codes w h) a
+
+pub read-count-ahead : (input : List ℕ) (s : State) (w : ℕ) (x : List ℕ) → w < 2147483648 → Ahead input (s .at) (integer-bytes w ++ x)
+    → read-count input s ≡ ok w (at-set (s .at + length (integer-bytes w)) s)
+unfolding read-count pick pure
+read-count-ahead input s w x h a = step _ _ s w _ (read-integer-ahead input s w x (omega arith) a) ∙ rw (leb-yes (suc w) 2147483648 h)
+
+-- ---- byte strings
+
+pub read-byte-string-ahead : (input : List ℕ) (s : State) (b x : List ℕ) → length b < 2147483648 → Ahead input (s .at) (byte-string-bytes b ++ x)
+    → read-byte-string input s ≡ ok b (at-set (s .at + length (byte-string-bytes b)) s)
+unfolding read-byte-string byte-string-bytes
+read-byte-string-ahead input s b x h a =
+    let n = length (integer-bytes (length b)) in
+    let a₁ : Ahead input (s .at) (integer-bytes (length b) ++ (b ++ x)) = ahead-as _ _ (append-assoc (integer-bytes (length b)) b x) a in
+    let a₂ = ahead-past (integer-bytes (length b)) (b ++ x) a₁ in
+    let z : s .at + n + length b ≡ s .at + length (integer-bytes (length b) ++ b) = omega (arith, length-append (integer-bytes (length b)) b) in
+    step _ _ s (length b) _ (read-count-ahead input s (length b) (b ++ x) h a₁)
+    ∙ read-bytes-ahead input (at-set (s .at + n) s) b x a₂ ∙ rw z
