@@ -1,0 +1,185 @@
+-- From an input of bytes: fixnums are words of 32 bits, and the arena's bytes are bytes.
+use Prim.Native.Nat.{ℕ, zero, suc, _+_, _-_, _*_, _^_, _≤_, _<_}
+use mathlib.Core.Path.{_≡_, refl, ap}
+use mathlib.Core.Path.{sym as psym, _∙_}
+use mathlib.Core.Bool.{Bool, true, false}
+use mathlib.Core.Logic.{_⊎_, inl, inr, _≢_}
+use mathlib.Core.List.{List, [], _∷_, _++_}
+use lib.Dec.{leb, eqb, nleb→lt}
+use lib.ListN.{length, getD, drop, length-drop}
+use lib.Seq.{length-take-le}
+use native.Mathlib.Omega.{arith}
+use native.Mathlib.Nat.{mod-lt, pow-suc, mul-assoc}
+use native.Mathlib.Bridge.{le-by-compare, IsLe}
+use Rattle.definition.specs.Run.{ok, pick, pure, _>>=_}
+use Rattle.definition.specs.Integer.{Form, value as form-value, data-bytes, form, little}
+use Rattle.definition.specs.Node.{Row, nil, fixnum, symbol}
+use Rattle.definition.specs.Arena.{range}
+use Rattle.definition.specs.Load as L
+use Rattle.definition.specs.Load.{State, Room, at-set, begin, load}
+use Rattle.graph.specs.Lists.{At, at-snoc-inv, at-set-inv, apart}
+use Rattle.load_forest.specs.Views.{with-node, with-symbol, with-object-node, with-bytes, with-word, with-row, range-at, list-length}
+use Rattle.load_forest.specs.Trace.{Mode, Part, Plain, plain-nil, plain-bool, plain-fixnum, Listed, is-array, is-hash, Varied, varied-string, varied-user, with-room, Trace, reading, reading-after, plain, known, new, symbol-link, object-link, list, hash-default, object-pairs, string-bytes, user-bytes, variables, no-elements, element, no-pairs, pair}
+use Rattle.load_forest.specs.Readers.{load-traced, read-byte-then, read-bytes-then, at-getD, most-of}
+
+-- every entry is a byte
+abbrev pub AreBytes : List ℕ → Type 0
+AreBytes l = (k v : ℕ) → At l k v → v < 256
+
+pub part-bytes : (input b : List ℕ) → AreBytes input → Part input b → AreBytes b
+part-bytes input b h (i, n, e) k v a = h (i + k) v (range-at input n i k v (rw e at a))
+
+bytes-app : (l m : List ℕ) → AreBytes l → AreBytes m → AreBytes (l ++ m)
+bytes-app [] m h g k v a = g k v a
+bytes-app (x ∷ l) m h g zero v a = h 0 v a
+bytes-app (x ∷ l) m h g (suc k) v a = bytes-app l m (λ j u b. h (suc j) u b) g k v a
+
+-- ---- the integer
+
+-- n bytes over the bits above stay below (above + 1) · 256ⁿ
+little-below : (bs : List ℕ) (above : ℕ) → AreBytes bs → little bs above < (above + 1) * 256 ^ length bs
+unfolding little
+little-below [] above h = omega arith
+little-below (b ∷ bs) above h =
+    let ih = little-below bs above (λ k v a. h (suc k) v a) in
+    let z : (above + 1) * 256 ^ suc (length bs) ≡ (above + 1) * 256 ^ length bs * 256 = ap (λ (n : ℕ). (above + 1) * n) (pow-suc 256 (length bs)) ∙ psym (mul-assoc (above + 1) (256 ^ length bs) 256) in
+    rw z (omega (arith, ih, h 0 b refl))
+
+-- a form whose value has 32 bits
+Fits : Form → Type 0
+Fits (form-value w) = w < 4294967296
+Fits (data-bytes n above) = (above + 1) * 256 ^ n ≤ 4294967296
+
+few-fit : (b : ℕ) → b ≤ 4 → (0 + 1) * 256 ^ b ≤ 4294967296
+unfolding IsLe
+few-fit zero h = le-by-compare _ _ tt
+few-fit (suc zero) h = le-by-compare _ _ tt
+few-fit (suc (suc zero)) h = le-by-compare _ _ tt
+few-fit (suc (suc (suc zero))) h = le-by-compare _ _ tt
+few-fit (suc (suc (suc (suc zero)))) h = le-by-compare _ _ tt
+few-fit (suc (suc (suc (suc (suc b))))) h = absurd (omega arith)
+
+-- 256 − n to 255, for 1 to 4 bytes over ones
+ones-fit : (j b : ℕ) → b ≡ 252 + j → j ≤ 3 → (256 ^ (b - 252) - 1 + 1) * 256 ^ (256 - b) ≤ 4294967296
+unfolding IsLe
+ones-fit zero b e h = rw e (le-by-compare _ _ tt)
+ones-fit (suc zero) b e h = rw e (le-by-compare _ _ tt)
+ones-fit (suc (suc zero)) b e h = rw e (le-by-compare _ _ tt)
+ones-fit (suc (suc (suc zero))) b e h = rw e (le-by-compare _ _ tt)
+ones-fit (suc (suc (suc (suc j)))) b e h = absurd (omega arith)
+
+choose : (x : Bool) (f g : Form) → (x ≡ true → Fits f) → (x ≡ false → Fits g) → Fits (pick x f g)
+unfolding pick
+choose true f g h k = h refl
+choose false f g h k = k refl
+
+more : (n m : ℕ) → leb n m ≡ false → m < n
+more n m e = nleb→lt n m (rw e tt)
+
+form-fits : (b : ℕ) → b < 256 → Fits (form b)
+unfolding form Fits
+form-fits b h =
+    choose (eqb b 0) _ _ (λ e. omega arith)
+    (λ e₀. choose (leb b 4) _ _ (λ e. few-fit b (most-of b 4 e))
+    (λ e₁. choose (leb b 127) _ _ (λ e. omega arith)
+    (λ e₂. choose (leb b 251) _ _ (λ e. mod-lt (2 ^ 32 + b - 251) (omega arith))
+    (λ e₃. let l = more b 251 e₃ in ones-fit (b - 252) b (omega arith) (omega arith)))))
+
+pub length-range : (l : List ℕ) (a n : ℕ) → n ≤ length l - a → length (range l a n) ≡ n
+unfolding range
+length-range l a n h = length-take-le n (drop a l) (rw (length-drop a l) h)
+
+form-below : (input : List ℕ) → AreBytes input → (f : Form) → Fits f → (s t : State) (w : ℕ) → L.read-form input f s ≡ ok w t → w < 4294967296
+unfolding L.read-form _>>=_ pure Fits
+form-below input h (form-value x) g s t w e = let z : x ≡ w = cc in omega arith
+form-below input h (data-bytes n above) g s t w e =
+    read-bytes-then input n s _ w t e λ l e₁.
+    let bs = range input (s .at) n in
+    let z : little bs above ≡ w = cc in
+    let q : little bs above < (above + 1) * 256 ^ n = rw (length-range input (s .at) n l) at (little-below bs above (part-bytes input bs h (s .at, n, refl))) in
+    omega arith
+
+pub integer-below : (input : List ℕ) → AreBytes input → (s t : State) (w : ℕ) → L.read-integer input s ≡ ok w t → w < 4294967296
+unfolding L.read-integer _>>=_
+integer-below input h s t w e =
+    read-byte-then input s _ w t e λ l e₁.
+    form-below input h (form (getD input (s .at) 0)) (form-fits _ (h (s .at) (getD input (s .at) 0) (at-getD input (s .at) l))) (at-set (s .at + 1) s) t w e₁
+
+-- ---- the arena
+
+pub record Small (s : State) : Type 0 where
+  pub fixnums : (i w : ℕ) → At (s .nodes) i (fixnum w) → w < 4294967296
+  pub bytes : AreBytes (s .bytes)
+
+small-same : (s t : State) → t .nodes ≡ s .nodes → t .bytes ≡ s .bytes → Small s → Small t
+small-same s t n b x = record { fixnums = λ i w a. x .fixnums i w (rw n at a); bytes = λ k v a. x .bytes k v (rw b at a) }
+
+small-bytes : (b : List ℕ) (s : State) → AreBytes b → Small s → Small (with-bytes b s)
+small-bytes b s h x = record { fixnums = x .fixnums; bytes = bytes-app (s .bytes) b (x .bytes) h }
+
+small-node : (r : Row) (s : State) → ((w : ℕ) → r ≡ fixnum w → w < 4294967296) → Small s → Small (with-node r s)
+small-node r s h x = record { fixnums = λ i w a. go i w (at-snoc-inv (s .nodes) r i (fixnum w) a); bytes = x .bytes }
+  where
+    go : (i w : ℕ) → At (s .nodes) i (fixnum w) ⊎ ((i ≡ length (s .nodes)) × (fixnum w ≡ r)) → w < 4294967296
+    go i w (inl a) = x .fixnums i w a
+    go i w (inr a) = h w (psym (a .1))
+
+small-row : (i : ℕ) (r : Row) (s : State) → ((w : ℕ) → r ≡ fixnum w → ⊥) → Small s → Small (with-row i r s)
+small-row i r s h x = record { fixnums = λ k w a. go k w (at-set-inv (s .nodes) i k r (fixnum w) a); bytes = x .bytes }
+  where
+    go : (k w : ℕ) → ((k ≡ i) × (fixnum w ≡ r)) ⊎ ((k ≢ i) × At (s .nodes) k (fixnum w)) → w < 4294967296
+    go k w (inl a) = absurd (h w (psym (a .1)))
+    go k w (inr a) = x .fixnums k w (a .1)
+
+plain-small : {input : List ℕ} → AreBytes input → (r : Row) → Plain input r → (w : ℕ) → r ≡ fixnum w → w < 4294967296
+plain-small h r plain-nil w e = apart (cc)
+plain-small h r (plain-bool b) w e = apart (cc)
+plain-small {input = input} h r (plain-fixnum v s t x) w e = let z : v ≡ w = cc in rw (← z) (integer-below input h s t v x)
+
+listed-no-fixnum : {p : ℕ} (r : Row) → Listed p r → (w : ℕ) → r ≡ fixnum w → ⊥
+listed-no-fixnum r (is-array n) w e = apart (cc)
+listed-no-fixnum r (is-hash n) w e = apart (cc)
+
+varied-no-fixnum : {p n : ℕ} (r r′ : Row) → Varied p n r r′ → (w : ℕ) → r′ ≡ fixnum w → ⊥
+varied-no-fixnum r r′ varied-string w e = apart (cc)
+varied-no-fixnum r r′ varied-user w e = apart (cc)
+
+small-opened : (r : Row) (s : State) → ((w : ℕ) → r ≡ fixnum w → ⊥) → Small s → Small (with-object-node r s)
+small-opened r s h x = small-same (with-node r s) (with-object-node r s) refl refl (small-node r s (λ w e. absurd (h w e)) x)
+
+small : {input : List ℕ} {room : Room} {m : Mode} {s t : State} {vs : List ℕ} → Trace input room m s vs t → AreBytes input → Small s → Small t
+small {s = s} (reading k a b x) h y = small x h (small-same s (at-set k s) refl refl y)
+small (reading-after {t = t} k a b x) h y = small-same t (at-set k t) refl refl (small x h y)
+small {s = s} (plain r p l) h y = small-node r s (plain-small h r p) y
+small {s = s} (known b v o a l) h y = small-same s (with-symbol v s) refl refl y
+small {input = input} {s = s} {t = t} (new b o n p l₁ l₂ l₃) h y =
+    let r = symbol (length (s .bytes)) (length b) in
+    small-same (with-node r (with-bytes b s)) t refl refl (small-node r (with-bytes b s) (λ w e. apart (cc)) (small-bytes b s (part-bytes input b h p) y))
+small (symbol-link i v o a) h y = y
+small (object-link i v a) h y = y
+small {s = s} (list {t = t} r q l₁ l₂ l₃ x) h y =
+    let s₁ = with-object-node nil s in
+    small-row (length (s .nodes)) r t (listed-no-fixnum r q) (small x h (small-same s₁ (with-room (list-length r) s₁) refl refl (small-opened nil s (λ w e. apart (cc)) y)))
+small {s = s} (hash-default {u = u} n l₁ l₂ l₃ x z) h y =
+    let s₁ = with-object-node nil s in
+    small-row (length (s .nodes)) _ u (λ w e. apart (cc)) (small z h (small x h (small-same s₁ (with-room (n * 2) s₁) refl refl (small-opened nil s (λ w e. apart (cc)) y))))
+small {s = s} (object-pairs {t = t} {u = u} n l₁ l₂ x l₃ z) h y =
+    small-row (length (s .nodes)) _ u (λ w e. apart (cc)) (small z h (small-same t (with-room (n * 2) t) refl refl (small x h (small-opened nil s (λ w e. apart (cc)) y))))
+small {input = input} {s = s} (string-bytes b p l₁ l₂ l₃) h y = small-opened _ (with-bytes b s) (λ w e. apart (cc)) (small-bytes b s (part-bytes input b h p) y)
+small {input = input} (user-bytes {t = t} b x p l₁ l₂ l₃) h y = small-opened _ (with-bytes b t) (λ w e. apart (cc)) (small-bytes b t (part-bytes input b h p) (small x h y))
+small (variables {t = t} {u = u} {h = v} {r = r} {r′ = r′} n x l z a q) h y =
+    small-row v r′ u (varied-no-fixnum r r′ q) (small z h (small-same t (with-room (n * 2) t) refl refl (small x h y)))
+small no-elements h y = y
+small (element {t = t} {i = i} {v = v} x z) h y = small z h (small-same t (with-word i v t) refl refl (small x h y))
+small no-pairs h y = y
+small (pair {t = t} {u = u} {i = i} {c = c} {v = v} x z w) h y = small w h (small-same u (with-word (suc i) v u) refl refl (small z h (small-same t (with-word i c t) refl refl (small x h y))))
+
+begin-small : Small begin
+begin-small = record { fixnums = λ i w a. one i w a; bytes = λ k v a. apart (cc) }
+  where
+    one : (i w : ℕ) → At (nil ∷ []) i (fixnum w) → w < 4294967296
+    one zero w a = apart (cc)
+    one (suc i) w a = apart (cc)
+
+pub load-small : (input : List ℕ) (room : Room) (limit h : ℕ) (s : State) → AreBytes input → load input room limit ≡ ok h s → Small s
+load-small input room limit h s b e = small (load-traced input room limit s h e) b begin-small

@@ -1,0 +1,361 @@
+-- A call of load that was accepted: its answer, and what the tables left hold.
+use Prim.Native.Nat.{ℕ, zero, suc, _+_, _-_, _*_, _/_, _%_, _≤_, _<_}
+use mathlib.Core.Path.{_≡_, refl, ap}
+use mathlib.Core.Path.{_∙_}
+use mathlib.Core.Bool.{Bool, true, false, not, _&&_, _||_}
+use mathlib.Core.Logic.{_≢_}
+use mathlib.Core.Option.{none}
+use mathlib.Core.List.{List, [], _∷_, _++_, append-assoc}
+use lib.Dec.{ltb, nltb→le}
+use lib.ListN.{length, take, drop, replicate, length-append, length-replicate}
+use lib.Seq.{take-append-seam}
+use native.Mathlib.Omega.{arith}
+use Rattle.definition.specs.Run.{Outcome, ok, refused, pick}
+use Rattle.definition.specs.Node.{Row, nil, bool, fixnum, symbol, array, hash, object, string, user, absent, present, width, words, flat, vars, row-of, row, rows, is-row}
+use Rattle.definition.specs.Arena.{Tables, Arena, arena, too-long, bad-nodes, lowest, padded, zeroed, row-right, node-right, counts-fit, faulty, fault-if, fault}
+use Rattle.definition.specs.Load.{State, Room, Lists, lists, room-of, load, load-wrong, LoadCall, counts, load-done, load-if, load-call, at-set}
+use Rattle.definition.specs.declared.Answer.the-variants.{Accepted, Refused}
+use Rattle.definition.specs.declared.Counts.{Counts}
+use Rattle.definition.specs.declared.Refusal.{Refusal}
+use Rattle.graph.specs.Lists.{At, apart, eqb-yes, eqb-no}
+use Rattle.graph.specs.View.{arena-of}
+use Rattle.load_forest.specs.Trace.{Mode, Trace, reading, reading-after, plain, known, new, symbol-link, object-link, list, hash-default, object-pairs, string-bytes, user-bytes, variables, no-elements, element, no-pairs, pair}
+use Rattle.load_forest.specs.Symbols.{yes-equal}
+use Rattle.load_forest.specs.Readers.{load-traced}
+use Rattle.load_forest.specs.Right.{LoadRight, load-right, yes-leb, yes-ltb}
+use Rattle.load_forest.specs.Space.{Within, load-within}
+
+-- ---- a row's words say that row
+
+pub row-words-back : (r : Row) → row (words r) ≡ r
+unfolding row row-of words vars pick
+row-words-back nil = refl
+row-words-back (bool true) = refl
+row-words-back (bool false) = refl
+row-words-back (fixnum w) = refl
+row-words-back (symbol s l) = refl
+row-words-back (array s n) = refl
+row-words-back (hash s n d) = refl
+row-words-back (object s n c) = refl
+row-words-back (string s l absent) = refl
+row-words-back (string s l (present p n)) = refl
+row-words-back (user s l c absent) = refl
+row-words-back (user s l c (present p n)) = refl
+
+take-words : (r : Row) (x : List ℕ) → take width (words r ++ x) ≡ words r
+unfolding words
+take-words nil x = refl
+take-words (bool true) x = refl
+take-words (bool false) x = refl
+take-words (fixnum w) x = refl
+take-words (symbol s l) x = refl
+take-words (array s n) x = refl
+take-words (hash s n d) x = refl
+take-words (object s n c) x = refl
+take-words (string s l absent) x = refl
+take-words (string s l (present p n)) x = refl
+take-words (user s l c absent) x = refl
+take-words (user s l c (present p n)) x = refl
+
+drop-words : (r : Row) (x : List ℕ) → drop width (words r ++ x) ≡ x
+unfolding words
+drop-words nil x = refl
+drop-words (bool true) x = refl
+drop-words (bool false) x = refl
+drop-words (fixnum w) x = refl
+drop-words (symbol s l) x = refl
+drop-words (array s n) x = refl
+drop-words (hash s n d) x = refl
+drop-words (object s n c) x = refl
+drop-words (string s l absent) x = refl
+drop-words (string s l (present p n)) x = refl
+drop-words (user s l c absent) x = refl
+drop-words (user s l c (present p n)) x = refl
+
+length-words : (r : Row) → length (words r) ≡ width
+unfolding words
+length-words nil = refl
+length-words (bool true) = refl
+length-words (bool false) = refl
+length-words (fixnum w) = refl
+length-words (symbol s l) = refl
+length-words (array s n) = refl
+length-words (hash s n d) = refl
+length-words (object s n c) = refl
+length-words (string s l absent) = refl
+length-words (string s l (present p n)) = refl
+length-words (user s l c absent) = refl
+length-words (user s l c (present p n)) = refl
+
+pub is-row-words : (r : Row) → is-row (words r) ≡ true
+unfolding is-row
+is-row-words r = rw (row-words-back r) (yes-equal (words r))
+
+-- the rows laid out, and whatever comes after them
+pub rows-flat : (rs : List Row) (x : List ℕ) → rows (length rs) (flat rs ++ x) ≡ rs
+unfolding rows flat
+rows-flat [] x = refl
+rows-flat (r ∷ rs) x =
+    rw (append-assoc (words r) (flat rs) x, take-words r (flat rs ++ x), drop-words r (flat rs ++ x), row-words-back r, rows-flat rs x)
+
+pub length-flat : (rs : List Row) → length (flat rs) ≡ length rs * 7
+unfolding flat
+length-flat [] = refl
+length-flat (r ∷ rs) = omega (arith, length-append (words r) (flat rs), length-words r, length-flat rs)
+
+-- the test of nodes, over rows laid out
+faulty-none : (A : Arena) (rs : List Row) (i : ℕ) (x : List ℕ) → ((k : ℕ) (r : Row) → At rs k r → row-right A r ≡ true) → faulty A (length rs) i (flat rs ++ x) ≡ none
+unfolding faulty flat node-right pick
+faulty-none A [] i x h = refl
+faulty-none A (r ∷ rs) i x h =
+    rw (append-assoc (words r) (flat rs) x, take-words r (flat rs ++ x), drop-words r (flat rs ++ x), is-row-words r, row-words-back r, h 0 r refl)
+    (faulty-none A rs (suc i) x (λ k q e. h (suc k) q e))
+
+-- ---- the input is read forwards, and not past its end
+
+record Forwards (input : List ℕ) (s t : State) : Type 0 where
+  on : s .at ≤ t .at
+  ends : s .at ≤ length input → t .at ≤ length input
+
+forwards-refl : (input : List ℕ) (s t : State) → t .at ≡ s .at → Forwards input s t
+forwards-refl input s t e = record { on = omega arith; ends = λ h. omega arith }
+
+forwards-trans : {input : List ℕ} {s t u : State} → Forwards input s t → Forwards input t u → Forwards input s u
+forwards-trans x y = record { on = omega (arith, x .on, y .on); ends = λ h. y .ends (x .ends h) }
+
+forwards-to : (input : List ℕ) (k : ℕ) (s : State) → s .at ≤ k → k ≤ length input → Forwards input s (at-set k s)
+forwards-to input k s a b = record { on = a; ends = λ h. b }
+
+forwards : {input : List ℕ} {room : Room} {m : Mode} {s t : State} {vs : List ℕ} → Trace input room m s vs t → Forwards input s t
+forwards {input = input} {s = s} (reading k a b x) = forwards-trans (forwards-to input k s a b) (forwards x)
+forwards {input = input} (reading-after {t = t} k a b x) = forwards-trans (forwards x) (forwards-to input k t a b)
+forwards {input = input} {s = s} {t = t} (plain r p l) = forwards-refl input s t refl
+forwards {input = input} {s = s} {t = t} (known b h o a l) = forwards-refl input s t refl
+forwards {input = input} {s = s} {t = t} (new b o n p l₁ l₂ l₃) = forwards-refl input s t refl
+forwards {input = input} {s = s} {t = t} (symbol-link i h o a) = forwards-refl input s t refl
+forwards {input = input} {s = s} {t = t} (object-link i h a) = forwards-refl input s t refl
+forwards (list r q l₁ l₂ l₃ x) = let f = forwards x in record { on = f .on; ends = f .ends }
+forwards (hash-default n l₁ l₂ l₃ x y) = let f = forwards-trans (forwards x) (forwards y) in record { on = f .on; ends = f .ends }
+forwards {input = input} {s = s} (object-pairs {t = t} n l₁ l₂ x l₃ y) =
+    let f = forwards x in
+    let g = forwards y in
+    record { on = omega (arith, f .on, g .on); ends = λ h. g .ends (f .ends h) }
+forwards {input = input} {s = s} {t = t} (string-bytes b p l₁ l₂ l₃) = forwards-refl input s t refl
+forwards {input = input} {t = t} (user-bytes {t = u} b x p l₁ l₂ l₃) = forwards-trans (forwards x) (forwards-refl input u t refl)
+forwards (variables n x l y a q) =
+    let f = forwards x in
+    let g = forwards y in
+    record { on = omega (arith, f .on, g .on); ends = λ h. g .ends (f .ends h) }
+forwards {input = input} {s = s} no-elements = forwards-refl input s s refl
+forwards (element x y) =
+    let f = forwards x in
+    let g = forwards y in
+    record { on = omega (arith, f .on, g .on); ends = λ h. g .ends (f .ends h) }
+forwards {input = input} {s = s} no-pairs = forwards-refl input s s refl
+forwards (pair x y z) =
+    let f = forwards x in
+    let g = forwards y in
+    let k = forwards z in
+    record { on = omega (arith, f .on, g .on, k .on); ends = λ h. k .ends (g .ends (f .ends h)) }
+
+-- the bytes used are bytes of the input
+pub load-used : (input : List ℕ) (room : Room) (limit h : ℕ) (s : State) → load input room limit ≡ ok h s → s .at ≤ length input
+load-used input room limit h s e = forwards (load-traced input room limit s h e) .ends (omega arith)
+
+-- ---- what is lent is allowed
+
+or-none : (a b : Bool) → a || b ≡ false → (a ≡ false) × (b ≡ false)
+or-none false b e = (refl, e)
+or-none true b e = apart (cc)
+
+not-none : (a : Bool) → not a ≡ false → a ≡ true
+not-none true e = refl
+not-none false e = apart (cc)
+
+most-none : (n m : ℕ) → ltb n m ≡ false → m ≤ n
+most-none n m e = nltb→le n m (rw e tt)
+
+lowest-none : (k : ℕ) (b : Bool) (ts : List (ℕ × Bool)) → lowest ((suc k, b) ∷ ts) ≡ 0 → (b ≡ false) × (lowest ts ≡ 0)
+unfolding lowest pick
+lowest-none k false ts e = (refl, e)
+lowest-none k true ts e = absurd (omega arith)
+
+-- what load's test of the slices says where it finds nothing
+pub record Allowed (input : List ℕ) (T : Lists) (limit : ℕ) : Type 0 where
+  pub nodes-most : length (T .nodes) ≤ 2147483647
+  pub nodes-some : 1 ≤ length (T .nodes) / 7
+  pub nodes-whole : length (T .nodes) % 7 ≡ 0
+  pub references-most : length (T .references) ≤ 2147483647
+  pub bytes-most : length (T .bytes) ≤ 2147483647
+  pub symbols-most : length (T .symbols) ≤ 2147483647
+  pub objects-most : length (T .objects) ≤ 2147483647
+  pub limit-most : limit ≤ 128
+  pub input-most : length input ≤ 2147483647
+
+short : (n : ℕ) → too-long n ≡ false → n ≤ 2147483647
+unfolding too-long
+short n e = most-none 2147483647 n e
+
+nodes-allowed : (n : ℕ) → bad-nodes n ≡ false → (n ≤ 2147483647) × (1 ≤ n / 7) × (n % 7 ≡ 0)
+unfolding bad-nodes
+nodes-allowed n e =
+    let (x, y) = or-none _ _ e in
+    let (u, v) = or-none _ _ x in
+    let z : n % 7 ≡ 0 = eqb-yes (n % 7) 0 (not-none _ y) in
+    let w : n ≢ 0 = eqb-no n 0 v in
+    (short n u, omega (arith, w), z)
+
+pub load-allowed : (input : List ℕ) (T : Lists) (limit : ℕ) → load-wrong input T limit ≡ 0 → Allowed input T limit
+unfolding load-wrong
+load-allowed input T limit e =
+    let (b₁, e₁) = lowest-none 0 _ _ e in
+    let (b₂, e₂) = lowest-none 1 _ _ e₁ in
+    let (b₃, e₃) = lowest-none 2 _ _ e₂ in
+    let (b₄, e₄) = lowest-none 3 _ _ e₃ in
+    let (b₅, e₅) = lowest-none 4 _ _ e₄ in
+    let (b₇, e₇) = lowest-none 6 _ _ e₅ in
+    let (b₈, e₈) = lowest-none 7 _ _ e₇ in
+    let (n₁, n₂, n₃) = nodes-allowed _ b₁ in
+    record {
+      nodes-most = n₁;
+      nodes-some = n₂;
+      nodes-whole = n₃;
+      references-most = short _ b₂;
+      bytes-most = short _ b₃;
+      symbols-most = short _ b₄;
+      objects-most = short _ b₅;
+      limit-most = most-none 128 limit b₇;
+      input-most = short _ b₈;
+    }
+
+-- ---- an accepted call
+
+pub record AcceptedLoad (input : List ℕ) (T : Lists) (limit : ℕ) : Type 0 where
+  pub none-wrong : load-wrong input T limit ≡ 0
+  pub root : ℕ
+  pub state : State
+  pub loads : load input (room-of T) limit ≡ ok root state
+  pub answered : load-call input T limit .answer ≡ record { answer = Accepted; counts = counts (length (state .nodes)) (length (state .references)) (length (state .bytes)) root; used = state .at }
+  pub left : load-call input T limit .lent ≡ lists (padded (T .nodes) (flat (state .nodes))) (padded (T .references) (state .references)) (padded (T .bytes) (state .bytes)) (zeroed (T .symbols)) (zeroed (T .objects))
+
+no-accept : {A : Type 0} (r : Refusal) → Refused r ≡ Accepted → A
+no-accept r e = apart (cc)
+
+call-done : (input : List ℕ) (T : Lists) (limit : ℕ) → load-wrong input T limit ≡ 0 → load-call input T limit ≡ load-done T (load input (room-of T) limit)
+unfolding load-call load-if
+call-done input T limit e = rw e
+
+pub load-accepted : (input : List ℕ) (T : Lists) (limit : ℕ) → load-call input T limit .answer .answer ≡ Accepted → AcceptedLoad input T limit
+unfolding load-call load-if load-done
+load-accepted input T limit e = by-wrong (load-wrong input T limit) refl e
+  where
+    by-outcome : (o : Outcome State ℕ) → load input (room-of T) limit ≡ o → load-wrong input T limit ≡ 0 → load-done T o .answer .answer ≡ Accepted → AcceptedLoad input T limit
+    by-outcome (ok h s) p w q =
+        let z : load-call input T limit ≡ load-done T (ok h s) = call-done input T limit w ∙ ap (load-done T) p in
+        record { none-wrong = w; root = h; state = s; loads = p; answered = ap (λ (c : LoadCall). c .answer) z; left = ap (λ (c : LoadCall). c .lent) z }
+    by-outcome (refused r) p w q = no-accept r q
+
+    by-wrong : (n : ℕ) → load-wrong input T limit ≡ n → load-if n input T limit .answer .answer ≡ Accepted → AcceptedLoad input T limit
+    by-wrong zero p q = by-outcome (load input (room-of T) limit) refl p q
+    by-wrong (suc n) p q = no-accept _ q
+
+-- ---- the tables left
+
+length-padded : (t l : List ℕ) → length l ≤ length t → length (padded t l) ≡ length t
+unfolding padded
+length-padded t l h = length-append l (replicate (length t - length l) 0) ∙ ap (λ (n : ℕ). length l + n) (length-replicate (length t - length l) 0) ∙ omega arith
+
+take-padded : (t l : List ℕ) → take (length l) (padded t l) ≡ l
+unfolding padded
+take-padded t l = take-append-seam l (replicate (length t - length l) 0)
+
+rows-padded : (t : List ℕ) (rs : List Row) → rows (length rs) (padded t (flat rs)) ≡ rs
+unfolding padded
+rows-padded t rs = rows-flat rs (replicate (length t - length (flat rs)) 0)
+
+-- the tables and counts that a load from T to s with root h leaves
+abbrev pub tables-left : Lists → State → Tables
+tables-left T s = record { nodes = padded (T .nodes) (flat (s .nodes)); references = padded (T .references) (s .references); bytes = padded (T .bytes) (s .bytes) }
+
+abbrev pub counts-left : State → ℕ → Counts
+counts-left s h = counts (length (s .nodes)) (length (s .references)) (length (s .bytes)) h
+
+-- what they hold is what was loaded
+pub arena-left : (T : Lists) (s : State) (h : ℕ) → arena (tables-left T s) (counts-left s h) ≡ arena-of s h
+unfolding arena
+arena-left T s h = λ i. record {
+  nodes = rows-padded (T .nodes) (s .nodes) i;
+  references = take-padded (T .references) (s .references) i;
+  bytes = take-padded (T .bytes) (s .bytes) i;
+  root = h;
+}
+
+-- the tables keep their lengths
+pub record SameLengths (T : Lists) (s : State) : Type 0 where
+  pub nodes-length : length (tables-left T s .nodes) ≡ length (T .nodes)
+  pub references-length : length (tables-left T s .references) ≡ length (T .references)
+  pub bytes-length : length (tables-left T s .bytes) ≡ length (T .bytes)
+
+room-within : (T : Lists) (s : State) → Within (room-of T) s → (length (s .nodes) ≤ length (T .nodes) / 7) × (length (s .references) ≤ length (T .references)) × (length (s .bytes) ≤ length (T .bytes))
+unfolding room-of
+room-within T s w = (w .nodes, w .references, w .bytes)
+
+some-nodes : (T : Lists) → 1 ≤ length (T .nodes) / 7 → 1 ≤ room-of T .nodes
+unfolding room-of
+some-nodes T h = h
+
+pub load-lengths : (input : List ℕ) (T : Lists) (limit h : ℕ) (s : State) → load-wrong input T limit ≡ 0 → load input (room-of T) limit ≡ ok h s → SameLengths T s
+load-lengths input T limit h s w e =
+    let a = load-allowed input T limit w in
+    let (n, r, b) = room-within T s (load-within input (room-of T) limit h s (some-nodes T (a .nodes-some)) e) in
+    record {
+      nodes-length = length-padded (T .nodes) (flat (s .nodes)) (omega (arith, length-flat (s .nodes)));
+      references-length = length-padded (T .references) (s .references) r;
+      bytes-length = length-padded (T .bytes) (s .bytes) b;
+    }
+
+five : (a b c d e : Bool) → a ≡ true → b ≡ true → c ≡ true → d ≡ true → e ≡ true → a && b && c && d && e ≡ true
+five a b c d e p q r s t = rw (p, q, r, s, t)
+
+counts-left-fit : (input : List ℕ) (T : Lists) (limit h : ℕ) (s : State) → load-wrong input T limit ≡ 0 → load input (room-of T) limit ≡ ok h s → counts-fit (tables-left T s) (counts-left s h) ≡ true
+unfolding counts-fit
+counts-left-fit input T limit h s w e =
+    let a = load-allowed input T limit w in
+    let (n, r, b) = room-within T s (load-within input (room-of T) limit h s (some-nodes T (a .nodes-some)) e) in
+    let l = load-lengths input T limit h s w e in
+    let o : h < length (s .nodes) = load-right input (room-of T) limit h s e .root-below in
+    five _ _ _ _ _
+    (yes-leb 1 (length (s .nodes)) (omega arith))
+    (rw (l .nodes-length) (yes-leb (length (s .nodes)) (length (T .nodes) / 7) n))
+    (rw (l .references-length) (yes-leb (length (s .references)) (length (T .references)) r))
+    (rw (l .bytes-length) (yes-leb (length (s .bytes)) (length (T .bytes)) b))
+    (yes-ltb h (length (s .nodes)) o)
+
+faulty-left : (T : Lists) (s : State) (h : ℕ) → LoadRight (arena-of s h) → faulty (arena (tables-left T s) (counts-left s h)) (length (s .nodes)) 0 (padded (T .nodes) (flat (s .nodes))) ≡ none
+unfolding padded
+faulty-left T s h x = rw (arena-left T s h) (faulty-none (arena-of s h) (s .nodes) 0 _ (x .rows-right))
+
+fault-if-true : (b : Bool) (T : Tables) (c : Counts) → b ≡ true → faulty (arena T c) (c .nodes) 0 (T .nodes) ≡ none → fault-if b T c ≡ none
+unfolding fault-if
+fault-if-true b T c p q = rw p q
+
+-- and they are well formed
+pub load-well-formed : (input : List ℕ) (T : Lists) (limit h : ℕ) (s : State) → load-wrong input T limit ≡ 0 → load input (room-of T) limit ≡ ok h s → fault (tables-left T s) (counts-left s h) ≡ none
+unfolding fault
+load-well-formed input T limit h s w e =
+    fault-if-true (counts-fit (tables-left T s) (counts-left s h)) (tables-left T s) (counts-left s h) (counts-left-fit input T limit h s w e) (faulty-left T s h (load-right input (room-of T) limit h s e))
+
+-- ---- the same of the call itself
+
+-- the three tables of an arena, of those lent
+abbrev pub tables-of : Lists → Tables
+tables-of T = record { nodes = T .nodes; references = T .references; bytes = T .bytes }
+
+pub call-arena : (input : List ℕ) (T : Lists) (limit : ℕ) (a : AcceptedLoad input T limit) → arena (tables-of (load-call input T limit .lent)) (load-call input T limit .answer .counts) ≡ arena-of (a .state) (a .root)
+call-arena input T limit a = rw (a .left, a .answered) (arena-left T (a .state) (a .root))
+
+pub call-well-formed : (input : List ℕ) (T : Lists) (limit : ℕ) → AcceptedLoad input T limit → fault (tables-of (load-call input T limit .lent)) (load-call input T limit .answer .counts) ≡ none
+call-well-formed input T limit a = rw (a .left, a .answered) (load-well-formed input T limit (a .root) (a .state) (a .none-wrong) (a .loads))
+
+pub call-used : (input : List ℕ) (T : Lists) (limit : ℕ) → AcceptedLoad input T limit → load-call input T limit .answer .used ≤ length input
+call-used input T limit a = rw (a .answered) (load-used input (room-of T) limit (a .root) (a .state) (a .loads))

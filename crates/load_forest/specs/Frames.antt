@@ -1,0 +1,379 @@
+-- What a trace leaves alone, that ranges stay inside, and that the words reserved for members hold them.
+use Prim.Native.Nat.{ℕ, suc, _+_, _*_, _≤_}
+use mathlib.Core.Path.{_≡_, refl, subst}
+use mathlib.Core.Path.{sym as psym}
+use mathlib.Core.Logic.{inl, inr}
+use mathlib.Core.List.{List, [], _∷_}
+use lib.ListN.{length, set, replicate, length-append, length-set, length-replicate}
+use native.Mathlib.Omega.{arith}
+use Rattle.definition.specs.Node.{Row, nil, symbol, hash, object, string, user, absent}
+use Rattle.definition.specs.Arena.{range}
+use Rattle.definition.specs.Run.{ok}
+use Rattle.definition.specs.Load.{State, Room, at-set, read-value, read-symbol-like}
+use Rattle.graph.specs.Lists.{At}
+use Rattle.load_forest.specs.Views.{bytes-start, bytes-length, list-start, list-length, vars-start, vars-length, Inside, Ranged, Free, Above, Frame, with-node, with-symbol, with-object-node, with-bytes, with-word, with-row, ranged-up, ranged-node, ranged-object-node, ranged-row, ranged-bytes, ranged-words, ranged-word, inside-nil, inside-bool, inside-fixnum, frame-refl, frame-trans, frame-below, frame-at-set, frame-symbol, frame-bytes, frame-words, frame-word, frame-node, frame-object-node, frame-row, free-new, free-part, range-none, range-written}
+use Rattle.load_forest.specs.Trace.{Mode, value, name, elements, pairs, One, Plain, plain-nil, plain-bool, plain-fixnum, Listed, is-array, is-hash, Varied, varied-string, varied-user, with-room, Trace, reading, reading-after, plain, known, new, symbol-link, object-link, list, hash-default, object-pairs, string-bytes, user-bytes, variables, no-elements, element, no-pairs, pair}
+use Rattle.load_forest.specs.Readers.{value-traced, name-traced}
+
+-- the word from which on a read may write, where n words are used so far
+abbrev pub from : Mode → ℕ → ℕ
+from value n = n
+from name n = n
+from (elements m i) n = i
+from (pairs m i) n = i
+
+-- the words that it is to fill there
+abbrev pub slots : Mode → ℕ
+slots value = 0
+slots name = 0
+slots (elements n i) = n
+slots (pairs n i) = n * 2
+
+-- before: ranges are inside, and the words to fill are reserved and no row's
+pub record Ready (m : Mode) (s : State) : Type 0 where
+  pub ranged : Ranged s
+  pub fits : from m (length (s .references)) + slots m ≤ length (s .references)
+  pub free : Free (from m (length (s .references))) (slots m) s
+
+-- the words filled hold what was read
+abbrev pub Words : Mode → State → List ℕ → Type 0
+Words value t vs = Unit {0}
+Words name t vs = Unit {0}
+Words (elements n i) t vs = range (t .references) i n ≡ vs
+Words (pairs n i) t vs = range (t .references) i (n * 2) ≡ vs
+
+-- after
+pub record Left (m : Mode) (s : State) (vs : List ℕ) (t : State) : Type 0 where
+  pub ranged : Ranged t
+  pub frame : Frame (from m (length (s .references))) s t
+  pub words : Words m t vs
+
+-- a value or a name may always be read
+pub ready-value : (s : State) → Ranged s → Ready value s
+ready-value s h = record { ranged = h; fits = omega arith; free = λ i r e. inl (h i r e .list-inside) }
+
+pub ready-name : (s : State) → Ranged s → Ready name s
+ready-name s h = record { ranged = h; fits = omega arith; free = λ i r e. inl (h i r e .list-inside) }
+
+-- n words just reserved
+pub ready-elements : (n : ℕ) (s : State) → Ranged s → Ready (elements n (length (s .references))) (with-room n s)
+ready-elements n s h = record {
+  ranged = ranged-words (replicate n 0) s h;
+  fits = omega (arith, length-append (s .references) (replicate n 0), length-replicate {A = ℕ} n 0);
+  free = free-new n (replicate n 0) s h;
+}
+
+pub ready-pairs : (n : ℕ) (s : State) → Ranged s → Ready (pairs n (length (s .references))) (with-room (n * 2) s)
+ready-pairs n s h = let r = ready-elements (n * 2) s h in record { ranged = r .ranged; fits = r .fits; free = r .free }
+
+-- ---- rows
+
+inside-plain : {input : List ℕ} (s : State) (r : Row) → Plain input r → Inside s r
+inside-plain s r plain-nil = inside-nil s
+inside-plain s r (plain-bool b) = inside-bool b s
+inside-plain s r (plain-fixnum w u t e) = inside-fixnum w s
+
+above-plain : {input : List ℕ} (p : ℕ) (r : Row) → Plain input r → Above p r
+unfolding list-start list-length
+above-plain p r plain-nil = inl refl
+above-plain p r (plain-bool b) = inl refl
+above-plain p r (plain-fixnum w u t e) = inl refl
+
+above-nil : (p : ℕ) → Above p nil
+unfolding list-start list-length
+above-nil p = inl refl
+
+above-symbol : (p a l : ℕ) → Above p (symbol a l)
+unfolding list-start list-length
+above-symbol p a l = inl refl
+
+above-string : (p a l : ℕ) → Above p (string a l absent)
+unfolding list-start list-length vars-start vars-length
+above-string p a l = inl refl
+
+above-user : (p a l c : ℕ) → Above p (user a l c absent)
+unfolding list-start list-length vars-start vars-length
+above-user p a l c = inl refl
+
+inside-symbol : (s : State) (a l : ℕ) → a + l ≤ length (s .bytes) → Inside s (symbol a l)
+unfolding bytes-start bytes-length list-start list-length
+inside-symbol s a l h = record { bytes-inside = h; list-inside = omega arith }
+
+inside-string : (s : State) (a l : ℕ) → a + l ≤ length (s .bytes) → Inside s (string a l absent)
+unfolding bytes-start bytes-length list-start list-length vars-start vars-length
+inside-string s a l h = record { bytes-inside = h; list-inside = omega arith }
+
+inside-user : (s : State) (a l c : ℕ) → a + l ≤ length (s .bytes) → Inside s (user a l c absent)
+unfolding bytes-start bytes-length list-start list-length vars-start vars-length
+inside-user s a l c h = record { bytes-inside = h; list-inside = omega arith }
+
+inside-listed : {p : ℕ} (s : State) (r : Row) → Listed p r → p + list-length r ≤ length (s .references) → Inside s r
+unfolding bytes-start bytes-length list-start list-length
+inside-listed s r (is-array n) h = record { bytes-inside = omega arith; list-inside = h }
+inside-listed s r (is-hash n) h = record { bytes-inside = omega arith; list-inside = h }
+
+above-listed : {p : ℕ} (q : ℕ) (r : Row) → q ≤ p → Listed p r → Above q r
+unfolding list-start
+above-listed q r h (is-array n) = inr h
+above-listed q r h (is-hash n) = inr h
+
+inside-hash : (s : State) (p n d : ℕ) → p + n * 2 ≤ length (s .references) → Inside s (hash p n d)
+unfolding bytes-start bytes-length list-start list-length
+inside-hash s p n d h = record { bytes-inside = omega arith; list-inside = h }
+
+above-hash : (q p n d : ℕ) → q ≤ p → Above q (hash p n d)
+unfolding list-start
+above-hash q p n d h = inr h
+
+inside-object : (s : State) (p n c : ℕ) → p + n * 2 ≤ length (s .references) → Inside s (object p n c)
+unfolding bytes-start bytes-length list-start list-length
+inside-object s p n c h = record { bytes-inside = omega arith; list-inside = h }
+
+above-object : (q p n c : ℕ) → q ≤ p → Above q (object p n c)
+unfolding list-start
+above-object q p n c h = inr h
+
+inside-varied : {p n : ℕ} (s : State) (r r′ : Row) → Varied p n r r′ → p + n * 2 ≤ length (s .references) → Inside s r → Inside s r′
+unfolding bytes-start bytes-length list-start list-length vars-start vars-length
+inside-varied s r r′ varied-string h x = record { bytes-inside = x .bytes-inside; list-inside = h }
+inside-varied s r r′ varied-user h x = record { bytes-inside = x .bytes-inside; list-inside = h }
+
+above-varied : {p n : ℕ} (q : ℕ) (r r′ : Row) → q ≤ p → Varied p n r r′ → Above q r′
+unfolding list-start vars-start
+above-varied q r r′ h varied-string = inr h
+above-varied q r r′ h varied-user = inr h
+
+-- ---- the steps
+
+pub ready-reading : (m : Mode) (s : State) (k : ℕ) → Ready m s → Ready m (at-set k s)
+ready-reading m s k h = record { ranged = ranged-up s (at-set k s) refl (omega arith) (omega arith) (h .ranged); fits = h .fits; free = h .free }
+
+left-reading : (m : Mode) (s t : State) (vs : List ℕ) (k : ℕ) → Left m (at-set k s) vs t → Left m s vs t
+left-reading m s t vs k h = record { ranged = h .ranged; frame = frame-trans (frame-at-set (from m (length (s .references))) k s) (h .frame); words = h .words }
+
+words-at-set : (m : Mode) (t : State) (vs : List ℕ) (k : ℕ) → Words m t vs → Words m (at-set k t) vs
+words-at-set value t vs k h = h
+words-at-set name t vs k h = h
+words-at-set (elements n i) t vs k h = h
+words-at-set (pairs n i) t vs k h = h
+
+left-reading-after : (m : Mode) (s t : State) (vs : List ℕ) (k : ℕ) → Left m s vs t → Left m s vs (at-set k t)
+left-reading-after m s t vs k h = record {
+  ranged = ranged-up t (at-set k t) refl (omega arith) (omega arith) (h .ranged);
+  frame = frame-trans (h .frame) (frame-at-set (from m (length (s .references))) k t);
+  words = words-at-set m t vs k (h .words);
+}
+
+left-plain : {input : List ℕ} (s : State) (r : Row) (vs : List ℕ) → Plain input r → Ready value s → Left value s vs (with-node r s)
+left-plain s r vs p h = record { ranged = ranged-node r s (inside-plain s r p) (h .ranged); frame = frame-node (length (s .references)) r s (above-plain _ r p); words = tt }
+
+one-words : (m : Mode) → One m → (t : State) (vs : List ℕ) → Words m t vs
+one-words value o t vs = tt
+one-words name o t vs = tt
+one-words (elements n i) o t vs = absurd o
+one-words (pairs n i) o t vs = absurd o
+
+left-known : (m : Mode) → One m → (s : State) (h : ℕ) (vs : List ℕ) → Ready m s → Left m s vs (with-symbol h s)
+left-known m o s h vs x = record {
+  ranged = ranged-up s (with-symbol h s) refl (omega arith) (omega arith) (x .ranged);
+  frame = frame-symbol _ h s;
+  words = one-words m o (with-symbol h s) vs;
+}
+
+left-new : (m : Mode) → One m → (s : State) (h : ℕ) (b vs : List ℕ) → Ready m s → Left m s vs (with-symbol h (with-node (symbol (length (s .bytes)) (length b)) (with-bytes b s)))
+left-new m o s h b vs x =
+    let r = symbol (length (s .bytes)) (length b) in
+    let p = from m (length (s .references)) in
+    let in₁ : Inside (with-bytes b s) r = inside-symbol (with-bytes b s) (length (s .bytes)) (length b) (omega (arith, length-append (s .bytes) b)) in
+    let t = with-node r (with-bytes b s) in
+    record {
+      ranged = ranged-up t (with-symbol h t) refl (omega arith) (omega arith) (ranged-node r (with-bytes b s) in₁ (ranged-bytes b s (x .ranged)));
+      frame = frame-trans (frame-bytes p b s) (frame-trans (frame-node p r (with-bytes b s) (above-symbol p _ _)) (frame-symbol p h t));
+      words = one-words m o (with-symbol h t) vs;
+    }
+
+left-same : (m : Mode) → One m → (s : State) (vs : List ℕ) → Ready m s → Left m s vs s
+left-same m o s vs x = record { ranged = x .ranged; frame = frame-refl _ s; words = one-words m o s vs }
+
+-- a node opened as nil, and words reserved
+pub opened-ranged : (s : State) → Ranged s → Ranged (with-object-node nil s)
+opened-ranged s h = ranged-object-node nil s (inside-nil s) h
+
+opened-frame : (n : ℕ) (s : State) → Frame (length (s .references)) s (with-room n (with-object-node nil s))
+opened-frame n s = frame-trans (frame-object-node _ nil s (above-nil _)) (frame-words _ (replicate n 0) (with-object-node nil s))
+
+pub ready-opened : (n : ℕ) (s : State) → Ranged s → Ready (elements n (length (s .references))) (with-room n (with-object-node nil s))
+ready-opened n s h = ready-elements n (with-object-node nil s) (opened-ranged s h)
+
+left-list : (s t : State) (r : Row) (ms vs : List ℕ) (h : ℕ) → Listed (length (s .references)) r → Ready value s
+    → Left (elements (list-length r) (length (s .references))) (with-room (list-length r) (with-object-node nil s)) ms t → Left value s vs (with-row h r t)
+left-list s t r ms vs h l x y =
+    let f : Frame (length (s .references)) s t = frame-trans (opened-frame (list-length r) s) (y .frame) in
+    let fits = ready-opened (list-length r) s (x .ranged) .fits in
+    record {
+      ranged = ranged-row h r t (inside-listed t r l (omega (arith, fits, y .frame .references-grow))) (y .ranged);
+      frame = frame-trans f (frame-row (length (s .references)) h r t (above-listed _ r (omega arith) l));
+      words = tt;
+    }
+
+left-hash-default : (s t u : State) (n d : ℕ) (ms ds vs : List ℕ) (h : ℕ) → Ready value s
+    → Left (elements (n * 2) (length (s .references))) (with-room (n * 2) (with-object-node nil s)) ms t → Left value t ds u
+    → Left value s vs (with-row h (hash (length (s .references)) n (d + 1)) u)
+left-hash-default s t u n d ms ds vs h x y z =
+    let p = length (s .references) in
+    let fits = ready-opened (n * 2) s (x .ranged) .fits in
+    let g : p + n * 2 ≤ length (t .references) = omega (arith, fits, y .frame .references-grow) in
+    let f : Frame p s u = frame-trans (frame-trans (opened-frame (n * 2) s) (y .frame)) (frame-below p (omega arith) (z .frame)) in
+    let r = hash p n (d + 1) in
+    record {
+      ranged = ranged-row h r u (inside-hash u p n (d + 1) (omega (arith, z .frame .references-grow))) (z .ranged);
+      frame = frame-trans f (frame-row p h r u (above-hash p p n (d + 1) (omega arith)));
+      words = tt;
+    }
+
+-- n pairs read from the end of t on
+paired-frame : (p n : ℕ) (t u : State) (ms : List ℕ) → p ≤ length (t .references) → Left (pairs n (length (t .references))) (with-room (n * 2) t) ms u → Frame p t u
+paired-frame p n t u ms h y = frame-trans (frame-words p (replicate (n * 2) 0) t) (frame-below p h (y .frame))
+
+paired-fits : (n : ℕ) (t u : State) (ms : List ℕ) → Left (pairs n (length (t .references))) (with-room (n * 2) t) ms u → length (t .references) + n * 2 ≤ length (u .references)
+paired-fits n t u ms y = omega (arith, y .frame .references-grow, length-append (t .references) (replicate (n * 2) 0), length-replicate {A = ℕ} (n * 2) 0)
+
+left-object : (s t u : State) (n c : ℕ) (ns ms vs : List ℕ) (h : ℕ) → Ready value s → Left name (with-object-node nil s) ns t
+    → Left (pairs n (length (t .references))) (with-room (n * 2) t) ms u → Left value s vs (with-row h (object (length (t .references)) n c) u)
+left-object s t u n c ns ms vs h x y z =
+    let p = length (s .references) in
+    let g : p ≤ length (t .references) = y .frame .references-grow in
+    let f : Frame p s u = frame-trans (frame-trans (frame-object-node p nil s (above-nil p)) (y .frame)) (paired-frame p n t u ms g z) in
+    let r = object (length (t .references)) n c in
+    record {
+      ranged = ranged-row h r u (inside-object u (length (t .references)) n c (paired-fits n t u ms z)) (z .ranged);
+      frame = frame-trans f (frame-row p h r u (above-object p (length (t .references)) n c g));
+      words = tt;
+    }
+
+left-string : (s : State) (b vs : List ℕ) → Ready value s → Left value s vs (with-object-node (string (length (s .bytes)) (length b) absent) (with-bytes b s))
+left-string s b vs x =
+    let r = string (length (s .bytes)) (length b) absent in
+    let p = length (s .references) in
+    record {
+      ranged = ranged-object-node r (with-bytes b s) (inside-string (with-bytes b s) (length (s .bytes)) (length b) (omega (arith, length-append (s .bytes) b))) (ranged-bytes b s (x .ranged));
+      frame = frame-trans (frame-bytes p b s) (frame-object-node p r (with-bytes b s) (above-string p _ _));
+      words = tt;
+    }
+
+left-user : (s t : State) (c : ℕ) (b ns vs : List ℕ) → Left name s ns t → Left value s vs (with-object-node (user (length (t .bytes)) (length b) c absent) (with-bytes b t))
+left-user s t c b ns vs y =
+    let r = user (length (t .bytes)) (length b) c absent in
+    let p = length (s .references) in
+    record {
+      ranged = ranged-object-node r (with-bytes b t) (inside-user (with-bytes b t) (length (t .bytes)) (length b) c (omega (arith, length-append (t .bytes) b))) (ranged-bytes b t (y .ranged));
+      frame = frame-trans (y .frame) (frame-trans (frame-bytes p b t) (frame-object-node p r (with-bytes b t) (above-user p _ _ c)));
+      words = tt;
+    }
+
+left-variables : (s t u : State) (n h : ℕ) (r r′ : Row) (hs ms vs : List ℕ) → Left value s hs t → Left (pairs n (length (t .references))) (with-room (n * 2) t) ms u
+    → At (u .nodes) h r → Varied (length (t .references)) n r r′ → Left value s vs (with-row h r′ u)
+left-variables s t u n h r r′ hs ms vs y z a q =
+    let p = length (s .references) in
+    let g : p ≤ length (t .references) = y .frame .references-grow in
+    record {
+      ranged = ranged-row h r′ u (inside-varied u r r′ q (paired-fits n t u ms z) (z .ranged h r a)) (z .ranged);
+      frame = frame-trans (y .frame) (frame-trans (paired-frame p n t u ms g z) (frame-row p h r′ u (above-varied p r r′ g q)));
+      words = tt;
+    }
+
+left-no-elements : (s : State) (i : ℕ) → Ready (elements 0 i) s → Left (elements 0 i) s [] s
+left-no-elements s i x = record { ranged = x .ranged; frame = frame-refl i s; words = range-none (s .references) i }
+
+left-no-pairs : (s : State) (i : ℕ) → Ready (pairs 0 i) s → Left (pairs 0 i) s [] s
+left-no-pairs s i x = record { ranged = x .ranged; frame = frame-refl i s; words = range-none (s .references) i }
+
+-- one word of k + 1 is written, after a value or a name was read from s to t; k are left
+pub ready-next : (k i v : ℕ) (s t : State) → i + suc k ≤ length (s .references) → Free i (suc k) s → Ranged t → Frame (length (s .references)) s t → Ready (elements k (suc i)) (with-word i v t)
+ready-next k i v s t h f r φ = record {
+  ranged = ranged-word i v t r;
+  fits = omega (arith, φ .references-grow, length-set (t .references) i v);
+  free = free-part i (suc k) (suc i) k t (omega arith) (omega arith) (φ .stays-free i (suc k) h f);
+}
+
+left-element : (n i v : ℕ) (s t u : State) (ns vs : List ℕ) → Ready (elements (suc n) i) s → Left value s ns t → Left (elements n (suc i)) (with-word i v t) vs u
+    → Left (elements (suc n) i) s (v ∷ vs) u
+left-element n i v s t u ns vs x y z =
+    let h : i + suc n ≤ length (s .references) = x .fits in
+    record {
+      ranged = z .ranged;
+      frame = frame-trans (frame-below i (omega arith) (y .frame)) (frame-trans (frame-word i i v t (omega arith)) (frame-below i (omega arith) (z .frame)));
+      words = range-written t u i n v vs (omega (arith, y .frame .references-grow)) (z .frame) (z .words);
+    }
+
+-- a pair's two words
+two-words : (n : ℕ) → suc n * 2 ≡ suc (suc (n * 2))
+two-words n = omega arith
+
+-- after the name, after the value
+pub ready-after-name : (n i c : ℕ) (s t : State) (ns : List ℕ) → Ready (pairs (suc n) i) s → Left name s ns t → Ready (elements (suc (n * 2)) (suc i)) (with-word i c t)
+ready-after-name n i c s t ns x y =
+    let h : i + suc n * 2 ≤ length (s .references) = x .fits in
+    ready-next (suc (n * 2)) i c s t (omega arith) (subst (λ (k : ℕ). Free i k s) (two-words n) (x .free)) (y .ranged) (y .frame)
+
+pub ready-after-value : (n i c v : ℕ) (s t u : State) (ns vs : List ℕ) → Ready (pairs (suc n) i) s → Left name s ns t → Left value (with-word i c t) vs u
+    → Ready (pairs n (suc (suc i))) (with-word (suc i) v u)
+ready-after-value n i c v s t u ns vs x y₁ y₂ =
+    let r = ready-after-name n i c s t ns x y₁ in
+    let q = ready-next (n * 2) (suc i) v (with-word i c t) u (r .fits) (r .free) (y₂ .ranged) (y₂ .frame) in
+    record { ranged = q .ranged; fits = q .fits; free = q .free }
+
+left-pair : (n i c v : ℕ) (s t u w : State) (ns us vs : List ℕ) → Ready (pairs (suc n) i) s → Left name s ns t → Left value (with-word i c t) us u
+    → Left (pairs n (suc (suc i))) (with-word (suc i) v u) vs w → Left (pairs (suc n) i) s (c ∷ v ∷ vs) w
+left-pair n i c v s t u w ns us vs x y₁ y₂ z =
+    let h₀ : i + suc n * 2 ≤ length (s .references) = x .fits in
+    let h₁ : suc i + suc (n * 2) ≤ length (set (t .references) i c) = ready-after-name n i c s t ns x y₁ .fits in
+    let h₂ : length (set (t .references) i c) ≤ length (u .references) = y₂ .frame .references-grow in
+    let f : Frame (suc i) (with-word i c t) w =
+    frame-trans (frame-below (suc i) (omega arith) (y₂ .frame)) (frame-trans (frame-word (suc i) (suc i) v u (omega arith)) (frame-below (suc i) (omega arith) (z .frame))) in
+    let inner : range (w .references) (suc i) (suc (n * 2)) ≡ v ∷ vs = range-written u w (suc i) (n * 2) v vs (omega arith) (z .frame) (z .words) in
+    let outer : range (w .references) i (suc (suc (n * 2))) ≡ c ∷ v ∷ vs = range-written t w i (suc (n * 2)) c (v ∷ vs) (omega (arith, length-set (t .references) i c)) f inner in
+    record {
+      ranged = z .ranged;
+      frame = frame-trans (frame-below i (omega arith) (y₁ .frame)) (frame-trans (frame-word i i c t (omega arith)) (frame-below i (omega arith) f));
+      words = subst (λ (k : ℕ). range (w .references) i k ≡ c ∷ v ∷ vs) (psym (two-words n)) outer;
+    }
+
+-- ---- any trace
+
+pub left : {input : List ℕ} {room : Room} {m : Mode} {s t : State} {vs : List ℕ} → Trace input room m s vs t → Ready m s → Left m s vs t
+left {m = m} {s = s} {t = t} {vs = vs} (reading k a b x) h = left-reading m s t vs k (left x (ready-reading m s k h))
+left {m = m} {s = s} {vs = vs} (reading-after {t = t} k a b x) h = left-reading-after m s t vs k (left x h)
+left {s = s} {vs = vs} (plain r p l) h = left-plain s r vs p h
+left {m = m} {s = s} {vs = vs} (known b v o a l) h = left-known m o s v vs h
+left {m = m} {s = s} {vs = vs} (new b o n p l₁ l₂ l₃) h = left-new m o s (length (s .nodes)) b vs h
+left {m = m} {s = s} {vs = vs} (symbol-link i v o a) h = left-same m o s vs h
+left {m = m} {s = s} {vs = vs} (object-link i v a) h = left-same value tt s vs h
+left {s = s} {vs = vs} (list {t = t} {ms = ms} r q l₁ l₂ l₃ x) h = left-list s t r ms vs (length (s .nodes)) q h (left x (ready-opened (list-length r) s (h .ranged)))
+left {s = s} {vs = vs} (hash-default {t = t} {u = u} {ms = ms} {d = d} n l₁ l₂ l₃ x y) h =
+    let z = left x (ready-opened (n * 2) s (h .ranged)) in
+    left-hash-default s t u n d ms (d ∷ []) vs (length (s .nodes)) h z (left y (ready-value t (z .ranged)))
+left {s = s} {vs = vs} (object-pairs {t = t} {u = u} {ms = ms} {c = c} n l₁ l₂ x l₃ y) h =
+    let z = left x (ready-name (with-object-node nil s) (opened-ranged s (h .ranged))) in
+    left-object s t u n c (c ∷ []) ms vs (length (s .nodes)) h z (left y (ready-pairs n t (z .ranged)))
+left {s = s} {vs = vs} (string-bytes b p l₁ l₂ l₃) h = left-string s b vs h
+left {s = s} {vs = vs} (user-bytes {t = t} {c = c} b x p l₁ l₂ l₃) h = left-user s t c b (c ∷ []) vs (left x (ready-name s (h .ranged)))
+left {s = s} {vs = vs} (variables {t = t} {u = u} {ms = ms} {h = v} {r = r} {r′ = r′} n x l y a q) h =
+    let z = left x h in
+    left-variables s t u n v r r′ (v ∷ []) ms vs z (left y (ready-pairs n t (z .ranged))) a q
+left {s = s} (no-elements {i = i}) h = left-no-elements s i h
+left {s = s} (element {t = t} {u = u} {n = n} {i = i} {v = v} {vs = vs} x y) h =
+    let z = left x (ready-value s (h .ranged)) in
+    left-element n i v s t u (v ∷ []) vs h z (left y (ready-next n i v s t (h .fits) (h .free) (z .ranged) (z .frame)))
+left {s = s} (no-pairs {i = i}) h = left-no-pairs s i h
+left {s = s} (pair {t = t} {u = u} {w = w} {n = n} {i = i} {c = c} {v = v} {vs = vs} x y z) h =
+    let a = left x (ready-name s (h .ranged)) in
+    let b = left y (ready-value (with-word i c t) (ready-after-name n i c s t (c ∷ []) h a .ranged)) in
+    left-pair n i c v s t u w (c ∷ []) (v ∷ []) vs h a b (left z (ready-after-value n i c v s t u (c ∷ []) (v ∷ []) h a b))
+
+-- an accepted read of a value or of a name
+pub value-left : (input : List ℕ) (room : Room) (limit levels : ℕ) (s t : State) (v : ℕ) → Ranged s → read-value input room limit levels s ≡ ok v t → Left value s (v ∷ []) t
+value-left input room limit levels s t v h e = left (value-traced input room limit levels s t v e) (ready-value s h)
+
+pub name-left : (input : List ℕ) (room : Room) (s t : State) (v : ℕ) → Ranged s → read-symbol-like input room s ≡ ok v t → Left name s (v ∷ []) t
+name-left input room s t v h e = left (name-traced input room s t v e) (ready-name s h)

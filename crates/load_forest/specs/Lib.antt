@@ -1,0 +1,13 @@
+-- What an accepted load did.
+pub mod Views
+pub mod Trace
+pub mod Symbols
+pub mod Readers
+pub mod Frames
+pub mod Sound
+pub mod Kept
+pub mod Right
+pub mod Space
+pub mod Names
+pub mod Bytes
+pub mod Call

@@ -1,0 +1,516 @@
+-- The space an accepted load took: within the room given, and no less than what its nodes hold.
+use Prim.Native.Nat.{ℕ, zero, suc, _+_, _-_, _*_, _≤_, _<_}
+use mathlib.Core.Path.{_≡_, refl, ap, subst}
+use mathlib.Core.Path.{_∙_}
+use mathlib.Core.Bool.{true, false}
+use mathlib.Core.Logic.{_⊎_, inl, inr}
+use mathlib.Core.Option.{Option, none, some}
+use mathlib.Core.List.{List, [], _∷_, _++_, map}
+use lib.ListN.{length, getElem?, set, take, drop, replicate, length-set, length-append, length-replicate}
+use native.Mathlib.Omega.{arith}
+use Rattle.definition.specs.Run.{ok, pick}
+use Rattle.definition.specs.Node.{Row, Vars, nil, bool, fixnum, symbol, array, hash, object, string, user, absent, present}
+use Rattle.definition.specs.Arena.{Arena, range}
+use Rattle.definition.specs.Graph.{Header, header, vars-count}
+use Rattle.definition.specs.Load.{State, Room, at-set, begin, load}
+use Rattle.graph.specs.Lists.{At, len-snoc, apart}
+use Rattle.graph.specs.Sums.{sumTo}
+use Rattle.graph.specs.Forest.{Node, leaf, sym, box, list-words}
+use Rattle.graph.specs.Build.{Zero, paid, boxed, lf, Φ, wt, w}
+use Rattle.graph.specs.View.{see, seen, arena-of, state-seen}
+use Rattle.load_forest.specs.Views.{bytes-length, list-length, vars-length, row-seen, with-node, with-symbol, with-object-node, with-bytes, with-word, with-row, length-seen, syms-seen, seen-at}
+use Rattle.load_forest.specs.Trace.{Mode, Plain, plain-nil, plain-bool, plain-fixnum, Listed, is-array, is-hash, Varied, varied-string, varied-user, with-room, Trace, reading, reading-after, plain, known, new, symbol-link, object-link, list, hash-default, object-pairs, string-bytes, user-bytes, variables, no-elements, element, no-pairs, pair}
+use Rattle.load_forest.specs.Readers.{load-traced}
+use Rattle.load_forest.specs.Sound.{load-sound}
+use Rattle.load_forest.specs.Right.{IsName, load-right-state}
+
+-- ---- within the room
+
+pub record Within (room : Room) (s : State) : Type 0 where
+  pub nodes : length (s .nodes) ≤ room .nodes
+  pub references : length (s .references) ≤ room .references
+  pub bytes : length (s .bytes) ≤ room .bytes
+  pub symbols : length (s .symbols) ≤ room .symbols
+  pub objects : length (s .objects) ≤ room .objects
+
+module _ (room : Room) where
+  -- the same lengths, or less
+  within-same : (s t : State) → length (t .nodes) ≤ length (s .nodes) → length (t .references) ≤ length (s .references) → length (t .bytes) ≤ length (s .bytes)
+      → length (t .symbols) ≤ length (s .symbols) → length (t .objects) ≤ length (s .objects) → Within room s → Within room t
+  within-same s t n r b y o w = record {
+    nodes = omega (arith, w .nodes);
+    references = omega (arith, w .references);
+    bytes = omega (arith, w .bytes);
+    symbols = omega (arith, w .symbols);
+    objects = omega (arith, w .objects);
+  }
+
+  within-node : (r : Row) (s : State) → length (s .nodes) < room .nodes → Within room s → Within room (with-node r s)
+  within-node r s l w = record { nodes = omega (arith, len-snoc (s .nodes) r); references = w .references; bytes = w .bytes; symbols = w .symbols; objects = w .objects }
+
+  within-symbol : (h : ℕ) (s : State) → length (s .symbols) < room .symbols → Within room s → Within room (with-symbol h s)
+  within-symbol h s l w = record { nodes = w .nodes; references = w .references; bytes = w .bytes; symbols = omega (arith, len-snoc (s .symbols) h); objects = w .objects }
+
+  within-object-node : (r : Row) (s : State) → length (s .nodes) < room .nodes → length (s .objects) < room .objects → Within room s → Within room (with-object-node r s)
+  within-object-node r s l₁ l₂ w = record {
+    nodes = omega (arith, len-snoc (s .nodes) r);
+    references = w .references;
+    bytes = w .bytes;
+    symbols = w .symbols;
+    objects = omega (arith, len-snoc (s .objects) (length (s .nodes)));
+  }
+
+  within-bytes : (b : List ℕ) (s : State) → length b ≤ room .bytes - length (s .bytes) → Within room s → Within room (with-bytes b s)
+  within-bytes b s l w = record { nodes = w .nodes; references = w .references; bytes = omega (arith, length-append (s .bytes) b, w .bytes); symbols = w .symbols; objects = w .objects }
+
+  within-room : (n : ℕ) (s : State) → n ≤ room .references - length (s .references) → Within room s → Within room (with-room n s)
+  within-room n s l w = record {
+    nodes = w .nodes;
+    references = omega (arith, length-append (s .references) (replicate n 0), length-replicate {A = ℕ} n 0, w .references);
+    bytes = w .bytes;
+    symbols = w .symbols;
+    objects = w .objects;
+  }
+
+  within-word : (i v : ℕ) (s : State) → Within room s → Within room (with-word i v s)
+  within-word i v s w = within-same s (with-word i v s) (omega arith) (omega (arith, length-set (s .references) i v)) (omega arith) (omega arith) (omega arith) w
+
+  within-row : (h : ℕ) (r : Row) (s : State) → Within room s → Within room (with-row h r s)
+  within-row h r s w = within-same s (with-row h r s) (omega (arith, length-set (s .nodes) h r)) (omega arith) (omega arith) (omega arith) (omega arith) w
+
+  within-at-set : (k : ℕ) (s : State) → Within room s → Within room (at-set k s)
+  within-at-set k s w = record { nodes = w .nodes; references = w .references; bytes = w .bytes; symbols = w .symbols; objects = w .objects }
+
+pub within : {input : List ℕ} {room : Room} {m : Mode} {s t : State} {vs : List ℕ} → Trace input room m s vs t → Within room s → Within room t
+within {room = room} {s = s} (reading k a b x) w = within x (within-at-set room k s w)
+within {room = room} (reading-after {t = t} k a b x) w = within-at-set room k t (within x w)
+within {room = room} {s = s} (plain r p l) w = within-node room r s l w
+within {room = room} {s = s} (known b h o a l) w = within-symbol room h s l w
+within {room = room} {s = s} (new b o n p l₁ l₂ l₃) w = within-symbol room (length (s .nodes)) _ l₃ (within-node room _ (with-bytes b s) l₂ (within-bytes room b s l₁ w))
+within (symbol-link i h o a) w = w
+within (object-link i h a) w = w
+within {room = room} {s = s} (list {t = t} r q l₁ l₂ l₃ x) w =
+    within-row room (length (s .nodes)) r t (within x (within-room room (list-length r) (with-object-node nil s) l₃ (within-object-node room nil s l₁ l₂ w)))
+within {room = room} {s = s} (hash-default {u = u} n l₁ l₂ l₃ x y) w =
+    within-row room (length (s .nodes)) _ u (within y (within x (within-room room (n * 2) (with-object-node nil s) l₃ (within-object-node room nil s l₁ l₂ w))))
+within {room = room} {s = s} (object-pairs {t = t} {u = u} n l₁ l₂ x l₃ y) w =
+    within-row room (length (s .nodes)) _ u (within y (within-room room (n * 2) t l₃ (within x (within-object-node room nil s l₁ l₂ w))))
+within {room = room} {s = s} (string-bytes b p l₁ l₂ l₃) w = within-object-node room _ (with-bytes b s) l₂ l₃ (within-bytes room b s l₁ w)
+within {room = room} (user-bytes {t = t} b x p l₁ l₂ l₃) w = within-object-node room _ (with-bytes b t) l₂ l₃ (within-bytes room b t l₁ (within x w))
+within {room = room} (variables {t = t} {u = u} {h = h} {r′ = r′} n x l y a q) w = within-row room h r′ u (within y (within-room room (n * 2) t l (within x w)))
+within no-elements w = w
+within {room = room} (element {t = t} {i = i} {v = v} x y) w = within y (within-word room i v t (within x w))
+within no-pairs w = w
+within {room = room} (pair {t = t} {u = u} {i = i} {c = c} {v = v} x y z) w = within z (within-word room (suc i) v u (within y (within-word room i c t (within x w))))
+
+-- an accepted load kept within the room
+pub load-within : (input : List ℕ) (room : Room) (limit h : ℕ) (s : State) → 1 ≤ room .nodes → load input room limit ≡ ok h s → Within room s
+load-within input room limit h s l e = within (load-traced input room limit s h e) (record { nodes = l; references = omega arith; bytes = omega arith; symbols = omega arith; objects = omega arith })
+
+-- ---- what the rows hold was taken
+
+unfoldable pub is-box : Row → ℕ
+is-box nil = 0
+is-box (bool b) = 0
+is-box (fixnum w) = 0
+is-box (symbol s l) = 0
+is-box (array s n) = 1
+is-box (hash s n d) = 1
+is-box (object s n c) = 1
+is-box (string s l v) = 1
+is-box (user s l c v) = 1
+
+unfoldable pub is-symbol : Row → ℕ
+is-symbol nil = 0
+is-symbol (bool b) = 0
+is-symbol (fixnum w) = 0
+is-symbol (symbol s l) = 1
+is-symbol (array s n) = 0
+is-symbol (hash s n d) = 0
+is-symbol (object s n c) = 0
+is-symbol (string s l v) = 0
+is-symbol (user s l c v) = 0
+
+-- a weight summed over a list
+abbrev pub total : {A : Type 0} → (A → ℕ) → List A → ℕ
+total w [] = 0
+total w (x ∷ l) = w x + total w l
+
+module _ {A : Type 0} (w : A → ℕ) where
+  total-snoc : (l : List A) (x : A) → total w (l ++ (x ∷ [])) ≡ total w l + w x
+  total-snoc [] x = omega arith
+  total-snoc (y ∷ l) x = omega (arith, total-snoc l x)
+
+  total-set : (l : List A) (i : ℕ) (x y : A) → At l i y → total w (set l i x) + w y ≡ total w l + w x
+  total-set [] i x y e = apart (cc)
+  total-set (z ∷ l) zero x y e = let q : z ≡ y = cc in rw q (omega arith)
+  total-set (z ∷ l) (suc i) x y e = omega (arith, total-set l i x y e)
+
+  total-set-most : (l : List A) (i : ℕ) (x : A) → total w (set l i x) ≤ total w l + w x
+  total-set-most [] i x = omega arith
+  total-set-most (z ∷ l) zero x = omega arith
+  total-set-most (z ∷ l) (suc i) x = omega (arith, total-set-most l i x)
+
+-- from s to t the rows gained no more than was taken
+record Covered (s t : State) : Type 0 where
+  words : total list-length (t .nodes) + length (s .references) ≤ total list-length (s .nodes) + length (t .references)
+  bytes : total bytes-length (t .nodes) + length (s .bytes) ≤ total bytes-length (s .nodes) + length (t .bytes)
+  boxes : total is-box (t .nodes) + length (s .objects) ≤ total is-box (s .nodes) + length (t .objects)
+  names : total is-symbol (t .nodes) + length (s .symbols) ≤ total is-symbol (s .nodes) + length (t .symbols)
+
+covered-same : (s t : State) → t .nodes ≡ s .nodes → length (s .references) ≤ length (t .references) → length (s .bytes) ≤ length (t .bytes) → length (s .objects) ≤ length (t .objects)
+    → length (s .symbols) ≤ length (t .symbols) → Covered s t
+covered-same s t n r b o y = record { words = rw n (omega arith); bytes = rw n (omega arith); boxes = rw n (omega arith); names = rw n (omega arith) }
+
+covered-refl : (s : State) → Covered s s
+covered-refl s = covered-same s s refl (omega arith) (omega arith) (omega arith) (omega arith)
+
+covered-trans : {s t u : State} → Covered s t → Covered t u → Covered s u
+covered-trans x y = record {
+  words = omega (arith, x .words, y .words);
+  bytes = omega (arith, x .bytes, y .bytes);
+  boxes = omega (arith, x .boxes, y .boxes);
+  names = omega (arith, x .names, y .names);
+}
+
+-- the four weights of a row
+record Weighs (r : Row) (words bytes boxes names : ℕ) : Type 0 where
+  words-are : list-length r ≡ words
+  bytes-are : bytes-length r ≡ bytes
+  boxes-are : is-box r ≡ boxes
+  names-are : is-symbol r ≡ names
+
+plain-weighs : {input : List ℕ} (r : Row) → Plain input r → Weighs r 0 0 0 0
+unfolding list-length bytes-length is-box is-symbol
+plain-weighs r plain-nil = record { words-are = refl; bytes-are = refl; boxes-are = refl; names-are = refl }
+plain-weighs r (plain-bool b) = record { words-are = refl; bytes-are = refl; boxes-are = refl; names-are = refl }
+plain-weighs r (plain-fixnum w s t e) = record { words-are = refl; bytes-are = refl; boxes-are = refl; names-are = refl }
+
+nil-weighs : Weighs nil 0 0 0 0
+unfolding list-length bytes-length is-box is-symbol
+nil-weighs = record { words-are = refl; bytes-are = refl; boxes-are = refl; names-are = refl }
+
+symbol-weighs : (a l : ℕ) → Weighs (symbol a l) 0 l 0 1
+unfolding list-length bytes-length is-box is-symbol
+symbol-weighs a l = record { words-are = refl; bytes-are = refl; boxes-are = refl; names-are = refl }
+
+listed-weighs : {p : ℕ} (r : Row) → Listed p r → Weighs r (list-length r) 0 1 0
+unfolding bytes-length is-box is-symbol
+listed-weighs r (is-array n) = record { words-are = refl; bytes-are = refl; boxes-are = refl; names-are = refl }
+listed-weighs r (is-hash n) = record { words-are = refl; bytes-are = refl; boxes-are = refl; names-are = refl }
+
+hash-weighs : (p n d : ℕ) → Weighs (hash p n d) (n * 2) 0 1 0
+unfolding list-length bytes-length is-box is-symbol
+hash-weighs p n d = record { words-are = refl; bytes-are = refl; boxes-are = refl; names-are = refl }
+
+object-weighs : (p n c : ℕ) → Weighs (object p n c) (n * 2) 0 1 0
+unfolding list-length bytes-length is-box is-symbol
+object-weighs p n c = record { words-are = refl; bytes-are = refl; boxes-are = refl; names-are = refl }
+
+string-weighs : (a l : ℕ) → Weighs (string a l absent) 0 l 1 0
+unfolding list-length bytes-length is-box is-symbol vars-length
+string-weighs a l = record { words-are = refl; bytes-are = refl; boxes-are = refl; names-are = refl }
+
+user-weighs : (a l c : ℕ) → Weighs (user a l c absent) 0 l 1 0
+unfolding list-length bytes-length is-box is-symbol vars-length
+user-weighs a l c = record { words-are = refl; bytes-are = refl; boxes-are = refl; names-are = refl }
+
+-- a row and the same with variables
+record SameBut (n : ℕ) (r r′ : Row) : Type 0 where
+  new-words : list-length r′ ≡ n * 2
+  same-bytes : bytes-length r′ ≡ bytes-length r
+  same-boxes : is-box r′ ≡ is-box r
+  same-names : is-symbol r′ ≡ is-symbol r
+
+varied-same : {p n : ℕ} (r r′ : Row) → Varied p n r r′ → SameBut n r r′
+unfolding list-length bytes-length is-box is-symbol vars-length
+varied-same r r′ varied-string = record { new-words = refl; same-bytes = refl; same-boxes = refl; same-names = refl }
+varied-same r r′ varied-user = record { new-words = refl; same-bytes = refl; same-boxes = refl; same-names = refl }
+
+-- a row is added, and what it weighs is taken besides: s to t
+covered-added : (s t : State) (r : Row) (l b x y : ℕ) → Weighs r l b x y → t .nodes ≡ s .nodes ++ (r ∷ [])
+    → length (s .references) + l ≤ length (t .references) → length (s .bytes) + b ≤ length (t .bytes) → length (s .objects) + x ≤ length (t .objects) → length (s .symbols) + y ≤ length (t .symbols) → Covered s t
+covered-added s t r l b x y w n h₁ h₂ h₃ h₄ = record {
+  words = rw n (omega (arith, total-snoc list-length (s .nodes) r, w .words-are));
+  bytes = rw n (omega (arith, total-snoc bytes-length (s .nodes) r, w .bytes-are));
+  boxes = rw n (omega (arith, total-snoc is-box (s .nodes) r, w .boxes-are));
+  names = rw n (omega (arith, total-snoc is-symbol (s .nodes) r, w .names-are));
+}
+
+-- from s to t, with l reference words more than the rows gained
+Spare : ℕ → State → State → Type 0
+Spare l s t = total list-length (t .nodes) + l + length (s .references) ≤ total list-length (s .nodes) + length (t .references)
+
+-- a node opened at s is filled at t; the words of its list were reserved on the way
+covered-filled : (s t : State) (h l : ℕ) (r : Row) → Weighs r l 0 1 0 → Covered (with-object-node nil s) t → Spare l (with-object-node nil s) t → Covered s (with-row h r t)
+unfolding Spare
+covered-filled s t h l r w c p = record {
+  words = omega (arith, total-snoc list-length (s .nodes) nil, total-set-most list-length (t .nodes) h r, w .words-are, nil-weighs .words-are, p);
+  bytes = omega (arith, total-snoc bytes-length (s .nodes) nil, total-set-most bytes-length (t .nodes) h r, w .bytes-are, nil-weighs .bytes-are, c .bytes);
+  boxes = omega (arith, total-snoc is-box (s .nodes) nil, total-set-most is-box (t .nodes) h r, w .boxes-are, nil-weighs .boxes-are, len-snoc (s .objects) (length (s .nodes)), c .boxes);
+  names = omega (arith, total-snoc is-symbol (s .nodes) nil, total-set-most is-symbol (t .nodes) h r, w .names-are, nil-weighs .names-are, c .names);
+}
+
+covered-room : (n : ℕ) (s : State) → Covered s (with-room n s)
+covered-room n s = covered-same s (with-room n s) refl (omega (arith, length-append (s .references) (replicate n 0))) (omega arith) (omega arith) (omega arith)
+
+covered-word : (i v : ℕ) (s : State) → Covered s (with-word i v s)
+covered-word i v s = covered-same s (with-word i v s) refl (omega (arith, length-set (s .references) i v)) (omega arith) (omega arith) (omega arith)
+
+covered-at-set : (k : ℕ) (s : State) → Covered s (at-set k s)
+covered-at-set k s = covered-same s (at-set k s) refl (omega arith) (omega arith) (omega arith) (omega arith)
+
+-- words reserved at s are spare at t
+spare-room : (n : ℕ) (s t : State) → Covered (with-room n s) t → Spare n s t
+unfolding Spare
+spare-room n s t c = omega (arith, c .words, length-append (s .references) (replicate n 0), length-replicate {A = ℕ} n 0)
+
+spare-after : (n : ℕ) (s t u : State) → Spare n s t → Covered t u → Spare n s u
+unfolding Spare
+spare-after n s t u p c = omega (arith, c .words, p)
+
+spare-before : (n : ℕ) (s t u : State) → Covered s t → Spare n t u → Spare n s u
+unfolding Spare
+spare-before n s t u c p = omega (arith, c .words, p)
+
+covered-varied : (s u : State) (n h : ℕ) (r r′ : Row) → At (u .nodes) h r → SameBut n r r′ → Covered s u → Spare (n * 2) s u → Covered s (with-row h r′ u)
+unfolding Spare
+covered-varied s u n h r r′ a q c p = record {
+  words = omega (arith, total-set-most list-length (u .nodes) h r′, q .new-words, p);
+  bytes = omega (arith, total-set bytes-length (u .nodes) h r′ r a, q .same-bytes, c .bytes);
+  boxes = omega (arith, total-set is-box (u .nodes) h r′ r a, q .same-boxes, c .boxes);
+  names = omega (arith, total-set is-symbol (u .nodes) h r′ r a, q .same-names, c .names);
+}
+
+covered : {input : List ℕ} {room : Room} {m : Mode} {s t : State} {vs : List ℕ} → Trace input room m s vs t → Covered s t
+covered {s = s} (reading k a b x) = covered-trans (covered-at-set k s) (covered x)
+covered (reading-after {t = t} k a b x) = covered-trans (covered x) (covered-at-set k t)
+covered {s = s} (plain r p l) = covered-added s (with-node r s) r 0 0 0 0 (plain-weighs r p) refl (omega arith) (omega arith) (omega arith) (omega arith)
+covered {s = s} (known b h o a l) = covered-same s (with-symbol h s) refl (omega arith) (omega arith) (omega arith) (omega (arith, len-snoc (s .symbols) h))
+covered {s = s} {t = t} (new b o n p l₁ l₂ l₃) =
+    covered-added s t (symbol (length (s .bytes)) (length b)) 0 (length b) 0 1 (symbol-weighs _ _) refl (omega arith) (omega (arith, length-append (s .bytes) b)) (omega arith) (omega (arith, len-snoc (s .symbols) (length (s .nodes))))
+covered {s = s} (symbol-link i h o a) = covered-refl s
+covered {s = s} (object-link i h a) = covered-refl s
+covered {s = s} (list {t = t} r q l₁ l₂ l₃ x) =
+    let s₁ = with-object-node nil s in
+    covered-filled s t (length (s .nodes)) (list-length r) r (listed-weighs r q) (covered-trans (covered-room (list-length r) s₁) (covered x)) (spare-room (list-length r) s₁ t (covered x))
+covered {s = s} (hash-default {t = t} {u = u} {d = d} n l₁ l₂ l₃ x y) =
+    let s₁ = with-object-node nil s in
+    covered-filled s u (length (s .nodes)) (n * 2) (hash (length (s .references)) n (d + 1)) (hash-weighs _ n (d + 1)) (covered-trans (covered-room (n * 2) s₁) (covered-trans (covered x) (covered y)))
+    (spare-after (n * 2) s₁ t u (spare-room (n * 2) s₁ t (covered x)) (covered y))
+covered {s = s} (object-pairs {t = t} {u = u} {c = c} n l₁ l₂ x l₃ y) =
+    let s₁ = with-object-node nil s in
+    covered-filled s u (length (s .nodes)) (n * 2) (object (length (t .references)) n c) (object-weighs _ n c) (covered-trans (covered x) (covered-trans (covered-room (n * 2) t) (covered y)))
+    (spare-before (n * 2) s₁ t u (covered x) (spare-room (n * 2) t u (covered y)))
+covered {s = s} {t = t} (string-bytes b p l₁ l₂ l₃) =
+    covered-added s t (string (length (s .bytes)) (length b) absent) 0 (length b) 1 0 (string-weighs _ _) refl (omega arith) (omega (arith, length-append (s .bytes) b)) (omega (arith, len-snoc (s .objects) (length (s .nodes)))) (omega arith)
+covered {t = t} (user-bytes {t = u} {c = c} b x p l₁ l₂ l₃) =
+    covered-trans (covered x)
+    (covered-added u t (user (length (u .bytes)) (length b) c absent) 0 (length b) 1 0 (user-weighs _ _ c) refl (omega arith) (omega (arith, length-append (u .bytes) b)) (omega (arith, len-snoc (u .objects) (length (u .nodes)))) (omega arith))
+covered {s = s} (variables {t = t} {u = u} {h = h} {r = r} {r′ = r′} n x l y a q) =
+    covered-varied s u n h r r′ a (varied-same r r′ q) (covered-trans (covered x) (covered-trans (covered-room (n * 2) t) (covered y))) (spare-before (n * 2) s t u (covered x) (spare-room (n * 2) t u (covered y)))
+covered {s = s} no-elements = covered-refl s
+covered (element {t = t} {i = i} {v = v} x y) = covered-trans (covered x) (covered-trans (covered-word i v t) (covered y))
+covered {s = s} no-pairs = covered-refl s
+covered (pair {t = t} {u = u} {i = i} {c = c} {v = v} x y z) = covered-trans (covered x) (covered-trans (covered-word i c t) (covered-trans (covered y) (covered-trans (covered-word (suc i) v u) (covered z))))
+
+-- ---- the same for the nodes seen
+
+-- the words of a node's list, its bytes; is it a box, a symbol?
+unfoldable pub node-words : Node → ℕ
+node-words (leaf k x) = 0
+node-words (sym b) = 0
+node-words (box h ms) = list-words h
+
+unfoldable pub node-bytes : Node → ℕ
+node-bytes (leaf k x) = 0
+node-bytes (sym b) = length b
+node-bytes (box h ms) = length (h .bytes)
+
+unfoldable pub node-box : Node → ℕ
+node-box (leaf k x) = 0
+node-box (sym b) = 0
+node-box (box h ms) = 1
+
+unfoldable pub node-sym : Node → ℕ
+node-sym (leaf k x) = 0
+node-sym (sym b) = 1
+node-sym (box h ms) = 0
+
+vars-words : (v : Vars) → vars-count v * 2 ≤ vars-length v
+unfolding vars-count vars-length
+vars-words absent = omega arith
+vars-words (present p n) = omega arith
+
+see-words : (A : Arena) (r : Row) → node-words (see A r) ≤ list-length r
+unfolding node-words see header list-length pick
+see-words A nil = omega arith
+see-words A (bool true) = omega arith
+see-words A (bool false) = omega arith
+see-words A (fixnum w) = omega arith
+see-words A (symbol s l) = omega arith
+see-words A (array s n) = omega arith
+see-words A (hash s n d) = omega arith
+see-words A (object s n c) = omega arith
+see-words A (string s l v) = vars-words v
+see-words A (user s l c v) = vars-words v
+
+range-most : (l : List ℕ) (a n : ℕ) → length (range l a n) ≤ n
+unfolding range
+range-most l a n = go n (drop a l)
+  where
+    go : (n : ℕ) (l : List ℕ) → length (take n l) ≤ n
+    go zero l = omega arith
+    go (suc n) [] = omega arith
+    go (suc n) (x ∷ l) = omega (arith, go n l)
+
+see-bytes : (A : Arena) (r : Row) → node-bytes (see A r) ≤ bytes-length r
+unfolding node-bytes see header bytes-length
+see-bytes A nil = omega arith
+see-bytes A (bool true) = omega arith
+see-bytes A (bool false) = omega arith
+see-bytes A (fixnum w) = omega arith
+see-bytes A (symbol s l) = range-most (A .bytes) s l
+see-bytes A (array s n) = omega arith
+see-bytes A (hash s n d) = omega arith
+see-bytes A (object s n c) = omega arith
+see-bytes A (string s l v) = range-most (A .bytes) s l
+see-bytes A (user s l c v) = range-most (A .bytes) s l
+
+see-box : (A : Arena) (r : Row) → node-box (see A r) ≤ is-box r
+unfolding node-box see is-box
+see-box A nil = omega arith
+see-box A (bool true) = omega arith
+see-box A (bool false) = omega arith
+see-box A (fixnum w) = omega arith
+see-box A (symbol s l) = omega arith
+see-box A (array s n) = omega arith
+see-box A (hash s n d) = omega arith
+see-box A (object s n c) = omega arith
+see-box A (string s l v) = omega arith
+see-box A (user s l c v) = omega arith
+
+see-sym : (A : Arena) (r : Row) → node-sym (see A r) ≤ is-symbol r
+unfolding node-sym see is-symbol
+see-sym A nil = omega arith
+see-sym A (bool true) = omega arith
+see-sym A (bool false) = omega arith
+see-sym A (fixnum w) = omega arith
+see-sym A (symbol s l) = omega arith
+see-sym A (array s n) = omega arith
+see-sym A (hash s n d) = omega arith
+see-sym A (object s n c) = omega arith
+see-sym A (string s l v) = omega arith
+see-sym A (user s l c v) = omega arith
+
+total-map : {A C : Type 0} (w : C → ℕ) (u : A → ℕ) (f : A → C) → ((x : A) → w (f x) ≤ u x) → (l : List A) → total w (map f l) ≤ total u l
+total-map w u f h [] = omega arith
+total-map w u f h (x ∷ l) = omega (arith, h x, total-map w u f h l)
+
+seen-total : (w : Node → ℕ) (u : Row → ℕ) (s : State) → ((A : Arena) (r : Row) → w (see A r) ≤ u r) → total w (state-seen s .nodes) ≤ total u (s .nodes)
+unfolding state-seen seen
+seen-total w u s h = total-map w u (see (arena-of s 0)) (h (arena-of s 0)) (s .nodes)
+
+-- what the nodes of a loaded arena hold
+pub record Holds (s : State) : Type 0 where
+  pub words : total node-words (state-seen s .nodes) ≤ length (s .references)
+  pub bytes : total node-bytes (state-seen s .nodes) ≤ length (s .bytes)
+  pub boxes : total node-box (state-seen s .nodes) ≤ length (s .objects)
+  pub names : total node-sym (state-seen s .nodes) ≤ length (s .symbols)
+
+pub load-holds : (input : List ℕ) (room : Room) (limit h : ℕ) (s : State) → load input room limit ≡ ok h s → Holds s
+unfolding list-length bytes-length is-box is-symbol
+load-holds input room limit h s e =
+    let c = covered (load-traced input room limit s h e) in
+    record {
+      words = omega (arith, c .words, seen-total node-words list-length s see-words);
+      bytes = omega (arith, c .bytes, seen-total node-bytes bytes-length s see-bytes);
+      boxes = omega (arith, c .boxes, seen-total node-box is-box s see-box);
+      names = omega (arith, c .names, seen-total node-sym is-symbol s see-sym);
+    }
+
+-- a weight summed by number
+abbrev pub weight-at : {A : Type 0} → (A → ℕ) → Option A → ℕ
+weight-at w none = 0
+weight-at w (some x) = w x
+
+-- the sum over all numbers is the sum over the list
+pub sum-to-total : {A : Type 0} (w : A → ℕ) (l : List A) → sumTo (λ v. weight-at w (getElem? l v)) (length l) ≡ total w l
+sum-to-total w [] = refl
+sum-to-total w (x ∷ l) = shift (λ v. weight-at w (getElem? (x ∷ l) v)) (length l) ∙ ap (λ (n : ℕ). w x + n) (sum-to-total w l)
+  where
+    shift : (f : ℕ → ℕ) (n : ℕ) → sumTo f (suc n) ≡ f 0 + sumTo (λ v. f (suc v)) n
+    shift f zero = omega arith
+    shift f (suc n) = omega (arith, shift f n)
+
+pub lf-most : (P : List Node) (v : ℕ) → lf P v ≤ 1
+lf-most P v = go (getElem? P v) refl
+  where
+    go : (o : Option Node) → getElem? P v ≡ o → lf P v ≤ 1
+    go none e = rw e (omega arith)
+    go (some (leaf k x)) e = rw e (omega arith)
+    go (some (sym b)) e = rw e (omega arith)
+    go (some (box h ms)) e = rw e (omega arith)
+
+-- a box, a symbol and the leaves in boxes, by number as in a description and by list as in a building
+pub sum-wt : (P : List Node) → sumTo (wt P) (length P) ≡ Φ (lf P) (lf-most P) P
+sum-wt P = sum-same (wt P) (λ v. weight-at (w (lf P) (lf-most P)) (getElem? P v)) (length P) (λ v. same (getElem? P v) v refl) ∙ sum-to-total (w (lf P) (lf-most P)) P ∙ by-list P
+  where
+    sum-same : (f g : ℕ → ℕ) (n : ℕ) → ((v : ℕ) → f v ≡ g v) → sumTo f n ≡ sumTo g n
+    sum-same f g zero h = refl
+    sum-same f g (suc n) h = rw (sum-same f g n h, h n)
+
+    same : (o : Option Node) (v : ℕ) → getElem? P v ≡ o → wt P v ≡ weight-at (w (lf P) (lf-most P)) (getElem? P v)
+    same none v e = rw e
+    same (some (leaf k x)) v e = rw e
+    same (some (sym b)) v e = rw e
+    same (some (box h ms)) v e = rw e
+
+    by-list : (l : List Node) → total (w (lf P) (lf-most P)) l ≡ Φ (lf P) (lf-most P) l
+    by-list [] = refl
+    by-list (x ∷ l) = rw (by-list l)
+
+-- ---- nodes: no more leaves are members than were made
+
+box-no-leaf : (P : List Node) (v : ℕ) (h : Header) (ms : List ℕ) → At P v (box h ms) → lf P v ≡ 0
+box-no-leaf P v h ms e = rw e
+
+sym-no-leaf : (P : List Node) (v : ℕ) (b : List ℕ) → At P v (sym b) → lf P v ≡ 0
+sym-no-leaf P v b e = rw e
+
+name-seen : (s : State) (a l : ℕ) → row-seen s (symbol a l) ≡ sym (range (s .bytes) a l)
+unfolding see
+name-seen s a l = refl
+
+no-objects : {A : Type 0} (k v : ℕ) → At (state-seen begin .objs) k v → A
+unfolding state-seen
+no-objects k v a = apart (cc)
+
+-- numbers on both lists are no leaves at the end
+pub load-zero : (input : List ℕ) (room : Room) (limit h : ℕ) (s : State) → load input room limit ≡ ok h s → Zero (lf (state-seen s .nodes)) (lf-most (state-seen s .nodes)) (state-seen s)
+load-zero input room limit h s e = record {
+  zo = λ k v a. object k v (boxed (load-sound input room limit h s e .1) k v a);
+  zs = λ k v a. name k v (load-right-state input room limit h s e .0 .symbols k v (rw (syms-seen s) at a));
+}
+  where
+    object : (k v : ℕ) → At (state-seen begin .objs) k v ⊎ ((h : Header) × (ms : List ℕ) × At (state-seen s .nodes) v (box h ms)) → lf (state-seen s .nodes) v ≡ 0
+    object k v (inl x) = no-objects k v x
+    object k v (inr (h′, ms, x)) = box-no-leaf (state-seen s .nodes) v h′ ms x
+
+    name : (k v : ℕ) → IsName s v → lf (state-seen s .nodes) v ≡ 0
+    name k v (i, l, x) = sym-no-leaf (state-seen s .nodes) v (range (s .bytes) i l) (seen-at s v (symbol i l) x ∙ ap some (name-seen s i l))
+
+begin-nodes : state-seen begin .nodes ≡ leaf 0 0 ∷ []
+unfolding state-seen seen see
+begin-nodes = refl
+
+-- each box and each symbol, and each leaf that is a member of a box or the root, is a node besides the first
+pub load-paid : (input : List ℕ) (room : Room) (limit h : ℕ) (s : State) → load input room limit ≡ ok h s
+    → Φ (lf (state-seen s .nodes)) (lf-most (state-seen s .nodes)) (state-seen s .nodes) + lf (state-seen s .nodes) h + 1 ≤ length (s .nodes)
+load-paid input room limit h s e =
+    let P = state-seen s .nodes in
+    let w = lf P in
+    let le = lf-most P in
+    let p = paid w le (load-sound input room limit h s e .1) (load-zero input room limit h s e) in
+    let q : Φ w le P + (w h + 0) + 1 ≤ 0 + 0 + length P = subst (λ (l : List Node). Φ w le P + (w h + 0) + length l ≤ Φ w le l + length P) begin-nodes p in
+    omega (arith, length-seen s)

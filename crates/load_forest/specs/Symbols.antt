@@ -1,0 +1,121 @@
+-- The search for a symbol by its name: what it finds is seen with that name, and it misses none.
+use Prim.Native.Nat.{ℕ, zero, suc, _+_}
+use mathlib.Core.Path.{_≡_, refl, ap}
+use mathlib.Core.Path.{sym as psym}
+use mathlib.Core.Bool.{Bool, true, false}
+use mathlib.Core.Option.{Option, none, some}
+use mathlib.Core.List.{List, [], _∷_}
+use lib.Dec.{eqb}
+use native.Mathlib.Omega.{arith}
+use Rattle.definition.specs.Run.{pick}
+use Rattle.definition.specs.Node.{Row, nil, bool, fixnum, symbol, array, hash, object, string, user, kind, equal}
+use Rattle.definition.specs.Arena.{Arena, range, name-of, named, find-symbol}
+use Rattle.definition.specs.Load.{State}
+use Rattle.graph.specs.Lists.{At, NotIn, apart, eqb-yes, yes-eqb}
+use Rattle.graph.specs.Forest.{sym}
+use Rattle.graph.specs.View.{see, arena-of, state-seen}
+use Rattle.load_forest.specs.Views.{row-seen, seen-at, seen-at-inv}
+
+no-true : {A : Type 0} → false ≡ true → A
+no-true e = apart (cc)
+
+pub equal-yes : (l m : List ℕ) → equal l m ≡ true → l ≡ m
+unfolding equal pick
+equal-yes [] [] e = refl
+equal-yes [] (b ∷ m) e = no-true e
+equal-yes (a ∷ l) [] e = no-true e
+equal-yes (a ∷ l) (b ∷ m) e = go (eqb a b) refl e (equal-yes l m)
+  where
+    go : (x : Bool) → eqb a b ≡ x → pick x (equal l m) false ≡ true → (equal l m ≡ true → l ≡ m) → a ∷ l ≡ b ∷ m
+    go true p q ih = rw (eqb-yes a b p, ih q)
+    go false p q ih = no-true q
+
+pub yes-equal : (l : List ℕ) → equal l l ≡ true
+unfolding equal pick
+yes-equal [] = refl
+yes-equal (a ∷ l) = rw (yes-eqb a) (yes-equal l)
+
+-- a row of kind 3 with the name b is seen as the symbol b, and no other row is
+named-seen : (s : State) (b : List ℕ) (r : Row) → named (s .bytes) b r ≡ true → row-seen s r ≡ sym b
+unfolding named kind name-of see
+named-seen s b nil e = no-true e
+named-seen s b (bool x) e = no-true e
+named-seen s b (fixnum w) e = no-true e
+named-seen s b (symbol a l) e = ap sym (psym (equal-yes b (range (s .bytes) a l) e))
+named-seen s b (array a n) e = no-true e
+named-seen s b (hash a n d) e = no-true e
+named-seen s b (object a n c) e = no-true e
+named-seen s b (string a l v) e = no-true e
+named-seen s b (user a l c v) e = no-true e
+
+-- a row that is seen as a symbol
+pub symbol-of : (A : Arena) (b : List ℕ) (r : Row) → see A r ≡ sym b → (a : ℕ) × (l : ℕ) × (r ≡ symbol a l) × (range (A .bytes) a l ≡ b)
+unfolding see
+symbol-of A b nil e = apart (cc)
+symbol-of A b (bool true) e = apart (cc)
+symbol-of A b (bool false) e = apart (cc)
+symbol-of A b (fixnum w) e = apart (cc)
+symbol-of A b (symbol a l) e = (a, l, refl, cc)
+symbol-of A b (array a n) e = apart (cc)
+symbol-of A b (hash a n d) e = apart (cc)
+symbol-of A b (object a n c) e = apart (cc)
+symbol-of A b (string a l v) e = apart (cc)
+symbol-of A b (user a l c v) e = apart (cc)
+
+named-symbol : (bytes b : List ℕ) (a l : ℕ) → range bytes a l ≡ b → named bytes b (symbol a l) ≡ true
+unfolding named kind name-of
+named-symbol bytes b a l e = rw e (yes-equal b)
+
+seen-named : (s : State) (b : List ℕ) (r : Row) → row-seen s r ≡ sym b → named (s .bytes) b r ≡ true
+seen-named s b r e =
+    let (a, l, q, z) = symbol-of (arena-of s 0) b r e in
+    rw q (named-symbol (s .bytes) b a l z)
+
+found-row : (bytes b : List ℕ) (rows : List Row) (i h : ℕ) → find-symbol bytes b rows i ≡ some h → (k : ℕ) × (r : Row) × (h ≡ i + k) × At rows k r × (named bytes b r ≡ true)
+unfolding find-symbol pick
+found-row bytes b [] i h e = apart (cc)
+found-row bytes b (r ∷ rows) i h e = go (named bytes b r) refl e (found-row bytes b rows (suc i) h)
+  where
+    later : (k : ℕ) × (q : Row) × (h ≡ suc i + k) × At rows k q × (named bytes b q ≡ true) → (k : ℕ) × (q : Row) × (h ≡ i + k) × At (r ∷ rows) k q × (named bytes b q ≡ true)
+    later (k, q, z, a, n) = (suc k, q, omega arith, a, n)
+
+    go : (x : Bool) → named bytes b r ≡ x → pick x (some i) (find-symbol bytes b rows (suc i)) ≡ some h
+        → (find-symbol bytes b rows (suc i) ≡ some h → (k : ℕ) × (q : Row) × (h ≡ suc i + k) × At rows k q × (named bytes b q ≡ true))
+        → (k : ℕ) × (q : Row) × (h ≡ i + k) × At (r ∷ rows) k q × (named bytes b q ≡ true)
+    go true p q ih = let z : i ≡ h = cc in (0, r, omega arith, refl, p)
+    go false p q ih = later (ih q)
+
+missed-row : (bytes b : List ℕ) (rows : List Row) (i k : ℕ) (r : Row) → find-symbol bytes b rows i ≡ none → At rows k r → named bytes b r ≡ true → ⊥
+unfolding find-symbol pick
+missed-row bytes b [] i k r e a n = apart (cc)
+missed-row bytes b (q ∷ rows) i zero r e a n =
+    let z : q ≡ r = cc in
+    let y : pick (named bytes b r) (some i) (find-symbol bytes b rows (suc i)) ≡ none = rw z at e in
+    let x : some i ≡ none = rw n at y in
+    apart (cc)
+missed-row bytes b (q ∷ rows) i (suc k) r e a n = go (named bytes b q) e (λ p. missed-row bytes b rows (suc i) k r p a n)
+  where
+    go : (x : Bool) → pick x (some i) (find-symbol bytes b rows (suc i)) ≡ none → (find-symbol bytes b rows (suc i) ≡ none → ⊥) → ⊥
+    go true p ih = apart (cc)
+    go false p ih = ih p
+
+-- the symbol that is found
+pub found : (s : State) (b : List ℕ) (h : ℕ) → find-symbol (s .bytes) b (s .nodes) 0 ≡ some h → At (state-seen s .nodes) h (sym b)
+found s b h e =
+    let (k, r, z, a, n) = found-row (s .bytes) b (s .nodes) 0 h e in
+    let y : h ≡ k = omega arith in
+    rw (y, ← (named-seen s b r n)) (seen-at s k r a)
+
+-- none is found: there is none
+pub missed : (s : State) (b : List ℕ) → find-symbol (s .bytes) b (s .nodes) 0 ≡ none → NotIn (sym b) (state-seen s .nodes)
+missed s b e k a =
+    let (r, x, y) = seen-at-inv s k (sym b) a in
+    missed-row (s .bytes) b (s .nodes) 0 k r e x (seen-named s b r y)
+
+-- there is none: none is found
+pub not-found : (s : State) (b : List ℕ) → NotIn (sym b) (state-seen s .nodes) → find-symbol (s .bytes) b (s .nodes) 0 ≡ none
+not-found s b n = go (find-symbol (s .bytes) b (s .nodes) 0) refl
+  where
+    go : (x : Option ℕ) → find-symbol (s .bytes) b (s .nodes) 0 ≡ x → x ≡ none
+    go none e = refl
+    go (some h) e = absurd (n h (found s b h e))
