@@ -48,7 +48,7 @@ module _ (l : List ℕ) (start n count i : ℕ) (h : start + n ≤ length l) whe
 -- ---- names
 
 -- a row is a symbol exactly where word 0 is 3
-kind-three : (k a b s n c f : ℕ) → eqb (kind (row-of k a b s n c f)) 3 ≡ eqb k 3
+pub kind-three : (k a b s n c f : ℕ) → eqb (kind (row-of k a b s n c f)) 3 ≡ eqb k 3
 unfolding row-of pick kind
 kind-three zero a b s n c f = refl
 kind-three (suc zero) a b s n c f = refl

@@ -26,7 +26,7 @@ unfolding bytes-right
 bytes-at A start n stored x y e p q = λ i. leb (p i + q i) (sym e i)
 
 -- a part of the first entries is a part of them all
-range-take : (l : List ℕ) (used start n : ℕ) → start + n ≤ used → range (take used l) start n ≡ range l start n
+pub range-take : (l : List ℕ) (used start n : ℕ) → start + n ≤ used → range (take used l) start n ≡ range l start n
 unfolding range
 range-take l used zero n h = take-take n used l (omega arith)
 range-take [] zero (suc start) n h = refl

@@ -41,12 +41,3 @@ dump-same P Q ρ κ fp fq s size size′ limit limit′ w w′ e e′ =
     let c = same-forest P Q ρ κ s (d .forest) (num w, d .says) in
     let q = one-text Q limit limit′ (d .forest) (d′ .forest) (d .text) (d′ .text) (d .writes) (d′ .writes) c (num w′, d′ .says) in
     d .is ∙ ap (λ (x : List ℕ). 0x04 ∷ 0x08 ∷ x) q ∙ psym (d′ .is)
-
--- with the same size and limit, what is accepted for one is accepted for the other
-pub dump-alike : (P Q : Arena) → Right P → Right Q → Fixnums P → SameGraph P Q → (size limit : ℕ) (w : Written) → dump size P limit ≡ ok tt w
-    → (w′ : Written) × (dump size Q limit ≡ ok tt w′) × (w .bytes ≡ w′ .bytes)
-dump-alike P Q ρ κ fp s size limit w e =
-    let d = dump-sound size P limit w ρ fp e in
-    let (τ, c) = same-forest P Q ρ κ s (d .forest) (num w, d .says) in
-    let l : length (w .bytes) ≡ length (d .text) + 2 = ap length (d .is) ∙ omega arith in
-    (written (0x04 ∷ 0x08 ∷ d .text) τ, dump-complete size Q limit (d .forest) (d .text) τ (d .writes) c (omega (arith, d .fits)), d .is)

@@ -8,3 +8,4 @@ pub mod Same
 pub mod Alike
 pub mod Space
 pub mod Call
+pub mod Answers

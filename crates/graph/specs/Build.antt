@@ -1,18 +1,18 @@
 -- Building: what an accepted load does to nodes and lists, forest by forest.
-use Prim.Native.Nat.{ℕ, zero, suc, _+_, _≤_, _<_, zero-le, suc-le-suc}
+use Prim.Native.Nat.{ℕ, zero, suc, _+_, _≤_, _<_}
 use mathlib.Core.Path.{_≡_, refl, ap, subst}
 use mathlib.Core.Path.{sym as psym, _∙_}
-use mathlib.Core.Bool.{Bool, true, false}
+use mathlib.Core.Bool.{Bool}
 use mathlib.Core.Logic.{_⊎_, inl, inr, _≢_}
-use mathlib.Core.Option.{Option, none, some}
+use mathlib.Core.Option.{some}
 use mathlib.Core.List.{List, [], _∷_, _++_}
-use lib.ListN.{length, getElem?, set, length-set}
+use lib.ListN.{length, set, length-set}
 use native.Mathlib.Omega.{arith}
 use native.Mathlib.Decide.{ℕ-discrete}
 use Rattle.definition.specs.Graph.{Header}
 use Rattle.graph.specs.Lists.{At, NotIn, at-snoc, at-snoc-inv, at-app, at-lt, lt-at, len-snoc, at-set-same, at-set-other, at-set-inv, apart, Below, below-up, below-snoc}
-use Rattle.graph.specs.Sums.{sumL, sumL-app}
-use Rattle.graph.specs.Forest.{Node, leaf, sym, box, Num, addO, addS, fresh, F, fEnd, fLeaf, fBox, fRef, fSym, fSymref, fIv, trees}
+use Rattle.graph.specs.Sums.{sumTo, sumTo-suc, sumL, sumL-app, total, total-snoc, total-set, total-set-most, weight, weigh}
+use Rattle.graph.specs.Forest.{Node, leaf, sym, box, Num, addO, addS, F, fEnd, fLeaf, fBox, fRef, fSym, fSymref, fIv}
 use Rattle.graph.specs.Describe.{E, eEnd, eLeaf, eBox, eRef, eSym, eSymref}
 
 pub record St : Type 0 where
@@ -93,77 +93,80 @@ sub (bIv {s₂ = s₂} {v = v} {ms = ms} h us os c b₁ b₂ a t) = sub-trans (s
 
 -- ---- (3), first half: weights, for any input
 
-module _ (lf : ℕ → ℕ) (le1 : (v : ℕ) → lf v ≤ 1) where
+-- a box weighs k and what its members weigh, a symbol k
+module _ (lf : ℕ → ℕ) (k : ℕ) where
   abbrev pub w : Node → ℕ
   w (leaf k x) = 0
-  w (sym b) = 1
-  w (box h ms) = suc (sumL lf ms)
+  w (sym b) = k
+  w (box h ms) = k + sumL lf ms
 
   abbrev pub Φ : List Node → ℕ
-  Φ [] = 0
-  Φ (x ∷ l) = w x + Φ l
+  Φ l = total w l
 
-  Φ-snoc : (l : List Node) (x : Node) → Φ (l ++ (x ∷ [])) ≡ Φ l + w x
-  Φ-snoc [] x = omega arith
-  Φ-snoc (y ∷ l) x = omega (arith, Φ-snoc l x)
+-- what is on both lists weighs nothing as a member
+pub record Zero (lf : ℕ → ℕ) (s : St) : Type 0 where
+  pub zo : (k v : ℕ) → At (s .objs) k v → lf v ≡ 0
+  pub zs : (k v : ℕ) → At (s .syms) k v → lf v ≡ 0
 
-  Φ-set : (l : List Node) (i : ℕ) (x y : Node) → At l i y → Φ (set l i x) + w y ≡ Φ l + w x
-  Φ-set [] i x y e = apart (cc)
-  Φ-set (z ∷ l) zero x y e = let q : z ≡ y = cc in rw q (omega arith)
-  Φ-set (z ∷ l) (suc i) x y e = omega (arith, Φ-set l i x y e)
+zero-back : (lf : ℕ → ℕ) (s s′ : St) → Sub s s′ → Zero lf s′ → Zero lf s
+zero-back lf s s′ h z = record { zo = λ k v e. z .zo k v (h .so k v e); zs = λ k v e. z .zs k v (h .ss k v e) }
 
-  Φ-set-le : (l : List Node) (i : ℕ) (x : Node) → Φ (set l i x) ≤ Φ l + w x
-  Φ-set-le [] i x = omega arith
-  Φ-set-le (z ∷ l) zero x = omega arith
-  Φ-set-le (z ∷ l) (suc i) x = omega (arith, Φ-set-le l i x)
-
-  pub record Zero (s : St) : Type 0 where
-    pub zo : (k v : ℕ) → At (s .objs) k v → lf v ≡ 0
-    pub zs : (k v : ℕ) → At (s .syms) k v → lf v ≡ 0
-
-  zero-back : (s s′ : St) → Sub s s′ → Zero s′ → Zero s
-  zero-back s s′ h z = record { zo = λ k v e. z .zo k v (h .so k v e); zs = λ k v e. z .zs k v (h .ss k v e) }
-
+-- node v brings c v when it is added, which pays for it as a box, as a symbol, or once as a member
+module _ (lf c : ℕ → ℕ) (k : ℕ) (lc : (v : ℕ) → lf v ≤ c v) (kc : (v : ℕ) → k ≤ c v) where
   abbrev pub Paid : St → List ℕ → St → Type 0
-  Paid s vs s′ = Φ (s′ .nodes) + sumL lf vs + length (s .nodes) ≤ Φ (s .nodes) + length (s′ .nodes)
+  Paid s vs s′ = Φ lf k (s′ .nodes) + sumL lf vs + sumTo c (length (s .nodes)) ≤ Φ lf k (s .nodes) + sumTo c (length (s′ .nodes))
+
+  added : (l : List Node) (x : Node) → sumTo c (length (l ++ (x ∷ []))) ≡ sumTo c (length l) + c (length l)
+  added l x = sumTo-suc c (length l) (length (l ++ (x ∷ []))) (len-snoc l x)
+
+  kept-count : (l : List Node) (i : ℕ) (x : Node) → sumTo c (length (set l i x)) ≡ sumTo c (length l)
+  kept-count l i x = ap (sumTo c) (length-set l i x)
 
   paid-box : (h : Header) (s s₁ s₂ s′ : St) (us ms ws : List ℕ) → lf (length (s₁ .nodes)) ≡ 0
       → Paid s us s₁ → Paid (pushO (leaf 0 0) s₁) ms s₂ → Paid (put (length (s₁ .nodes)) (box h (us ++ ms)) s₂) ws s′ → Paid s (length (s₁ .nodes) ∷ ws) s′
-  paid-box h s s₁ s₂ s′ us ms ws z a b c =
+  paid-box h s s₁ s₂ s′ us ms ws z a b d =
       omega (
         arith,
-        Φ-snoc (s₁ .nodes) (leaf 0 0),
-        len-snoc (s₁ .nodes) (leaf 0 0),
-        Φ-set-le (s₂ .nodes) (length (s₁ .nodes)) (box h (us ++ ms)),
-        length-set (s₂ .nodes) (length (s₁ .nodes)) (box h (us ++ ms)),
+        total-snoc (w lf k) (s₁ .nodes) (leaf 0 0),
+        added (s₁ .nodes) (leaf 0 0),
+        kc (length (s₁ .nodes)),
+        total-set-most (w lf k) (s₂ .nodes) (length (s₁ .nodes)) (box h (us ++ ms)),
+        kept-count (s₂ .nodes) (length (s₁ .nodes)) (box h (us ++ ms)),
         sumL-app lf us ms,
       )
 
   paid-iv : (h h′ : Header) (s s₁ s₂ s′ : St) (v : ℕ) (us os ms ws : List ℕ) → At (s₂ .nodes) v (box h (us ++ os))
       → Paid s (v ∷ []) s₁ → Paid s₁ ms s₂ → Paid (put v (box h′ (us ++ ms)) s₂) ws s′ → Paid s (v ∷ ws) s′
-  paid-iv h h′ s s₁ s₂ s′ v us os ms ws e a b c =
-      omega (arith, Φ-set (s₂ .nodes) v (box h′ (us ++ ms)) (box h (us ++ os)) e, length-set (s₂ .nodes) v (box h′ (us ++ ms)), sumL-app lf us ms, sumL-app lf us os)
+  paid-iv h h′ s s₁ s₂ s′ v us os ms ws e a b d =
+      omega (arith, total-set (w lf k) (s₂ .nodes) v (box h′ (us ++ ms)) (box h (us ++ os)) e, kept-count (s₂ .nodes) v (box h′ (us ++ ms)), sumL-app lf us ms, sumL-app lf us os)
 
-  pub paid : {f : F} {s s′ : St} {vs : List ℕ} → B (Unit {0}) f s vs s′ → Zero s′ → Paid s vs s′
+  pub paid : {f : F} {s s′ : St} {vs : List ℕ} → B (Unit {0}) f s vs s′ → Zero lf s′ → Paid s vs s′
   paid bEnd z = omega arith
-  paid (bLeaf {k = k} {x = x} {s = s} b) z = omega (arith, paid b z, Φ-snoc (s .nodes) (leaf k x), len-snoc (s .nodes) (leaf k x), le1 (length (s .nodes)))
+  paid (bLeaf {k = j} {x = x} {s = s} b) z = omega (arith, paid b z, total-snoc (w lf k) (s .nodes) (leaf j x), added (s .nodes) (leaf j x), lc (length (s .nodes)))
   paid {s′ = s′} (bBox {h = h} {φ = φ} {s = s} {s₁ = s₁} {s₂ = s₂} {us = us} {ms = ms} {ws = ws} b₀ (inl e) b₁ b) z =
-      let z₃ = zero-back _ s′ (sub b) z in
-      let z₂ : Zero s₂ = record { zo = z₃ .zo; zs = z₃ .zs } in
-      let zp = zero-back (pushO φ s₁) s₂ (sub b₁) z₂ in
-      let z₁ = zero-back s₁ (pushO φ s₁) (sub-pushO φ s₁) zp in
+      let z₃ = zero-back lf _ s′ (sub b) z in
+      let z₂ : Zero lf s₂ = record { zo = z₃ .zo; zs = z₃ .zs } in
+      let zp = zero-back lf (pushO φ s₁) s₂ (sub b₁) z₂ in
+      let z₁ = zero-back lf s₁ (pushO φ s₁) (sub-pushO φ s₁) zp in
       let q = zp .zo (length (s₁ .objs)) (length (s₁ .nodes)) (at-snoc (s₁ .objs) (length (s₁ .nodes))) in
       paid-box h s s₁ s₂ s′ us ms ws q (paid b₀ z₁) (subst (λ (y : Node). Paid (pushO y s₁) ms s₂) e (paid b₁ z₂)) (paid b z)
   paid (bBox b₀ (inr (n, _, _)) b₁ b) z = absurd (n tt)
-  paid {s′ = s′} (bRef {k = k} {s = s} {v = v} a b) z = omega (arith, paid b z, z .zo k v ((sub b) .so k v a))
-  paid {s′ = s′} (bKnown {s = s} {v = v} c a b) z = omega (arith, paid b z, z .zs (length (s .syms)) v ((sub b) .ss _ _ (at-snoc (s .syms) v)))
+  paid {s′ = s′} (bRef {k = j} {s = s} {v = v} a b) z = omega (arith, paid b z, z .zo j v ((sub b) .so j v a))
+  paid {s′ = s′} (bKnown {s = s} {v = v} d a b) z = omega (arith, paid b z, z .zs (length (s .syms)) v ((sub b) .ss _ _ (at-snoc (s .syms) v)))
   paid {s′ = s′} (bNew {b = b} {s = s} a t) z =
-      omega (arith, paid t z, z .zs (length (s .syms)) (length (s .nodes)) ((sub t) .ss _ _ (at-snoc (s .syms) (length (s .nodes)))), Φ-snoc (s .nodes) (sym b), len-snoc (s .nodes) (sym b))
-  paid {s′ = s′} (bSymref {k = k} {v = v} a b) z = omega (arith, paid b z, z .zs k v ((sub b) .ss k v a))
-  paid {s′ = s′} (bIv {s = s} {s₁ = s₁} {s₂ = s₂} {v = v} {h = h} {ms = ms} {ws = ws} h′ us os c b₁ b₂ a t) z =
-      let z₃ = zero-back _ s′ (sub t) z in
-      let z₂ : Zero s₂ = record { zo = z₃ .zo; zs = z₃ .zs } in
-      let z₁ = zero-back s₁ s₂ (sub b₂) z₂ in
+      omega (
+        arith,
+        paid t z,
+        z .zs (length (s .syms)) (length (s .nodes)) ((sub t) .ss _ _ (at-snoc (s .syms) (length (s .nodes)))),
+        total-snoc (w lf k) (s .nodes) (sym b),
+        added (s .nodes) (sym b),
+        kc (length (s .nodes)),
+      )
+  paid {s′ = s′} (bSymref {k = j} {v = v} a b) z = omega (arith, paid b z, z .zs j v ((sub b) .ss j v a))
+  paid {s′ = s′} (bIv {s = s} {s₁ = s₁} {s₂ = s₂} {v = v} {h = h} {ms = ms} {ws = ws} h′ us os d b₁ b₂ a t) z =
+      let z₃ = zero-back lf _ s′ (sub t) z in
+      let z₂ : Zero lf s₂ = record { zo = z₃ .zo; zs = z₃ .zs } in
+      let z₁ = zero-back lf s₁ s₂ (sub b₂) z₂ in
       paid-iv h h′ s s₁ s₂ s′ v us os ms ws a (paid b₁ z₁) (paid b₂ z₂) (paid t z)
 
 -- ---- a canonical input changes nothing that stands
@@ -535,23 +538,17 @@ nodesOf (fSym m b r) = suc (nodesOf r)
 nodesOf (fSymref m k r) = nodesOf r
 nodesOf (fIv f p r) = nodesOf r
 
-abbrev lfO : Option Node → ℕ
-lfO none = 0
-lfO (some (leaf k x)) = 1
-lfO (some (sym b)) = 0
-lfO (some (box h ms)) = 0
+-- is it a leaf?
+abbrev pub node-leaf : Node → ℕ
+node-leaf (leaf k x) = 1
+node-leaf (sym b) = 0
+node-leaf (box h ms) = 0
 
 abbrev pub lf : List Node → ℕ → ℕ
-lf P v = lfO (getElem? P v)
-
-abbrev wtO : List Node → Option Node → ℕ
-wtO P none = 0
-wtO P (some (leaf k x)) = 0
-wtO P (some (sym b)) = 1
-wtO P (some (box h ms)) = suc (sumL (lf P) ms)
+lf P = weigh node-leaf P
 
 abbrev pub wt : List Node → ℕ → ℕ
-wt P v = wtO P (getElem? P v)
+wt P = weigh (w (lf P) 1) P
 
 abbrev pub all : List Node → Num → ℕ
 all P σ = sumL (wt P) (σ .objs) + sumL (wt P) (σ .syms)
@@ -561,7 +558,7 @@ cnt-box : (P : List Node) (h : Header) (p f r : F) (v : ℕ) (us ms ws : List �
     → all P σ′ + sumL (lf P) (v ∷ ws) ≡ all P σ + nodesOf (fBox h p f r)
 cnt-box P h p f r v us ms ws σ σ₁ σ₂ σ′ a x y z =
     let q : lf P v ≡ 0 = rw a in
-    let t : wt P v ≡ suc (sumL (lf P) (us ++ ms)) = ap (wtO P) a in
+    let t : wt P v ≡ 1 + sumL (lf P) (us ++ ms) = ap (weight (w (lf P) 1)) a in
     omega (arith, sumL-app (wt P) (σ₁ .objs) (v ∷ []), sumL-app (lf P) us ms)
 
 pub cnt : {P : List Node} {g : F} {vs : List ℕ} {σ σ′ : Num} → E P g vs σ σ′ → all P σ′ + sumL (lf P) vs ≡ all P σ + nodesOf g

@@ -11,7 +11,7 @@ use native.Mathlib.Omega.{arith}
 use native.Mathlib.Decide.{decLe}
 use Rattle.definition.specs.Graph.{Header}
 use Rattle.graph.specs.Lists.{At, NotIn, Distinct, distinct-snoc, PW, pw-snoc, pw-at, pw-at′, pw-len, at-snoc, at-snoc-inv, at-app, at-lt, len-snoc, apart}
-use Rattle.graph.specs.Forest.{Node, leaf, sym, box, Num, addO, addS, fresh, F, fEnd, fLeaf, fBox, fRef, fSym, fSymref, fIv, trees}
+use Rattle.graph.specs.Forest.{Node, leaf, sym, box, Num, addO, addS, fresh, F, fEnd, fLeaf, fBox, fRef, fSym, fSymref, fIv, trees, boxesOf, symsOf}
 
 pub record Dist (σ : Num) : Type 0 where
   pub dob : Distinct (σ .objs)
@@ -74,6 +74,23 @@ e-sub (eBox {v = v} {σ₁ = σ₁} a d₀ n d₁ d) = sub-trans (e-sub d₀) (s
 e-sub (eRef a n d) = e-sub d
 e-sub (eSym {v = v} {σ = σ} a n d) = sub-trans (sub-s v σ) (e-sub d)
 e-sub (eSymref a n d) = e-sub d
+
+-- how many boxes and symbols a description numbers
+pub boxes-numbered : {t : List Node} {g : F} {vs : List ℕ} {σ σ′ : Num} → E t g vs σ σ′ → length (σ′ .objs) ≡ length (σ .objs) + boxesOf g
+boxes-numbered eEnd = omega arith
+boxes-numbered (eLeaf a d) = boxes-numbered d
+boxes-numbered (eBox {v = v} {σ₁ = σ₁} a d₀ n d₁ d) = omega (arith, boxes-numbered d₀, boxes-numbered d₁, boxes-numbered d, len-snoc (σ₁ .objs) v)
+boxes-numbered (eRef a n d) = boxes-numbered d
+boxes-numbered (eSym a n d) = boxes-numbered d
+boxes-numbered (eSymref a n d) = boxes-numbered d
+
+pub symbols-numbered : {t : List Node} {g : F} {vs : List ℕ} {σ σ′ : Num} → E t g vs σ σ′ → length (σ′ .syms) ≡ length (σ .syms) + symsOf g
+symbols-numbered eEnd = omega arith
+symbols-numbered (eLeaf a d) = symbols-numbered d
+symbols-numbered (eBox a d₀ n d₁ d) = omega (arith, symbols-numbered d₀, symbols-numbered d₁, symbols-numbered d)
+symbols-numbered (eRef a n d) = symbols-numbered d
+symbols-numbered (eSym {v = v} {σ = σ} a n d) = omega (arith, symbols-numbered d, len-snoc (σ .syms) v)
+symbols-numbered (eSymref a n d) = symbols-numbered d
 
 -- ---- the same graph
 

@@ -75,6 +75,47 @@ bytesOf (fSym m b r) = length b + bytesOf r
 bytesOf (fSymref m k r) = bytesOf r
 bytesOf (fIv f p r) = bytesOf f + bytesOf p + bytesOf r
 
+-- entries of the object list
+abbrev pub boxesOf : F → ℕ
+boxesOf fEnd = 0
+boxesOf (fLeaf k x r) = boxesOf r
+boxesOf (fBox h p f r) = suc (boxesOf p + boxesOf f + boxesOf r)
+boxesOf (fRef k r) = boxesOf r
+boxesOf (fSym m b r) = boxesOf r
+boxesOf (fSymref m k r) = boxesOf r
+boxesOf (fIv f p r) = boxesOf f + boxesOf p + boxesOf r
+
+-- entries of the symbol list
+abbrev pub symsOf : F → ℕ
+symsOf fEnd = 0
+symsOf (fLeaf k x r) = symsOf r
+symsOf (fBox h p f r) = symsOf p + symsOf f + symsOf r
+symsOf (fRef k r) = symsOf r
+symsOf (fSym m b r) = suc (symsOf r)
+symsOf (fSymref m k r) = symsOf r
+symsOf (fIv f p r) = symsOf f + symsOf p + symsOf r
+
+-- the words of a node's list, its bytes; is it a box, a symbol?
+abbrev pub node-words : Node → ℕ
+node-words (leaf k x) = 0
+node-words (sym b) = 0
+node-words (box h ms) = list-words h
+
+abbrev pub node-bytes : Node → ℕ
+node-bytes (leaf k x) = 0
+node-bytes (sym b) = length b
+node-bytes (box h ms) = length (h .bytes)
+
+abbrev pub node-box : Node → ℕ
+node-box (leaf k x) = 0
+node-box (sym b) = 0
+node-box (box h ms) = 1
+
+abbrev pub node-sym : Node → ℕ
+node-sym (leaf k x) = 0
+node-sym (sym b) = 1
+node-sym (box h ms) = 0
+
 -- ---- the bytes of a forest
 
 -- what is to come: values; n pairs; a value and then n pairs; one name; a name, then n pairs (with the number n written between)

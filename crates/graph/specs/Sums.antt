@@ -1,28 +1,57 @@
 -- Sums over lists of nodes: distinct nodes weigh at most what all nodes weigh.
-use Prim.Native.Nat.{ℕ, zero, suc, _+_, _≤_, _<_, zero-le, suc-le-suc}
-use mathlib.Core.Path.{_≡_, refl, ap, subst}
+use Prim.Native.Nat.{ℕ, zero, suc, _+_, _≤_, _<_}
+use mathlib.Core.Path.{_≡_, refl, ap}
 use mathlib.Core.Path.{sym as psym, _∙_}
 use mathlib.Core.Bool.{Bool, true, false}
-use mathlib.Core.Logic.{_⊎_, inl, inr, _≢_}
+use mathlib.Core.Logic.{_≢_}
 use mathlib.Core.Option.{Option, none, some}
 use mathlib.Core.List.{List, [], _∷_, _++_}
 use lib.Dec.{eqb}
-use lib.ListN.{length, getElem?}
+use lib.ListN.{length, getElem?, set}
 use native.Mathlib.Omega.{arith}
 use native.Mathlib.Decide.{ℕ-discrete}
-use Rattle.graph.specs.Lists.{At, NotIn, Distinct, Below, yes-eqb, no-eqb}
+use Rattle.graph.specs.Lists.{At, NotIn, Distinct, Below, yes-eqb, no-eqb, apart}
 
 abbrev pub sumTo : (ℕ → ℕ) → ℕ → ℕ
 sumTo w zero = 0
 sumTo w (suc n) = sumTo w n + w n
 
-abbrev pub sumL : (ℕ → ℕ) → List ℕ → ℕ
-sumL w [] = 0
-sumL w (x ∷ l) = w x + sumL w l
+-- a weight summed over a list
+abbrev pub total : {A : Type 0} → (A → ℕ) → List A → ℕ
+total w [] = 0
+total w (x ∷ l) = w x + total w l
 
-pub sumL-snoc : (w : ℕ → ℕ) (l : List ℕ) (v : ℕ) → sumL w (l ++ (v ∷ [])) ≡ sumL w l + w v
-sumL-snoc w [] v = omega arith
-sumL-snoc w (x ∷ l) v = omega (arith, sumL-snoc w l v)
+module _ {A : Type 0} (w : A → ℕ) where
+  pub total-snoc : (l : List A) (x : A) → total w (l ++ (x ∷ [])) ≡ total w l + w x
+  total-snoc [] x = omega arith
+  total-snoc (y ∷ l) x = omega (arith, total-snoc l x)
+
+  pub total-set : (l : List A) (i : ℕ) (x y : A) → At l i y → total w (set l i x) + w y ≡ total w l + w x
+  total-set [] i x y e = apart (cc)
+  total-set (z ∷ l) zero x y e = let q : z ≡ y = cc in rw q (omega arith)
+  total-set (z ∷ l) (suc i) x y e = omega (arith, total-set l i x y e)
+
+  pub total-set-most : (l : List A) (i : ℕ) (x : A) → total w (set l i x) ≤ total w l + w x
+  total-set-most [] i x = omega arith
+  total-set-most (z ∷ l) zero x = omega arith
+  total-set-most (z ∷ l) (suc i) x = omega (arith, total-set-most l i x)
+
+  -- what stands at one place, and at two
+  pub total-one : (l : List A) (i : ℕ) (x : A) → At l i x → w x ≤ total w l
+  total-one [] i x e = apart (cc)
+  total-one (y ∷ l) zero x e = let q : y ≡ x = cc in rw q (omega arith)
+  total-one (y ∷ l) (suc i) x e = omega (arith, total-one l i x e)
+
+  pub total-two : (l : List A) (i j : ℕ) (x y : A) → At l i x → At l j y → i ≢ j → w x + w y ≤ total w l
+  total-two [] i j x y e f n = apart (cc)
+  total-two (z ∷ l) zero zero x y e f n = absurd (n refl)
+  total-two (z ∷ l) zero (suc j) x y e f n = let q : z ≡ x = cc in rw q (omega (arith, total-one l j y f))
+  total-two (z ∷ l) (suc i) zero x y e f n = let q : z ≡ y = cc in rw q (omega (arith, total-one l i x e))
+  total-two (z ∷ l) (suc i) (suc j) x y e f n = omega (arith, total-two l i j x y e f (λ q. n (ap suc q)))
+
+-- the same of numbers
+abbrev pub sumL : (ℕ → ℕ) → List ℕ → ℕ
+sumL w l = total w l
 
 pub sumTo-suc : (w : ℕ → ℕ) (n m : ℕ) → m ≡ n + 1 → sumTo w m ≡ sumTo w n + w n
 sumTo-suc w n m e = let z : m ≡ suc n = omega arith in rw z refl
@@ -71,3 +100,20 @@ sum-distinct w n (x ∷ l) d b =
 pub sumL-app : (w : ℕ → ℕ) (l m : List ℕ) → sumL w (l ++ m) ≡ sumL w l + sumL w m
 sumL-app w [] m = omega arith
 sumL-app w (x ∷ l) m = omega (arith, sumL-app w l m)
+
+-- the weight of what stands at a place, 0 where there is nothing
+abbrev pub weight : {A : Type 0} → (A → ℕ) → Option A → ℕ
+weight w none = 0
+weight w (some x) = w x
+
+abbrev pub weigh : {A : Type 0} → (A → ℕ) → List A → ℕ → ℕ
+weigh w l v = weight w (getElem? l v)
+
+-- the sum over all places is the sum over the list
+pub sum-to-total : {A : Type 0} (w : A → ℕ) (l : List A) → sumTo (weigh w l) (length l) ≡ total w l
+sum-to-total w [] = refl
+sum-to-total w (x ∷ l) = shift (weigh w (x ∷ l)) (length l) ∙ ap (λ (n : ℕ). w x + n) (sum-to-total w l)
+  where
+    shift : (f : ℕ → ℕ) (n : ℕ) → sumTo f (suc n) ≡ f 0 + sumTo (λ v. f (suc v)) n
+    shift f zero = omega arith
+    shift f (suc n) = omega (arith, shift f n)

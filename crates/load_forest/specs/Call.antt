@@ -175,7 +175,7 @@ not-none false e = apart (cc)
 most-none : (n m : ℕ) → ltb n m ≡ false → m ≤ n
 most-none n m e = nltb→le n m (rw e tt)
 
-lowest-none : (k : ℕ) (b : Bool) (ts : List (ℕ × Bool)) → lowest ((suc k, b) ∷ ts) ≡ 0 → (b ≡ false) × (lowest ts ≡ 0)
+pub lowest-none : (k : ℕ) (b : Bool) (ts : List (ℕ × Bool)) → lowest ((suc k, b) ∷ ts) ≡ 0 → (b ≡ false) × (lowest ts ≡ 0)
 unfolding lowest pick
 lowest-none k false ts e = (refl, e)
 lowest-none k true ts e = absurd (omega arith)
@@ -192,7 +192,7 @@ pub record Allowed (input : List ℕ) (T : Lists) (limit : ℕ) : Type 0 where
   pub limit-most : limit ≤ 128
   pub input-most : length input ≤ 2147483647
 
-short : (n : ℕ) → too-long n ≡ false → n ≤ 2147483647
+pub short : (n : ℕ) → too-long n ≡ false → n ≤ 2147483647
 unfolding too-long
 short n e = most-none 2147483647 n e
 
@@ -245,14 +245,19 @@ call-done : (input : List ℕ) (T : Lists) (limit : ℕ) → load-wrong input T 
 unfolding load-call load-if
 call-done input T limit e = rw e
 
+-- nothing is wrong, and the load is accepted
+pub accepted-load : (input : List ℕ) (T : Lists) (limit h : ℕ) (s : State) → load-wrong input T limit ≡ 0 → load input (room-of T) limit ≡ ok h s → AcceptedLoad input T limit
+unfolding load-done
+accepted-load input T limit h s w p =
+    let z : load-call input T limit ≡ load-done T (ok h s) = call-done input T limit w ∙ ap (load-done T) p in
+    record { none-wrong = w; root = h; state = s; loads = p; answered = ap (λ (c : LoadCall). c .answer) z; left = ap (λ (c : LoadCall). c .lent) z }
+
 pub load-accepted : (input : List ℕ) (T : Lists) (limit : ℕ) → load-call input T limit .answer .answer ≡ Accepted → AcceptedLoad input T limit
 unfolding load-call load-if load-done
 load-accepted input T limit e = by-wrong (load-wrong input T limit) refl e
   where
     by-outcome : (o : Outcome State ℕ) → load input (room-of T) limit ≡ o → load-wrong input T limit ≡ 0 → load-done T o .answer .answer ≡ Accepted → AcceptedLoad input T limit
-    by-outcome (ok h s) p w q =
-        let z : load-call input T limit ≡ load-done T (ok h s) = call-done input T limit w ∙ ap (load-done T) p in
-        record { none-wrong = w; root = h; state = s; loads = p; answered = ap (λ (c : LoadCall). c .answer) z; left = ap (λ (c : LoadCall). c .lent) z }
+    by-outcome (ok h s) p w q = accepted-load input T limit h s w p
     by-outcome (refused r) p w q = no-accept r q
 
     by-wrong : (n : ℕ) → load-wrong input T limit ≡ n → load-if n input T limit .answer .answer ≡ Accepted → AcceptedLoad input T limit
@@ -265,7 +270,7 @@ length-padded : (t l : List ℕ) → length l ≤ length t → length (padded t 
 unfolding padded
 length-padded t l h = length-append l (replicate (length t - length l) 0) ∙ ap (λ (n : ℕ). length l + n) (length-replicate (length t - length l) 0) ∙ omega arith
 
-take-padded : (t l : List ℕ) → take (length l) (padded t l) ≡ l
+pub take-padded : (t l : List ℕ) → take (length l) (padded t l) ≡ l
 unfolding padded
 take-padded t l = take-append-seam l (replicate (length t - length l) 0)
 
@@ -300,7 +305,7 @@ room-within : (T : Lists) (s : State) → Within (room-of T) s → (length (s .n
 unfolding room-of
 room-within T s w = (w .nodes, w .references, w .bytes)
 
-some-nodes : (T : Lists) → 1 ≤ length (T .nodes) / 7 → 1 ≤ room-of T .nodes
+pub some-nodes : (T : Lists) → 1 ≤ length (T .nodes) / 7 → 1 ≤ room-of T .nodes
 unfolding room-of
 some-nodes T h = h
 

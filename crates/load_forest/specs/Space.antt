@@ -1,22 +1,24 @@
 -- The space an accepted load took: within the room given, and no less than what its nodes hold.
 use Prim.Native.Nat.{ℕ, zero, suc, _+_, _-_, _*_, _≤_, _<_}
 use mathlib.Core.Path.{_≡_, refl, ap, subst}
-use mathlib.Core.Path.{_∙_}
+use mathlib.Core.Path.{sym as psym, _∙_}
 use mathlib.Core.Bool.{true, false}
-use mathlib.Core.Logic.{_⊎_, inl, inr}
+use mathlib.Core.Logic.{_⊎_, inl, inr, _≢_}
 use mathlib.Core.Option.{Option, none, some}
 use mathlib.Core.List.{List, [], _∷_, _++_, map}
-use lib.ListN.{length, getElem?, set, take, drop, replicate, length-set, length-append, length-replicate}
+use lib.Dec.{eqb}
+use lib.ListN.{length, getElem?, take, drop, replicate, length-set, length-append, length-replicate}
 use native.Mathlib.Omega.{arith}
+use native.Mathlib.Decide.{ℕ-discrete}
 use Rattle.definition.specs.Run.{ok, pick}
 use Rattle.definition.specs.Node.{Row, Vars, nil, bool, fixnum, symbol, array, hash, object, string, user, absent, present}
 use Rattle.definition.specs.Arena.{Arena, range}
 use Rattle.definition.specs.Graph.{Header, header, vars-count}
 use Rattle.definition.specs.Load.{State, Room, at-set, begin, load}
-use Rattle.graph.specs.Lists.{At, len-snoc, apart}
-use Rattle.graph.specs.Sums.{sumTo}
-use Rattle.graph.specs.Forest.{Node, leaf, sym, box, list-words}
-use Rattle.graph.specs.Build.{Zero, paid, boxed, lf, Φ, wt, w}
+use Rattle.graph.specs.Lists.{At, len-snoc, yes-eqb, no-eqb, apart}
+use Rattle.graph.specs.Sums.{sumTo, total, total-snoc, total-set, total-set-most}
+use Rattle.graph.specs.Forest.{Node, leaf, sym, box, node-words, node-bytes, node-box, node-sym}
+use Rattle.graph.specs.Build.{Zero, paid, boxed, lf, Φ}
 use Rattle.graph.specs.View.{see, seen, arena-of, state-seen}
 use Rattle.load_forest.specs.Views.{bytes-length, list-length, vars-length, row-seen, with-node, with-symbol, with-object-node, with-bytes, with-word, with-row, length-seen, syms-seen, seen-at}
 use Rattle.load_forest.specs.Trace.{Mode, Plain, plain-nil, plain-bool, plain-fixnum, Listed, is-array, is-hash, Varied, varied-string, varied-user, with-room, Trace, reading, reading-after, plain, known, new, symbol-link, object-link, list, hash-default, object-pairs, string-bytes, user-bytes, variables, no-elements, element, no-pairs, pair}
@@ -130,26 +132,6 @@ is-symbol (hash s n d) = 0
 is-symbol (object s n c) = 0
 is-symbol (string s l v) = 0
 is-symbol (user s l c v) = 0
-
--- a weight summed over a list
-abbrev pub total : {A : Type 0} → (A → ℕ) → List A → ℕ
-total w [] = 0
-total w (x ∷ l) = w x + total w l
-
-module _ {A : Type 0} (w : A → ℕ) where
-  total-snoc : (l : List A) (x : A) → total w (l ++ (x ∷ [])) ≡ total w l + w x
-  total-snoc [] x = omega arith
-  total-snoc (y ∷ l) x = omega (arith, total-snoc l x)
-
-  total-set : (l : List A) (i : ℕ) (x y : A) → At l i y → total w (set l i x) + w y ≡ total w l + w x
-  total-set [] i x y e = apart (cc)
-  total-set (z ∷ l) zero x y e = let q : z ≡ y = cc in rw q (omega arith)
-  total-set (z ∷ l) (suc i) x y e = omega (arith, total-set l i x y e)
-
-  total-set-most : (l : List A) (i : ℕ) (x : A) → total w (set l i x) ≤ total w l + w x
-  total-set-most [] i x = omega arith
-  total-set-most (z ∷ l) zero x = omega arith
-  total-set-most (z ∷ l) (suc i) x = omega (arith, total-set-most l i x)
 
 -- from s to t the rows gained no more than was taken
 record Covered (s t : State) : Type 0 where
@@ -316,34 +298,13 @@ covered (pair {t = t} {u = u} {i = i} {c = c} {v = v} x y z) = covered-trans (co
 
 -- ---- the same for the nodes seen
 
--- the words of a node's list, its bytes; is it a box, a symbol?
-unfoldable pub node-words : Node → ℕ
-node-words (leaf k x) = 0
-node-words (sym b) = 0
-node-words (box h ms) = list-words h
-
-unfoldable pub node-bytes : Node → ℕ
-node-bytes (leaf k x) = 0
-node-bytes (sym b) = length b
-node-bytes (box h ms) = length (h .bytes)
-
-unfoldable pub node-box : Node → ℕ
-node-box (leaf k x) = 0
-node-box (sym b) = 0
-node-box (box h ms) = 1
-
-unfoldable pub node-sym : Node → ℕ
-node-sym (leaf k x) = 0
-node-sym (sym b) = 1
-node-sym (box h ms) = 0
-
 vars-words : (v : Vars) → vars-count v * 2 ≤ vars-length v
 unfolding vars-count vars-length
 vars-words absent = omega arith
 vars-words (present p n) = omega arith
 
 see-words : (A : Arena) (r : Row) → node-words (see A r) ≤ list-length r
-unfolding node-words see header list-length pick
+unfolding see header list-length pick
 see-words A nil = omega arith
 see-words A (bool true) = omega arith
 see-words A (bool false) = omega arith
@@ -365,7 +326,7 @@ range-most l a n = go n (drop a l)
     go (suc n) (x ∷ l) = omega (arith, go n l)
 
 see-bytes : (A : Arena) (r : Row) → node-bytes (see A r) ≤ bytes-length r
-unfolding node-bytes see header bytes-length
+unfolding see header bytes-length
 see-bytes A nil = omega arith
 see-bytes A (bool true) = omega arith
 see-bytes A (bool false) = omega arith
@@ -378,7 +339,7 @@ see-bytes A (string s l v) = range-most (A .bytes) s l
 see-bytes A (user s l c v) = range-most (A .bytes) s l
 
 see-box : (A : Arena) (r : Row) → node-box (see A r) ≤ is-box r
-unfolding node-box see is-box
+unfolding see is-box
 see-box A nil = omega arith
 see-box A (bool true) = omega arith
 see-box A (bool false) = omega arith
@@ -391,7 +352,7 @@ see-box A (string s l v) = omega arith
 see-box A (user s l c v) = omega arith
 
 see-sym : (A : Arena) (r : Row) → node-sym (see A r) ≤ is-symbol r
-unfolding node-sym see is-symbol
+unfolding see is-symbol
 see-sym A nil = omega arith
 see-sym A (bool true) = omega arith
 see-sym A (bool false) = omega arith
@@ -429,20 +390,6 @@ load-holds input room limit h s e =
       names = omega (arith, c .names, seen-total node-sym is-symbol s see-sym);
     }
 
--- a weight summed by number
-abbrev pub weight-at : {A : Type 0} → (A → ℕ) → Option A → ℕ
-weight-at w none = 0
-weight-at w (some x) = w x
-
--- the sum over all numbers is the sum over the list
-pub sum-to-total : {A : Type 0} (w : A → ℕ) (l : List A) → sumTo (λ v. weight-at w (getElem? l v)) (length l) ≡ total w l
-sum-to-total w [] = refl
-sum-to-total w (x ∷ l) = shift (λ v. weight-at w (getElem? (x ∷ l) v)) (length l) ∙ ap (λ (n : ℕ). w x + n) (sum-to-total w l)
-  where
-    shift : (f : ℕ → ℕ) (n : ℕ) → sumTo f (suc n) ≡ f 0 + sumTo (λ v. f (suc v)) n
-    shift f zero = omega arith
-    shift f (suc n) = omega (arith, shift f n)
-
 pub lf-most : (P : List Node) (v : ℕ) → lf P v ≤ 1
 lf-most P v = go (getElem? P v) refl
   where
@@ -451,24 +398,6 @@ lf-most P v = go (getElem? P v) refl
     go (some (leaf k x)) e = rw e (omega arith)
     go (some (sym b)) e = rw e (omega arith)
     go (some (box h ms)) e = rw e (omega arith)
-
--- a box, a symbol and the leaves in boxes, by number as in a description and by list as in a building
-pub sum-wt : (P : List Node) → sumTo (wt P) (length P) ≡ Φ (lf P) (lf-most P) P
-sum-wt P = sum-same (wt P) (λ v. weight-at (w (lf P) (lf-most P)) (getElem? P v)) (length P) (λ v. same (getElem? P v) v refl) ∙ sum-to-total (w (lf P) (lf-most P)) P ∙ by-list P
-  where
-    sum-same : (f g : ℕ → ℕ) (n : ℕ) → ((v : ℕ) → f v ≡ g v) → sumTo f n ≡ sumTo g n
-    sum-same f g zero h = refl
-    sum-same f g (suc n) h = rw (sum-same f g n h, h n)
-
-    same : (o : Option Node) (v : ℕ) → getElem? P v ≡ o → wt P v ≡ weight-at (w (lf P) (lf-most P)) (getElem? P v)
-    same none v e = rw e
-    same (some (leaf k x)) v e = rw e
-    same (some (sym b)) v e = rw e
-    same (some (box h ms)) v e = rw e
-
-    by-list : (l : List Node) → total (w (lf P) (lf-most P)) l ≡ Φ (lf P) (lf-most P) l
-    by-list [] = refl
-    by-list (x ∷ l) = rw (by-list l)
 
 -- ---- nodes: no more leaves are members than were made
 
@@ -487,7 +416,7 @@ unfolding state-seen
 no-objects k v a = apart (cc)
 
 -- numbers on both lists are no leaves at the end
-pub load-zero : (input : List ℕ) (room : Room) (limit h : ℕ) (s : State) → load input room limit ≡ ok h s → Zero (lf (state-seen s .nodes)) (lf-most (state-seen s .nodes)) (state-seen s)
+pub load-zero : (input : List ℕ) (room : Room) (limit h : ℕ) (s : State) → load input room limit ≡ ok h s → Zero (lf (state-seen s .nodes)) (state-seen s)
 load-zero input room limit h s e = record {
   zo = λ k v a. object k v (boxed (load-sound input room limit h s e .1) k v a);
   zs = λ k v a. name k v (load-right-state input room limit h s e .0 .symbols k v (rw (syms-seen s) at a));
@@ -500,17 +429,63 @@ load-zero input room limit h s e = record {
     name : (k v : ℕ) → IsName s v → lf (state-seen s .nodes) v ≡ 0
     name k v (i, l, x) = sym-no-leaf (state-seen s .nodes) v (range (s .bytes) i l) (seen-at s v (symbol i l) x ∙ ap some (name-seen s i l))
 
+sum-of-ones : (n : ℕ) → sumTo (λ v. 1) n ≡ n
+sum-of-ones zero = refl
+sum-of-ones (suc n) = omega (arith, sum-of-ones n)
+
 begin-nodes : state-seen begin .nodes ≡ leaf 0 0 ∷ []
 unfolding state-seen seen see
 begin-nodes = refl
 
 -- each box and each symbol, and each leaf that is a member of a box or the root, is a node besides the first
 pub load-paid : (input : List ℕ) (room : Room) (limit h : ℕ) (s : State) → load input room limit ≡ ok h s
-    → Φ (lf (state-seen s .nodes)) (lf-most (state-seen s .nodes)) (state-seen s .nodes) + lf (state-seen s .nodes) h + 1 ≤ length (s .nodes)
+    → Φ (lf (state-seen s .nodes)) 1 (state-seen s .nodes) + lf (state-seen s .nodes) h + 1 ≤ length (s .nodes)
 load-paid input room limit h s e =
     let P = state-seen s .nodes in
     let w = lf P in
-    let le = lf-most P in
-    let p = paid w le (load-sound input room limit h s e .1) (load-zero input room limit h s e) in
-    let q : Φ w le P + (w h + 0) + 1 ≤ 0 + 0 + length P = subst (λ (l : List Node). Φ w le P + (w h + 0) + length l ≤ Φ w le l + length P) begin-nodes p in
-    omega (arith, length-seen s)
+    let p = paid w (λ v. 1) 1 (lf-most P) (λ v. omega arith) (load-sound input room limit h s e .1) (load-zero input room limit h s e) in
+    let q : Φ w 1 P + (w h + 0) + 1 ≤ 0 + 0 + sumTo (λ v. 1) (length P) = subst (λ (l : List Node). Φ w 1 P + (w h + 0) + sumTo (λ v. 1) (length l) ≤ Φ w 1 l + sumTo (λ v. 1) (length P)) begin-nodes p in
+    omega (arith, length-seen s, sum-of-ones (length P))
+
+-- ---- leaves: none is a member twice
+
+-- 1 at v, else 0
+abbrev pub only : ℕ → ℕ → ℕ
+only v u = pick (eqb v u) 1 0
+
+pub only-there : (v : ℕ) → only v v ≡ 1
+unfolding pick
+only-there v = rw (yes-eqb v)
+
+only-other : (v u : ℕ) → v ≢ u → only v u ≡ 0
+unfolding pick
+only-other v u n = rw (no-eqb v u n)
+
+sum-only : (v n : ℕ) → sumTo (only v) n ≤ 1
+sum-only v n = go n .0
+  where
+    at : (n : ℕ) → Dec (v ≡ n) → (sumTo (only v) n ≤ 1) × (n ≤ v → sumTo (only v) n ≡ 0) → (sumTo (only v) (suc n) ≤ 1) × (suc n ≤ v → sumTo (only v) (suc n) ≡ 0)
+    at n (yes e) (p, q) = (rw (← e) (omega (arith, only-there v, subst (λ (m : ℕ). m ≤ v → sumTo (only v) m ≡ 0) (psym e) q (omega arith))), λ h. absurd (omega arith))
+    at n (no e) (p, q) = (omega (arith, only-other v n e), λ h. omega (arith, only-other v n e, q (omega arith)))
+
+    go : (n : ℕ) → (sumTo (only v) n ≤ 1) × (n ≤ v → sumTo (only v) n ≡ 0)
+    go zero = (omega arith, λ h. refl)
+    go (suc n) = at n (ℕ-discrete v n) (go n)
+
+-- a leaf is a member of all boxes together, or the root, at most once, and the first node never
+pub load-once : (input : List ℕ) (room : Room) (limit h : ℕ) (s : State) → load input room limit ≡ ok h s → (v : ℕ) → lf (state-seen s .nodes) v ≡ 1
+    → Φ (only v) 0 (state-seen s .nodes) + only v h + only v 0 ≤ 1
+load-once input room limit h s e v l =
+    let P = state-seen s .nodes in
+    let z = load-zero input room limit h s e in
+    let z′ : Zero (only v) (state-seen s) = record {
+      zo = λ k u a. only-other v u (λ q. no-leaf u q (z .zo k u a));
+      zs = λ k u a. only-other v u (λ q. no-leaf u q (z .zs k u a));
+    } in
+    let p = paid (only v) (only v) 0 (λ u. omega arith) (λ u. omega arith) (load-sound input room limit h s e .1) z′ in
+    let q : Φ (only v) 0 P + (only v h + 0) + (0 + only v 0) ≤ 0 + 0 + sumTo (only v) (length P) =
+    subst (λ (l : List Node). Φ (only v) 0 P + (only v h + 0) + sumTo (only v) (length l) ≤ Φ (only v) 0 l + sumTo (only v) (length P)) begin-nodes p in
+    omega (arith, sum-only v (length P))
+  where
+    no-leaf : (u : ℕ) → v ≡ u → lf (state-seen s .nodes) u ≡ 0 → ⊥
+    no-leaf u q a = let b : lf (state-seen s .nodes) u ≡ 1 = rw (← q) l in omega arith

@@ -11,7 +11,7 @@ use Rattle.definition.specs.Node.{nil}
 use Rattle.definition.specs.Graph.{Header}
 use Rattle.definition.specs.Load.{Room, State, at-set, read-header, read-value, begin, load}
 use Rattle.graph.specs.Lists.{At, at-app, at-snoc, at-snoc-inv, at-set-other, apart}
-use Rattle.graph.specs.Forest.{Node, leaf, sym, box, Num, fresh, F, fEnd, refsOf, bytesOf, values, Text}
+use Rattle.graph.specs.Forest.{Node, leaf, sym, box, Num, fresh, F, fEnd, refsOf, bytesOf, boxesOf, symsOf, values, Text}
 use Rattle.graph.specs.Describe.{E, e-len}
 use Rattle.graph.specs.Build.{St, push, pushO, put, addSym, num, Ph, ph-nosym, B, bEnd, bLeaf, bBox, bRef, bKnown, bNew, bSymref, bIv, keep, desc, boxed, Names, Inv, nodesOf}
 use Rattle.graph.specs.View.{see, seen, arena-of, state-seen}
@@ -19,7 +19,7 @@ use Rattle.load_text.specs.Tests.{step}
 use Rattle.load_text.specs.Input.{Ahead, ahead-as, read-byte-ahead}
 use Rattle.load_text.specs.Rows.{on-list, on-bytes, see-same, map-same}
 use Rattle.load_text.specs.States.{tables, view, nodes-of, Ranged}
-use Rattle.load_text.specs.Items.{Step, Items, boxesOf, symsOf}
+use Rattle.load_text.specs.Items.{Step, Items}
 use Rattle.load_text.specs.Leaves.{Small}
 use Rattle.load_text.specs.Boxes.{one-left}
 use Rattle.load_text.specs.Complete.{load-complete}

@@ -15,14 +15,14 @@ use Rattle.definition.specs.Arena.{Arena, range}
 use Rattle.definition.specs.Graph.{Header, header-of, header, links, default-present, default-link}
 use Rattle.definition.specs.Load.{Room, State, Reader, nodes-set, fill, counted, read-elements, read-pairs, read-instance-variables, read-symbol-like, read-array, read-hash, read-default, read-object}
 use Rattle.graph.specs.Lists.{no-eqb, len-snoc, apart}
-use Rattle.graph.specs.Forest.{Node, leaf, box, Num, addO, F, fEnd, fBox, refsOf, bytesOf, list-words}
+use Rattle.graph.specs.Forest.{Node, leaf, box, Num, addO, F, fEnd, fBox, refsOf, bytesOf, boxesOf, symsOf, list-words}
 use Rattle.graph.specs.Build.{St, pushO, put, B, bEnd, bBox, Ph, Inv, nodesOf, inv-pushO, inv-put}
 use Rattle.graph.specs.View.{see}
 use Rattle.load_text.specs.Tests.{step}
 use Rattle.load_text.specs.Input.{Ahead, ahead-as}
 use Rattle.load_text.specs.Rows.{OnList, range-app, range-end}
 use Rattle.load_text.specs.States.{tables, view, In, Ranged, Frame, all-in-snoc, all-in-set, frame-trans, frame-add, frame-fill, opened, add-object-node-runs, view-opened, view-fill}
-use Rattle.load_text.specs.Items.{Fits, Even, Step, Takes, Items, end, item, Counted, counted-runs, elements-in-turn, pairs-in-turn, by-turns, length-by-turns, boxesOf, symsOf}
+use Rattle.load_text.specs.Items.{Fits, Even, Step, Takes, Items, end, item, Counted, counted-runs, elements-in-turn, pairs-in-turn, by-turns, length-by-turns}
 use Rattle.load_text.specs.Leaves.{Small}
 
 abbrev pub filled : ℕ → Row → State → State

@@ -10,53 +10,15 @@ use Rattle.definition.specs.Run.{ok, pure, next, _>>=_}
 use Rattle.definition.specs.Integer.{integer-bytes}
 use Rattle.definition.specs.Node.{Row}
 use Rattle.definition.specs.Load.{Room, State, Reader, at-set, references-set, read-count, put-reference, counted, read-elements, read-pairs}
-use Rattle.graph.specs.Lists.{At, len-snoc}
-use Rattle.graph.specs.Forest.{Node, Num, F, fEnd, fLeaf, fBox, fRef, fSym, fSymref, fIv, refsOf, bytesOf}
-use Rattle.graph.specs.Describe.{E, eEnd, eLeaf, eBox, eRef, eSym, eSymref}
+use Rattle.graph.specs.Lists.{At}
+use Rattle.graph.specs.Forest.{Node, Num, F, fEnd, refsOf, bytesOf, boxesOf, symsOf}
 use Rattle.graph.specs.Build.{St, B, Inv, nodesOf}
 use Rattle.load_text.specs.Tests.{step}
 use Rattle.load_text.specs.Input.{Ahead, ahead-past, ahead-as, read-count-ahead}
 use Rattle.load_text.specs.Rows.{OnList, on-list, write, write-app, write-end}
 use Rattle.load_text.specs.States.{view, nodes-of, Ranged, Clear, Frame, all-in-up, seen-more-references, seen-put, frame-same, frame-clear, reserve-runs}
 
--- ---- the space that a forest takes, beside refsOf, bytesOf and nodesOf
-
--- entries of the object list
-abbrev pub boxesOf : F → ℕ
-boxesOf fEnd = 0
-boxesOf (fLeaf k x r) = boxesOf r
-boxesOf (fBox h p f r) = suc (boxesOf p + boxesOf f + boxesOf r)
-boxesOf (fRef k r) = boxesOf r
-boxesOf (fSym m b r) = boxesOf r
-boxesOf (fSymref m k r) = boxesOf r
-boxesOf (fIv f p r) = boxesOf f + boxesOf p + boxesOf r
-
--- entries of the symbol list
-abbrev pub symsOf : F → ℕ
-symsOf fEnd = 0
-symsOf (fLeaf k x r) = symsOf r
-symsOf (fBox h p f r) = symsOf p + symsOf f + symsOf r
-symsOf (fRef k r) = symsOf r
-symsOf (fSym m b r) = suc (symsOf r)
-symsOf (fSymref m k r) = symsOf r
-symsOf (fIv f p r) = symsOf f + symsOf p + symsOf r
-
--- they are what a description numbers
-pub boxes-numbered : {P : List Node} {g : F} {vs : List ℕ} {σ σ′ : Num} → E P g vs σ σ′ → length (σ′ .objs) ≡ length (σ .objs) + boxesOf g
-boxes-numbered eEnd = omega arith
-boxes-numbered (eLeaf a d) = boxes-numbered d
-boxes-numbered (eBox {v = v} {σ₁ = σ₁} a d₀ n d₁ d) = omega (arith, boxes-numbered d₀, boxes-numbered d₁, boxes-numbered d, len-snoc (σ₁ .objs) v)
-boxes-numbered (eRef a n d) = boxes-numbered d
-boxes-numbered (eSym a n d) = boxes-numbered d
-boxes-numbered (eSymref a n d) = boxes-numbered d
-
-pub symbols-numbered : {P : List Node} {g : F} {vs : List ℕ} {σ σ′ : Num} → E P g vs σ σ′ → length (σ′ .syms) ≡ length (σ .syms) + symsOf g
-symbols-numbered eEnd = omega arith
-symbols-numbered (eLeaf a d) = symbols-numbered d
-symbols-numbered (eBox a d₀ n d₁ d) = omega (arith, symbols-numbered d₀, symbols-numbered d₁, symbols-numbered d)
-symbols-numbered (eRef a n d) = symbols-numbered d
-symbols-numbered (eSym {v = v} {σ = σ} a n d) = omega (arith, symbols-numbered d, len-snoc (σ .syms) v)
-symbols-numbered (eSymref a n d) = symbols-numbered d
+-- ---- room for a forest
 
 -- there is room for g, and for so many words besides
 abbrev pub Fits : Room → ℕ → F → State → Type 0

@@ -1,0 +1,6 @@
+-- Demand 3: its statement and its proof.
+pub mod Statement
+pub mod Space
+pub mod Theorem
+pub mod Loaded
+pub mod Graphs

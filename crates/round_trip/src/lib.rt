@@ -1,0 +1,1 @@
+// Theorems only: what is dumped, loaded and dumped again (demand 3).
