@@ -7,17 +7,16 @@ use mathlib.Core.List.{List, [], _∷_}
 use mathlib.Core.Option.{Option, none, some}
 use mathlib.Core.Path.{_≡_, refl, sym, ap, _∙_, subst}
 use lib.Dec.{leb, ltb, eqb, T, ltb→lt}
-use lib.ListN.{length, getD, take, drop, length-take, length-drop}
-use lib.Seq.{drop-cons, getD-drop, length-take-le, drop-drop, take-take}
-use borrow.Author.Tests.{lt-ltb, le-ltb, le-leb, lt-leb, eq-eqb, ne-eqb}
+use lib.ListN.{length, getD, take, drop, length-drop}
+use lib.Seq.{getD-drop, length-take-le, drop-drop, take-take}
+use borrow.Author.Tests.{le-leb, lt-leb, ne-eqb}
 use Rattle.definition.specs.Run.{pick}
-use Rattle.definition.specs.Node.{Row, Vars, width, row, row-of, rows, vars, is-row}
+use Rattle.definition.specs.Node.{Row, row, row-of, rows, vars, is-row}
 use Rattle.definition.specs.Arena.{Arena, Tables, arena, range, firsts, all-below, all-names, is-name, bytes-right, list-right, pairs-right, vars-right, row-right, node-right, faulty, counts-fit, fault, fault-if}
 use Rattle.definition.specs.declared.Counts.{Counts}
 use Rattle.definition.specs.declared.Fault.{Fault}
 use Rattle.definition.specs.declared.Fault.the-variants.{Counts as BadCounts, Node}
 use Rattle.arena_check.specs.Held.{Held, Fits, counted}
-use Rattle.arena_check.proofs.Lists.{length-rows}
 
 -- ---- ranges and lists
 

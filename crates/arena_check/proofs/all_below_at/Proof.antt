@@ -1,16 +1,12 @@
 use borrow.Author.Needs.{needs}
 use native.Mathlib.Omega.{arith}
-use Prim.Native.Nat.{ℕ, suc, _+_, _-_, _*_, _≤_, _<_}
-use mathlib.Core.Path.{_≡_, refl, sym, ap, _∙_, subst}
-use mathlib.Core.List.{List, [], _∷_}
-use lib.ListN.{length, drop, getD}
+use Prim.Native.Nat.{_-_, _≤_}
+use mathlib.Core.Path.{_≡_, refl, sym, _∙_}
+use lib.ListN.{drop}
 use Rattle.definition.specs.Arena.{all-below, range}
 use Rattle.arena_check.proofs.Lists.{below-on, below-not, below-all}
 use Rattle.arena_check.proofs.all_below_at.Statement.{statement}
 use Rattle.arena_check.proofs.all_below_at.Tie as tie
-use Rattle.arena_check.proofs.all_below_at.Reads as reads
-use Rattle.arena_check.proofs.all_below_at.Lts as lts
-use Rattle.arena_check.proofs.size.Reads as size-reads
 
 abbrev Inv-loop : tie.InvT-loop
 Inv-loop references start n count i₀ i =

@@ -1,17 +1,13 @@
 use borrow.Author.Needs.{needs}
 use native.Mathlib.Omega.{arith}
-use Prim.Native.Nat.{ℕ, suc, _+_, _-_, _*_, _≤_, _<_}
-use mathlib.Core.Path.{_≡_, refl, sym, ap, _∙_, subst}
-use mathlib.Core.List.{List, [], _∷_}
-use lib.ListN.{length, drop, getD}
+use Prim.Native.Nat.{_-_, _*_, _≤_}
+use mathlib.Core.Path.{_≡_, refl, sym, _∙_}
+use lib.ListN.{drop}
 use Rattle.definition.specs.Node.{rows}
 use Rattle.definition.specs.Arena.{Arena, all-names, firsts, range}
 use Rattle.arena_check.proofs.Lists.{names-on, names-not, names-all}
 use Rattle.arena_check.proofs.all_names_at.Statement.{statement}
 use Rattle.arena_check.proofs.all_names_at.Tie as tie
-use Rattle.arena_check.proofs.all_names_at.Reads as reads
-use Rattle.arena_check.proofs.all_names_at.Lts as lts
-use Rattle.arena_check.proofs.is_name_at.Reads as is-name-at-reads
 
 abbrev Inv-loop : tie.InvT-loop
 Inv-loop nodes count references start n i₀ i =

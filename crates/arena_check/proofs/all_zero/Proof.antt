@@ -1,16 +1,7 @@
 use borrow.Author.Needs.{needs}
-use native.Mathlib.Omega.{arith}
-use Prim.Native.Nat.{ℕ, suc, _+_, _-_, _*_, _≤_, _<_}
-use mathlib.Core.Path.{_≡_, refl, sym, ap, _∙_, subst}
-use mathlib.Core.List.{List, [], _∷_}
-use lib.ListN.{length, drop, getD}
 use Rattle.arena_check.proofs.Rows.{sum-same}
-use borrow.Author.Needs.{needs}
 use Rattle.arena_check.proofs.all_zero.Statement.{statement}
 use Rattle.arena_check.proofs.all_zero.Tie as tie
-use Rattle.arena_check.proofs.all_zero.Reads as reads
-use Rattle.arena_check.proofs.all_zero.Lts as lts
-use Rattle.arena_check.proofs.wide.Reads as wide-reads
 
 -- src/lib.rt:33:5
 wide-requires : tie.Need-wide-requires

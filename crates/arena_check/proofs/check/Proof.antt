@@ -1,24 +1,11 @@
 use borrow.Author.Needs.{needs}
-use native.Mathlib.Omega.{arith}
-use Prim.Native.Nat.{ℕ, suc, _+_, _-_, _*_, _≤_, _<_}
-use mathlib.Core.Bool.{Bool, true, false, _&&_}
-use mathlib.Core.Path.{_≡_, refl, sym, ap, _∙_, subst}
-use mathlib.Core.List.{List, [], _∷_}
-use lib.Dec.{leb}
-use lib.ListN.{length, drop, take, getD}
-use Rattle.definition.specs.Node.{rows, vars}
-use Rattle.definition.specs.Arena.{Arena, Tables, arena, bytes-right, list-right, pairs-right, vars-right, is-name, faulty, counts-fit}
-use Rattle.arena_check.specs.Held.{Held, tables, counted}
-use Rattle.arena_check.proofs.Lists.{length-rows}
+use mathlib.Core.Path.{refl, sym, ap, _∙_}
+use Rattle.definition.specs.Arena.{arena}
+use Rattle.arena_check.specs.Held.{tables}
 use Rattle.arena_check.specs.Held.{checked}
 use Rattle.arena_check.proofs.Rights.{held, checked-in, checked-out}
-use borrow.Author.Needs.{needs}
 use Rattle.arena_check.proofs.check.Statement.{statement}
 use Rattle.arena_check.proofs.check.Tie as tie
-use Rattle.arena_check.proofs.check.Reads as reads
-use Rattle.arena_check.proofs.check.Lts as lts
-use Rattle.arena_check.proofs.counts_fit_at.Reads as counts-fit-at-reads
-use Rattle.arena_check.proofs.first_faulty.Reads as first-faulty-reads
 
 -- src/lib.rt:274:8
 counts-fit-at-requires : tie.Need-counts-fit-at-requires

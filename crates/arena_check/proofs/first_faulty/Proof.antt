@@ -1,21 +1,13 @@
 use borrow.Author.Needs.{needs}
 use native.Mathlib.Omega.{arith}
-use Prim.Native.Nat.{ℕ, suc, _+_, _-_, _*_, _≤_, _<_}
-use mathlib.Core.Bool.{Bool, true, false, _&&_}
-use mathlib.Core.Path.{_≡_, refl, sym, ap, _∙_, subst}
-use mathlib.Core.List.{List, [], _∷_}
-use lib.Dec.{leb}
-use lib.ListN.{length, drop, take, getD}
-use Rattle.definition.specs.Node.{rows, vars}
-use Rattle.definition.specs.Arena.{Arena, Tables, arena, bytes-right, list-right, pairs-right, vars-right, is-name, faulty, counts-fit}
-use Rattle.arena_check.specs.Held.{Held, tables, counted}
-use Rattle.arena_check.proofs.Lists.{length-rows}
+use Prim.Native.Nat.{_-_, _*_, _≤_}
+use mathlib.Core.Path.{_≡_, sym, _∙_}
+use lib.ListN.{drop}
+use Rattle.definition.specs.Arena.{Arena, faulty}
+use Rattle.arena_check.specs.Held.{Held}
 use Rattle.arena_check.proofs.Rights.{faulty-on, faulty-here, faulty-none, faulty-start}
 use Rattle.arena_check.proofs.first_faulty.Statement.{statement}
 use Rattle.arena_check.proofs.first_faulty.Tie as tie
-use Rattle.arena_check.proofs.first_faulty.Reads as reads
-use Rattle.arena_check.proofs.first_faulty.Lts as lts
-use Rattle.arena_check.proofs.node_right_at.Reads as node-right-at-reads
 
 abbrev Inv-loop : tie.InvT-loop
 Inv-loop nodes references count used stored i₀ i =

@@ -1,16 +1,7 @@
 use borrow.Author.Needs.{needs}
-use native.Mathlib.Omega.{arith}
-use Prim.Native.Nat.{ℕ, suc, _+_, _-_, _*_, _≤_, _<_}
-use mathlib.Core.Path.{_≡_, refl, sym, ap, _∙_, subst}
-use mathlib.Core.List.{List, [], _∷_}
-use lib.ListN.{length, drop, getD}
 use Rattle.arena_check.proofs.Lists.{name-at, no-name}
-use borrow.Author.Needs.{needs}
 use Rattle.arena_check.proofs.is_name_at.Statement.{statement}
 use Rattle.arena_check.proofs.is_name_at.Tie as tie
-use Rattle.arena_check.proofs.is_name_at.Reads as reads
-use Rattle.arena_check.proofs.is_name_at.Lts as lts
-use Rattle.arena_check.proofs.size.Reads as size-reads
 
 -- src/lib.rt:81:9
 size-requires : tie.Need-size-requires

@@ -1,16 +1,11 @@
 use borrow.Author.Needs.{needs}
-use native.Mathlib.Omega.{arith}
-use Prim.Native.Nat.{ℕ, suc, _+_, _-_, _*_, _≤_, _<_}
-use mathlib.Core.Path.{_≡_, refl, sym, ap, _∙_, subst}
-use mathlib.Core.List.{List, [], _∷_}
+use Prim.Native.Nat.{ℕ}
+use mathlib.Core.Path.{sym, ap, _∙_}
+use mathlib.Core.List.{[], _∷_}
 use Rattle.definition.specs.Node.{is-row}
 use Rattle.arena_check.proofs.Rows.{row-0, row-1, row-1-not, row-2, row-3, row-4, row-5, row-6, row-7-absent, row-7-present, row-7-not, row-8-absent, row-8-present, row-not}
-use borrow.Author.Needs.{needs}
 use Rattle.arena_check.proofs.is_row_of.Statement.{statement}
 use Rattle.arena_check.proofs.is_row_of.Tie as tie
-use Rattle.arena_check.proofs.is_row_of.Reads as reads
-use Rattle.arena_check.proofs.is_row_of.Lts as lts
-use Rattle.arena_check.proofs.all_zero.Reads as all-zero-reads
 
 -- src/lib.rt:41:14
 all-zero-requires : tie.Need-all-zero-requires

@@ -1,23 +1,11 @@
 use borrow.Author.Needs.{needs}
 use native.Mathlib.Omega.{arith}
-use Prim.Native.Nat.{ℕ, suc, _+_, _-_, _*_, _≤_, _<_}
-use mathlib.Core.Bool.{Bool, true, false, _&&_}
-use mathlib.Core.Path.{_≡_, refl, sym, ap, _∙_, subst}
-use mathlib.Core.List.{List, [], _∷_}
-use lib.Dec.{leb}
-use lib.ListN.{length, drop, take, getD}
-use Rattle.definition.specs.Node.{rows, vars}
-use Rattle.definition.specs.Arena.{Arena, Tables, arena, bytes-right, list-right, pairs-right, vars-right, is-name, faulty, counts-fit}
-use Rattle.arena_check.specs.Held.{Held, tables, counted}
-use Rattle.arena_check.proofs.Lists.{length-rows}
+use Prim.Native.Nat.{_*_}
+use mathlib.Core.Path.{sym, _∙_}
+use lib.ListN.{drop, take}
 use Rattle.arena_check.proofs.Rights.{node-words, node-in, node-out}
-use borrow.Author.Needs.{needs}
 use Rattle.arena_check.proofs.node_right_at.Statement.{statement}
 use Rattle.arena_check.proofs.node_right_at.Tie as tie
-use Rattle.arena_check.proofs.node_right_at.Reads as reads
-use Rattle.arena_check.proofs.node_right_at.Lts as lts
-use Rattle.arena_check.proofs.is_row_of.Reads as is-row-of-reads
-use Rattle.arena_check.proofs.row_right_at.Reads as row-right-at-reads
 
 -- src/lib.rt:214:14
 mul-at : tie.Need-mul-at

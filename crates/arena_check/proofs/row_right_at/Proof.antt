@@ -1,27 +1,15 @@
 use borrow.Author.Needs.{needs}
-use native.Mathlib.Omega.{arith}
-use Prim.Native.Nat.{ℕ, suc, _+_, _-_, _*_, _≤_, _<_}
-use mathlib.Core.Bool.{Bool, true, false, _&&_}
-use mathlib.Core.Path.{_≡_, refl, sym, ap, _∙_, subst}
-use mathlib.Core.List.{List, [], _∷_}
+use Prim.Native.Nat.{ℕ, _*_}
+use mathlib.Core.Bool.{true, false, _&&_}
+use mathlib.Core.Path.{_≡_, sym, ap, _∙_}
 use lib.Dec.{leb}
-use lib.ListN.{length, drop, take, getD}
-use Rattle.definition.specs.Node.{rows, vars}
-use Rattle.definition.specs.Arena.{Arena, Tables, arena, bytes-right, list-right, pairs-right, vars-right, is-name, faulty, counts-fit}
-use Rattle.arena_check.specs.Held.{Held, tables, counted}
+use lib.ListN.{length}
+use Rattle.definition.specs.Node.{vars}
+use Rattle.definition.specs.Arena.{bytes-right, list-right, pairs-right, vars-right, is-name}
 use Rattle.arena_check.proofs.Lists.{length-rows}
 use Rattle.arena_check.proofs.Rights.{right-3, right-4, right-5, right-6, right-7, right-8, right-else, and-in, and-out}
-use borrow.Author.Needs.{needs}
 use Rattle.arena_check.proofs.row_right_at.Statement.{statement}
 use Rattle.arena_check.proofs.row_right_at.Tie as tie
-use Rattle.arena_check.proofs.row_right_at.Reads as reads
-use Rattle.arena_check.proofs.row_right_at.Lts as lts
-use Rattle.arena_check.proofs.bytes_right_at.Reads as bytes-right-at-reads
-use Rattle.arena_check.proofs.is_name_at.Reads as is-name-at-reads
-use Rattle.arena_check.proofs.list_right_at.Reads as list-right-at-reads
-use Rattle.arena_check.proofs.pairs_right_at.Reads as pairs-right-at-reads
-use Rattle.arena_check.proofs.size.Reads as size-reads
-use Rattle.arena_check.proofs.vars_right_at.Reads as vars-right-at-reads
 
 -- src/lib.rt:172:14
 bytes-right-at-requires : tie.Need-bytes-right-at-requires

@@ -1,14 +1,12 @@
 use native.Mathlib.Omega.{arith}
 use borrow.Author.Needs.{needs}
-use Prim.Native.Nat.{ℕ, _+_, _-_, _*_, _≤_, _<_}
-use mathlib.Core.Path.{_≡_, refl, sym, ap, _∙_, subst}
+use Prim.Native.Nat.{_-_, _≤_}
+use mathlib.Core.Path.{_≡_, refl, ap, _∙_}
 use lib.ListN.{length, take, drop}
 use lib.Seq.{sets, length-sets}
 use Rattle.store.specs.Laws.{copied}
 use Rattle.store.proofs.copy_bytes.Statement.{statement}
 use Rattle.store.proofs.copy_bytes.Tie as tie
-use Rattle.store.proofs.copy_bytes.Reads as reads
-use Rattle.store.proofs.copy_bytes.Lts as lts
 
 abbrev Inv-loop : tie.InvT-loop
 Inv-loop source from bytes₀ to n i₀ bytes i =

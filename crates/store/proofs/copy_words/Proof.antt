@@ -1,15 +1,12 @@
 use native.Mathlib.Omega.{arith}
 use borrow.Author.Needs.{needs}
-use Prim.Native.Nat.{ℕ, _+_, _-_, _*_, _≤_, _<_}
-use mathlib.Core.Path.{_≡_, refl, sym, ap, _∙_, subst}
-use mathlib.Core.List.{List}
+use Prim.Native.Nat.{ℕ, _+_, _-_, _≤_}
+use mathlib.Core.Path.{_≡_, refl, ap, _∙_, subst}
 use lib.ListN.{length, take, drop}
 use lib.Seq.{sets, length-sets, take-length}
 use Rattle.store.specs.Laws.{copied}
 use Rattle.store.proofs.copy_words.Statement.{statement}
 use Rattle.store.proofs.copy_words.Tie as tie
-use Rattle.store.proofs.copy_words.Reads as reads
-use Rattle.store.proofs.copy_words.Lts as lts
 
 abbrev Inv-loop : tie.InvT-loop
 Inv-loop source words₀ to i₀ words i =

@@ -1,13 +1,9 @@
 use borrow.Author.Needs.{needs}
 use native.Mathlib.Omega.{arith}
-use mathlib.Core.Path.{_≡_, refl, sym, ap, _∙_, subst}
 use native.Mathlib.Numerals.{towards-suc}
 use lib.ListN.{length-set}
-use borrow.Author.Needs.{needs}
 use Rattle.store.proofs.put_node.Statement.{statement}
 use Rattle.store.proofs.put_node.Tie as tie
-use Rattle.store.proofs.put_node.Reads as reads
-use Rattle.store.proofs.put_node.Lts as lts
 
 -- src/lib.rt:13:5
 mul-nodes : tie.Need-mul-nodes

@@ -1,0 +1,2 @@
+-- Numbers in code as the definitions have them.
+pub mod Shown

@@ -1,0 +1,77 @@
+// The numbers of document 01 for a refusal, for programs that print them.
+use definition::Answer;
+use definition::Fault;
+use definition::Refusal;
+ghost use mathlib.Core.Path.{_≡_};
+ghost use mathlib.Core.Bool.{false};
+ghost use Rattle.definition.specs.Refused.{numbers, answer-numbers};
+ghost use Rattle.refusal.specs.Shown.{shown};
+
+// A refusal's number and two details; the first detail is below 0 where `below` says so.
+pub struct Numbers {
+    pub number: u32,
+    pub below: bool,
+    pub first: u32,
+    pub second: u32,
+}
+
+fn plain(number: u32, first: u32, second: u32) -> Numbers
+    ensures { λ r. ⌜ r ≡ record { number = number; below = false; first = first; second = second } ⌝ }
+{
+    Numbers {
+        number: number,
+        below: false,
+        first: first,
+        second: second,
+    }
+}
+
+pub fn numbers_of(q: Refusal) -> Numbers
+    ensures { λ r. ⌜ shown r ≡ numbers q ⌝ }
+{
+    match q {
+        Refusal::BadTables(slice) => plain(1, slice, 0),
+        Refusal::BadArena(fault) => match fault {
+            Fault::Counts => Numbers {
+                number: 2,
+                below: true,
+                first: 1,
+                second: 0,
+            },
+            Fault::Node(i) => plain(2, i, 0),
+        },
+        Refusal::InvalidVersion(major, minor) => plain(3, major as u32, minor as u32),
+        Refusal::ShortInput => plain(4, 0, 0),
+        Refusal::InvalidKind(byte) => plain(5, byte as u32, 0),
+        Refusal::NegativeCount(word) => {
+            if word < 2147483648 {
+                plain(6, word, 0)
+            } else {
+                Numbers {
+                    number: 6,
+                    below: true,
+                    first: (4294967295 - word) + 1,
+                    second: 0,
+                }
+            }
+        }
+        Refusal::MissingSymbol(index) => plain(7, index, 0),
+        Refusal::MissingObject(index) => plain(8, index, 0),
+        Refusal::NotASymbol(byte) => plain(9, byte as u32, 0),
+        Refusal::NotAnObject => plain(10, 0, 0),
+        Refusal::TooDeep(limit) => plain(11, limit, 0),
+        Refusal::NoSpace(slice) => plain(12, slice, 0),
+        Refusal::BadHandle(handle) => plain(13, handle, 0),
+        Refusal::WrongKind(handle) => plain(14, handle, 0),
+    }
+}
+
+// An answer's; 0 is accepted.
+pub fn answer_numbers(a: Answer) -> Numbers
+    ensures { λ r. ⌜ shown r ≡ answer-numbers a ⌝ }
+{
+    match a {
+        Answer::Accepted => plain(0, 0, 0),
+        Answer::Refused(q) => numbers_of(q),
+    }
+}

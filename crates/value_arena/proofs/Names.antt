@@ -1,0 +1,200 @@
+-- The search for a symbol by its name, and the slices that builders take.
+use Prim.Native.Nat.{ℕ, zero, suc, _+_, _*_, _%_, _≤_, _<_}
+use native.Mathlib.Omega.{arith}
+use native.Mathlib.Numerals.{add-one}
+use native.Mathlib.Decide.{decLt}
+use mathlib.Core.Bool.{Bool, true, false, not, _&&_, _||_}
+use mathlib.Core.List.{List, [], _∷_}
+use mathlib.Core.Option.{Option, none, some}
+use mathlib.Core.Path.{_≡_, refl, sym, ap, _∙_, subst}
+use lib.Dec.{eqb}
+use lib.ListN.{length, getD, take, drop, drop-of-length-le, List·getD-eq-default}
+use lib.Seq.{drop-cons, length-take-le}
+use borrow.Author.Tests.{lt-ltb, le-ltb, eq-eqb, ne-eqb}
+use Rattle.definition.specs.Run.{ok, pure, refuse, next, _>>=_, look, pick}
+use Rattle.definition.specs.Node.{Row, nil, symbol, kind, row, row-of, rows, equal}
+use Rattle.definition.specs.Arena.{Arena, node, range, name-of, named, find-symbol, too-long, lowest, allowed, sound, fault}
+use Rattle.definition.specs.Build.{Lent, held, check, wrong, byte-slice, member-slice, pair-slice}
+use Rattle.definition.specs.declared.Fault.{Fault}
+use Rattle.arena_check.proofs.Rows.{equal-is}
+use Rattle.arena_check.proofs.Lists.{length-range, range-step, range-end, rows-at, length-rows, kind-three}
+use Rattle.arena_check.proofs.Rights.{node-words, range-take}
+use Rattle.dump_forest.specs.Right as R
+use Rattle.value_arena.specs.Calls.{SymbolsIn}
+use Rattle.value_arena.proofs.Tests.{no-refusal, one-right, one-wrong}
+
+-- ---- the same bytes
+
+module _ (name bytes : List ℕ) (from i : ℕ) (h : from + length name ≤ length bytes) where
+  abbrev there : List ℕ
+  there = take (length name) (drop from bytes)
+
+  step : i < length name → drop i there ≡ getD bytes (from + i) 0 ∷ drop (suc i) there
+  unfolding range
+  step k = range-step bytes from (length name) i h k
+
+  pub same-on : i < length name → getD name i 0 ≡ getD bytes (from + i) 0 → equal (drop i name) (drop i there) ≡ equal (drop (i + 1) name) (drop (i + 1) there)
+  unfolding equal pick
+  same-on k e =
+      (λ j. equal (drop-cons name i 0 k j) (step k j))
+      ∙ ap (λ (b : Bool). pick b (equal (drop (suc i) name) (drop (suc i) there)) false) (eq-eqb (getD name i 0) (getD bytes (from + i) 0) e)
+      ∙ ap (λ (m : ℕ). equal (drop m name) (drop m there)) (sym (add-one i))
+
+  pub same-not : i < length name → (getD name i 0 ≡ getD bytes (from + i) 0 → ⊥) → false ≡ equal (drop i name) (drop i there)
+  unfolding equal pick
+  same-not k e =
+      sym ((λ j. equal (drop-cons name i 0 k j) (step k j))
+      ∙ ap (λ (b : Bool). pick b (equal (drop (suc i) name) (drop (suc i) there)) false) (ne-eqb (getD name i 0) (getD bytes (from + i) 0) e))
+
+  pub same-all : length name ≤ i → true ≡ equal (drop i name) (drop i there)
+  unfolding equal range
+  same-all k = sym (λ j. equal (drop-of-length-le name {i = i} k j) (range-end bytes from (length name) i h k j))
+
+-- ---- a symbol's name
+
+-- lists of different lengths differ
+differ : (l m : List ℕ) → (length l ≡ length m → ⊥) → false ≡ equal l m
+differ l m n = go (equal l m) refl
+  where
+    go : (b : Bool) → equal l m ≡ b → false ≡ b
+    go true e = absurd (n (ap length (equal-is l m e)))
+    go false e = refl
+
+module _ (A : Arena) (count : ℕ) (t : List ℕ) (i : ℕ) (name : List ℕ) (e : A .nodes ≡ rows count t) (lt : i < count) (le : count * 7 ≤ length t) where
+  abbrev at : ℕ → ℕ
+  at k = getD t (i * 7 + k) 0
+
+  -- the row by its words
+  row-is : node A i ≡ row-of (getD t (i * 7) 0) (at 1) (at 2) (at 3) (at 4) (at 5) (at 6)
+  unfolding node row
+  row-is =
+      ap (λ (l : List Row). getD l i nil) e ∙ rows-at count t i lt ∙ ap row (node-words t (i * 7) (omega arith))
+
+  pub no-symbol : (getD t (i * 7) 0 ≡ 3 → ⊥) → false ≡ named (A .bytes) name (node A i)
+  unfolding named
+  no-symbol n =
+      sym (ap (λ (b : Bool). b && equal name (name-of (A .bytes) (node A i)))
+      (ap (λ (r : Row). eqb (kind r) 3) row-is ∙ kind-three _ _ _ _ _ _ _ ∙ ne-eqb (getD t (i * 7) 0) 3 n))
+
+  symbol-is : getD t (i * 7) 0 ≡ 3 → node A i ≡ symbol (at 1) (at 2)
+  unfolding row-of pick
+  symbol-is k = row-is ∙ ap (λ (x : ℕ). row-of x (at 1) (at 2) (at 3) (at 4) (at 5) (at 6)) k
+
+  name-is : getD t (i * 7) 0 ≡ 3 → named (A .bytes) name (node A i) ≡ equal name (range (A .bytes) (at 1) (at 2))
+  unfolding named name-of kind
+  name-is k = ap (named (A .bytes) name) (symbol-is k)
+
+  pub other-length : SymbolsIn A → getD t (i * 7) 0 ≡ 3 → (at 2 ≡ length name → ⊥) → false ≡ named (A .bytes) name (node A i)
+  other-length s k n =
+      differ name (range (A .bytes) (at 1) (at 2)) (λ q. n (sym (q ∙ length-range (A .bytes) (at 1) (at 2) (s i (at 1) (at 2) (symbol-is k))))) ∙ sym (name-is k)
+
+  pub same-name : (bytes : List ℕ) (stored : ℕ) → A .bytes ≡ take stored bytes → getD t (i * 7) 0 ≡ 3 → at 2 ≡ length name → at 1 + at 2 ≤ stored
+      → equal name (take (length name) (drop (at 1) bytes)) ≡ named (A .bytes) name (node A i)
+  unfolding range
+  same-name bytes stored f k n l =
+      ap (λ (m : ℕ). equal name (take m (drop (at 1) bytes))) (sym n)
+      ∙ ap (equal name) (sym (range-take bytes stored (at 1) (at 2) l) ∙ ap (λ (b : List ℕ). range b (at 1) (at 2)) (sym f))
+      ∙ sym (name-is k)
+
+  -- a symbol's bytes are among those stored
+  pub stored-in : (bytes : List ℕ) (stored : ℕ) → stored ≤ length bytes → A .bytes ≡ take stored bytes → SymbolsIn A → getD t (i * 7) 0 ≡ 3 → at 1 + at 2 ≤ stored
+  stored-in bytes stored h f s k =
+      subst (λ (m : ℕ). at 1 + at 2 ≤ m) (ap length f ∙ length-take-le stored bytes h) (s i (at 1) (at 2) (symbol-is k))
+
+-- ---- the search
+
+module _ (A : Arena) (name : List ℕ) (i : ℕ) where
+  abbrev left : ℕ → Option ℕ
+  left k = find-symbol (A .bytes) name (drop k (A .nodes)) k
+
+  begin : i < length (A .nodes) → left i ≡ pick (named (A .bytes) name (node A i)) (some i) (find-symbol (A .bytes) name (drop (suc i) (A .nodes)) (suc i))
+  unfolding find-symbol node
+  begin h = ap (λ (l : List Row). find-symbol (A .bytes) name l i) (drop-cons (A .nodes) i nil h)
+
+  pub find-on : i < length (A .nodes) → false ≡ named (A .bytes) name (node A i) → left i ≡ left (i + 1)
+  unfolding pick
+  find-on h t =
+      begin h ∙ ap (λ (b : Bool). pick b (some i) (find-symbol (A .bytes) name (drop (suc i) (A .nodes)) (suc i))) (sym t) ∙ ap left (sym (add-one i))
+
+  pub find-here : i < length (A .nodes) → true ≡ named (A .bytes) name (node A i) → some i ≡ left i
+  unfolding pick
+  find-here h t =
+      sym (begin h ∙ ap (λ (b : Bool). pick b (some i) (find-symbol (A .bytes) name (drop (suc i) (A .nodes)) (suc i))) (sym t))
+
+  pub find-none : length (A .nodes) ≤ i → none ≡ left i
+  unfolding find-symbol
+  find-none h = sym (ap (λ (l : List Row). find-symbol (A .bytes) name l i) (drop-of-length-le (A .nodes) {i = i} h))
+
+pub nodes-counted : (A : Arena) (count : ℕ) (t : List ℕ) → A .nodes ≡ rows count t → length (A .nodes) ≡ count
+nodes-counted A count t e = ap length e ∙ length-rows count t
+
+-- a checked arena's symbols are right
+fault-free : (L : Lent) (ts : List (ℕ × Bool)) → check ts L ≡ ok tt L → fault (L .tables) (L .counts) ≡ none
+unfolding check look _>>=_ next allowed sound pure refuse
+fault-free L ts e = go (wrong (L .tables) ts) (fault (L .tables) (L .counts)) e
+  where
+    go : (w : ℕ) (f : Option Fault) → next (allowed w L) (λ _. sound f) ≡ ok tt L → f ≡ none
+    go zero none e = refl
+    go zero (some f) e = absurd (no-refusal e)
+    go (suc w) f e = absurd (no-refusal e)
+
+-- past the nodes there is nil, and nil is no symbol
+out : (A : Arena) (i : ℕ) → length (A .nodes) ≤ i → node A i ≡ nil
+unfolding node
+out A i h = List·getD-eq-default (A .nodes) nil {n = i} h
+
+kinds : {s l : ℕ} → nil ≡ symbol s l → _≡_ {A = ℕ} 0 3
+unfolding kind
+kinds e = ap kind e
+
+pub symbols-in : (L : Lent) (ts : List (ℕ × Bool)) → check ts L ≡ ok tt L → SymbolsIn (held L)
+symbols-in L ts e i s l q = go (decLt i (length (held L .nodes)))
+  where
+    past : length (held L .nodes) ≤ i → node (held L) i ≡ nil
+    past h = out (held L) i h
+
+    go : Dec (i < length (held L .nodes)) → s + l ≤ length (held L .bytes)
+    go (yes h) = R.fault-right (L .tables) (L .counts) (fault-free L ts e) .rows-right i (symbol s l) (R.at-node (held L) i h ∙ ap some q)
+    go (no h) = let z : _≡_ {A = ℕ} 0 3 = kinds (sym (past (omega arith)) ∙ q) in absurd (omega arith)
+
+-- ---- slices
+
+module _ (n : ℕ) (bs : List ℕ) (e : length bs ≡ n) where
+  long : 2147483647 < n → too-long (length bs) ≡ true
+  unfolding too-long
+  long h = rw e (lt-ltb 2147483647 n h)
+
+  short : n ≤ 2147483647 → too-long (length bs) ≡ false
+  unfolding too-long
+  short h = rw e (le-ltb 2147483647 n h)
+
+  pub bytes-long : 2147483647 < n → lowest (byte-slice bs ∷ []) ≡ 8
+  unfolding byte-slice
+  bytes-long h = one-wrong 8 (too-long (length bs)) (long h)
+
+  pub bytes-right : n ≤ 2147483647 → lowest (byte-slice bs ∷ []) ≡ 0
+  unfolding byte-slice
+  bytes-right h = one-right 8 (too-long (length bs)) (short h)
+
+  pub members-long : 2147483647 < n → lowest (member-slice bs ∷ []) ≡ 9
+  unfolding member-slice
+  members-long h = one-wrong 9 (too-long (length bs)) (long h)
+
+  pub members-right : n ≤ 2147483647 → lowest (member-slice bs ∷ []) ≡ 0
+  unfolding member-slice
+  members-right h = one-right 9 (too-long (length bs)) (short h)
+
+  abbrev odd : Bool
+  odd = too-long (length bs) || not (eqb (length bs % 2) 0)
+
+  pub pairs-long : 2147483647 < n → lowest (pair-slice bs ∷ []) ≡ 9
+  unfolding pair-slice
+  pairs-long h = one-wrong 9 odd (ap (λ (b : Bool). b || not (eqb (length bs % 2) 0)) (long h))
+
+  pub pairs-odd : n ≤ 2147483647 → (n % 2 ≡ 0 → ⊥) → lowest (pair-slice bs ∷ []) ≡ 9
+  unfolding pair-slice
+  pairs-odd h k = one-wrong 9 odd (λ i. short h i || not (ne-eqb (length bs % 2) 0 (λ q. k (ap (λ (m : ℕ). m % 2) (sym e) ∙ q)) i))
+
+  pub pairs-right : n ≤ 2147483647 → n % 2 ≡ 0 → lowest (pair-slice bs ∷ []) ≡ 0
+  unfolding pair-slice
+  pairs-right h k = one-right 9 odd (λ i. short h i || not (eq-eqb (length bs % 2) 0 (ap (λ (m : ℕ). m % 2) e ∙ k) i))

@@ -1,0 +1,2 @@
+-- What the contracts of the arena's functions say.
+pub mod Calls
