@@ -164,11 +164,11 @@ load-used input room limit h s e = forwards (load-traced input room limit s h e)
 
 -- ---- what is lent is allowed
 
-or-none : (a b : Bool) → a || b ≡ false → (a ≡ false) × (b ≡ false)
+pub or-none : (a b : Bool) → a || b ≡ false → (a ≡ false) × (b ≡ false)
 or-none false b e = (refl, e)
 or-none true b e = apart (cc)
 
-not-none : (a : Bool) → not a ≡ false → a ≡ true
+pub not-none : (a : Bool) → not a ≡ false → a ≡ true
 not-none true e = refl
 not-none false e = apart (cc)
 
@@ -196,7 +196,7 @@ pub short : (n : ℕ) → too-long n ≡ false → n ≤ 2147483647
 unfolding too-long
 short n e = most-none 2147483647 n e
 
-nodes-allowed : (n : ℕ) → bad-nodes n ≡ false → (n ≤ 2147483647) × (1 ≤ n / 7) × (n % 7 ≡ 0)
+pub nodes-allowed : (n : ℕ) → bad-nodes n ≡ false → (n ≤ 2147483647) × (1 ≤ n / 7) × (n % 7 ≡ 0)
 unfolding bad-nodes
 nodes-allowed n e =
     let (x, y) = or-none _ _ e in
@@ -319,7 +319,7 @@ load-lengths input T limit h s w e =
       bytes-length = length-padded (T .bytes) (s .bytes) b;
     }
 
-five : (a b c d e : Bool) → a ≡ true → b ≡ true → c ≡ true → d ≡ true → e ≡ true → a && b && c && d && e ≡ true
+pub five : (a b c d e : Bool) → a ≡ true → b ≡ true → c ≡ true → d ≡ true → e ≡ true → a && b && c && d && e ≡ true
 five a b c d e p q r s t = rw (p, q, r, s, t)
 
 counts-left-fit : (input : List ℕ) (T : Lists) (limit h : ℕ) (s : State) → load-wrong input T limit ≡ 0 → load input (room-of T) limit ≡ ok h s → counts-fit (tables-left T s) (counts-left s h) ≡ true

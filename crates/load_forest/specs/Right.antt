@@ -521,7 +521,7 @@ yes-leb n m h = holds (leb n m) (le→leb n m h)
 pub yes-ltb : (n m : ℕ) → n < m → ltb n m ≡ true
 yes-ltb n m h = holds (ltb n m) (lt→ltb n m h)
 
-yes-and : (a b : Bool) → a ≡ true → b ≡ true → a && b ≡ true
+pub yes-and : (a b : Bool) → a ≡ true → b ≡ true → a && b ≡ true
 yes-and a b p q = rw (p, q)
 
 all-below-yes : (n : ℕ) (l : List ℕ) → Below n l → all-below n l ≡ true

@@ -4,3 +4,5 @@ pub mod Space
 pub mod Theorem
 pub mod Loaded
 pub mod Graphs
+pub mod Print
+pub mod Equal

@@ -111,14 +111,14 @@ symbol-weighs : (t : List Node) (v : ℕ) (b : List ℕ) → At t v (sym b) → 
 symbol-weighs t v b a = rw a
 
 -- what a forest takes of each table and list, where it describes a table of nodes
-record Takes (t : List Node) (g : F) (v : ℕ) : Type 0 where
+pub record Takes (t : List Node) (g : F) (v : ℕ) : Type 0 where
   words : refsOf g ≤ total node-words t
   bytes : bytesOf g ≤ total node-bytes t
-  objects : boxesOf g ≤ total node-box t
-  symbols : symsOf g ≤ total node-sym t
+  pub objects : boxesOf g ≤ total node-box t
+  pub symbols : symsOf g ≤ total node-sym t
   nodes : nodesOf g ≤ Φ (lf t) 1 t + lf t v
 
-taken : (t : List Node) (g : F) (v : ℕ) (σ : Num) → E t g (v ∷ []) fresh σ → Takes t g v
+pub taken : (t : List Node) (g : F) (v : ℕ) (σ : Num) → E t g (v ∷ []) fresh σ → Takes t g v
 taken t g v σ d =
     let n = numbered d (none-numbered t) in
     let i = e-dist d no-dist in

@@ -151,7 +151,7 @@ trip X T limit by l scratch output dump-limit k =
 same-load : (o : Outcome State ℕ) (h h′ : ℕ) (s s′ : State) → o ≡ ok h s → o ≡ ok h′ s′ → (h ≡ h′) × (s ≡ s′)
 same-load o h h′ s s′ e e′ = (cc, cc)
 
-same-text : (x y : List ℕ) → _≡_ {A = List ℕ} (0x04 ∷ 0x08 ∷ x) (0x04 ∷ 0x08 ∷ y) → x ≡ y
+pub same-text : (x y : List ℕ) → _≡_ {A = List ℕ} (0x04 ∷ 0x08 ∷ x) (0x04 ∷ 0x08 ∷ y) → x ≡ y
 same-text x y e = cc
 
 -- what was written is loaded in any room that is large enough

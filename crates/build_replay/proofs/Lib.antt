@@ -1,0 +1,2 @@
+-- A law for the proofs.
+pub mod Minus

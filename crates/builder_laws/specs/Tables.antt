@@ -1,0 +1,107 @@
+-- Stores past the used part of a table: the part before them, the part written, and a table's rows.
+use Prim.Native.Nat.{ℕ, zero, suc, _+_, _*_, _≤_, _<_}
+use mathlib.Core.Path.{_≡_, refl, ap, sym, _∙_}
+use mathlib.Core.Bool.{Bool, true, false}
+use mathlib.Core.Option.{Option, none, some}
+use mathlib.Core.List.{List, [], _∷_, _++_, append-assoc}
+use lib.ListN.{length, set, take, drop, length-append}
+use lib.Seq.{take-set-le, drop-drop, length-take-le, sets, sets-eq, take-at, drop-at}
+use native.Mathlib.Omega.{arith}
+use Rattle.definition.specs.Run.{pick}
+use Rattle.definition.specs.Node.{Row, words, flat, row, rows}
+use Rattle.definition.specs.Arena.{Arena, range, node-right, faulty}
+use Rattle.definition.specs.Build.{words-at}
+use Rattle.definition.specs.declared.Fault.{Fault}
+use Rattle.definition.specs.declared.Fault.the-variants.{Node}
+use Rattle.graph.specs.Lists.{apart}
+use Rattle.load_forest.specs.Call.{length-flat}
+
+-- ---- stores
+
+range-set : (l : List ℕ) (s n i v : ℕ) → s + n ≤ i → range (set l i v) s n ≡ range l s n
+unfolding range
+range-set l zero n i v h = take-set-le n l i v (omega arith)
+range-set [] (suc s) n i v h = refl
+range-set (x ∷ l) (suc s) n zero v h = absurd (omega arith)
+range-set (x ∷ l) (suc s) n (suc i) v h = range-set l s n i v (omega arith)
+
+-- what lies before the stores
+pub range-before : (vs l : List ℕ) (s n i : ℕ) → s + n ≤ i → range (sets l i vs) s n ≡ range l s n
+range-before [] l s n i h = refl
+range-before (v ∷ vs) l s n i h = range-before vs (set l i v) s n (suc i) (omega arith) ∙ range-set l s n i v h
+
+pub take-before : (vs l : List ℕ) (n i : ℕ) → n ≤ i → take n (sets l i vs) ≡ take n l
+unfolding range
+take-before vs l n i h = range-before vs l 0 n i (omega arith)
+
+-- the used part with what is stored after it
+pub take-stored : (vs l : List ℕ) (i : ℕ) → i + length vs ≤ length l → take (i + length vs) (sets l i vs) ≡ take i l ++ vs
+take-stored vs l i h =
+    ap (take (i + length vs)) (sets-eq vs l i h)
+    ∙ take-at (take i l ++ vs) (drop (i + length vs) l) (i + length vs) (omega (arith, length-append (take i l) vs, length-take-le i l (omega arith)))
+
+-- what is stored
+pub range-stored : (vs l : List ℕ) (i n : ℕ) → length vs ≡ n → i + n ≤ length l → range (sets l i vs) i n ≡ vs
+unfolding range
+range-stored vs l i n e h =
+    ap (λ (t : List ℕ). take n (drop i t)) (sets-eq vs l i (omega arith) ∙ append-assoc (take i l) vs (drop (i + length vs) l))
+    ∙ ap (take n) (drop-at (take i l) (vs ++ drop (i + length vs) l) i (length-take-le i l (omega arith)))
+    ∙ take-at vs (drop (i + length vs) l) n e
+
+-- ---- a node's words
+
+pub length-words : (r : Row) → length (words r) ≡ 7
+unfolding flat
+length-words r = omega (arith, length-flat (r ∷ []), length-append (words r) [])
+
+pub words-before : (r : Row) (t : List ℕ) (n i : ℕ) → i < n → words-at (sets t (n * 7) (words r)) i ≡ words-at t i
+unfolding words-at range
+words-before r t n i h = range-before (words r) t (i * 7) 7 (n * 7) (omega arith)
+
+pub words-stored : (r : Row) (t : List ℕ) (n : ℕ) → n * 7 + 7 ≤ length t → words-at (sets t (n * 7) (words r)) n ≡ words r
+unfolding words-at range
+words-stored r t n h = range-stored (words r) t (n * 7) 7 (length-words r) h
+
+words-next : (t : List ℕ) (i : ℕ) → words-at (drop 7 t) i ≡ words-at t (suc i)
+unfolding words-at
+words-next t i = let y : 7 + i * 7 ≡ suc i * 7 = omega arith in ap (take 7) (drop-drop (i * 7) 7 t ∙ ap (λ (k : ℕ). drop k t) y)
+
+-- ---- rows
+
+pub rows-same : (n : ℕ) (t u : List ℕ) → ((i : ℕ) → i < n → words-at u i ≡ words-at t i) → rows n u ≡ rows n t
+unfolding rows words-at
+rows-same zero t u e = refl
+rows-same (suc n) t u e =
+    let h : row (take 7 u) ≡ row (take 7 t) = ap row (e 0 (omega arith)) in
+    let k : rows n (drop 7 u) ≡ rows n (drop 7 t) = rows-same n (drop 7 t) (drop 7 u) (λ i l. words-next u i ∙ e (suc i) (omega arith) ∙ sym (words-next t i)) in
+    λ i. h i ∷ k i
+
+pub rows-last : (n : ℕ) (t : List ℕ) → rows (n + 1) t ≡ rows n t ++ (row (words-at t n) ∷ [])
+unfolding rows words-at
+rows-last zero t = refl
+rows-last (suc n) t =
+    let z : suc n + 1 ≡ suc (n + 1) = omega arith in
+    let k : rows (n + 1) (drop 7 t) ≡ rows n (drop 7 t) ++ (row (words-at t (suc n)) ∷ []) = rows-last n (drop 7 t) ∙ ap (λ (ws : List ℕ). rows n (drop 7 t) ++ (row ws ∷ [])) (words-next t n) in
+    ap (λ (m : ℕ). rows m t) z ∙ ap (λ (l : List Row). row (take 7 t) ∷ l) k
+
+-- ---- the test of nodes
+
+pick-none : (b : Bool) (o : Option Fault) (f : Fault) → pick b o (some f) ≡ none → (b ≡ true) × (o ≡ none)
+unfolding pick
+pick-none true o f e = (refl, e)
+pick-none false o f e = apart (cc)
+
+pub faulty-words : (A : Arena) (n i : ℕ) (t : List ℕ) → faulty A n i t ≡ none → (k : ℕ) → k < n → node-right A (words-at t k) ≡ true
+unfolding faulty words-at
+faulty-words A zero i t e k h = absurd (omega arith)
+faulty-words A (suc n) i t e zero h = pick-none (node-right A (take 7 t)) (faulty A n (suc i) (drop 7 t)) (Node i) e .0
+faulty-words A (suc n) i t e (suc k) h =
+    let q : faulty A n (suc i) (drop 7 t) ≡ none = pick-none (node-right A (take 7 t)) (faulty A n (suc i) (drop 7 t)) (Node i) e .1 in
+    ap (node-right A) (sym (words-next t k)) ∙ faulty-words A n (suc i) (drop 7 t) q k (omega arith)
+
+pub words-faulty : (A : Arena) (n i : ℕ) (t : List ℕ) → ((k : ℕ) → k < n → node-right A (words-at t k) ≡ true) → faulty A n i t ≡ none
+unfolding faulty words-at pick
+words-faulty A zero i t h = refl
+words-faulty A (suc n) i t h =
+    let q : node-right A (take 7 t) ≡ true = h 0 (omega arith) in
+    rw q (words-faulty A n (suc i) (drop 7 t) (λ k l. ap (node-right A) (words-next t k) ∙ h (suc k) (omega arith)))

@@ -1,0 +1,1 @@
+// Theorems only: what an accepted call of the builder leaves.

@@ -1,0 +1,2 @@
+-- What load's contract is written with.
+pub mod Call

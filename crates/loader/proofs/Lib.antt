@@ -1,0 +1,9 @@
+-- Laws for the proofs of the loader's functions, here and above.
+pub mod Counts
+pub mod Stores
+pub mod Laws
+pub mod Names
+pub mod Steps
+pub mod Little
+pub mod Integers
+pub mod Readers

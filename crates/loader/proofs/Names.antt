@@ -1,0 +1,314 @@
+-- Symbols by name: among the nodes and on the symbol list.
+use Prim.Native.Nat.{ℕ, zero, suc, _+_, _≤_, _<_}
+use native.Mathlib.Omega.{arith}
+use native.Mathlib.Numerals.{add-one}
+use native.Mathlib.Nat.{add-zero, zero-add}
+use mathlib.Core.Path.{_≡_, refl, sym, ap, _∙_, subst}
+use mathlib.Core.Bool.{Bool, true, false}
+use mathlib.Core.List.{List, [], _∷_, _++_}
+use mathlib.Core.Option.{Option, none, some}
+use lib.ListN.{length, take, drop, getD, set, length-take, length-drop, drop-of-length-le, List·getD-append}
+use lib.Seq.{drop-cons, getD-take, getD-drop, getD-append-seam, take-append-le, drop-append-le}
+use lib.Dec.{eqb}
+use borrow.Author.Tests.{eq-eqb, ne-eqb}
+use Rattle.definition.specs.Run.{pick}
+use Rattle.definition.specs.Node.{Row, nil, bool, fixnum, symbol, array, hash, object, string, user, kind, words, equal}
+use Rattle.definition.specs.Arena.{range, name-of, named, find-symbol}
+use Rattle.loader.specs.Holds.{Plain, Symbolic, Fit, AllFit, AllSymbolic, Names, find-listed}
+
+-- ---- one row
+
+pub plain-named : (bytes name : List ℕ) (r : Row) → Plain r → named bytes name r ≡ false
+unfolding named kind
+plain-named bytes name nil p = refl
+plain-named bytes name (bool b) p = refl
+plain-named bytes name (fixnum w) p = refl
+plain-named bytes name (symbol s l) p = absurd p
+plain-named bytes name (array s n) p = refl
+plain-named bytes name (hash s n d) p = refl
+plain-named bytes name (object s n c) p = refl
+plain-named bytes name (string s l v) p = refl
+plain-named bytes name (user s l c v) p = refl
+
+-- what a symbol's words say
+pub symbol-named : (n : ℕ) (bytes name : List ℕ) (r : Row) → Symbolic r → Fit n r → (named bytes name r ≡ equal name (take (getD (words r) 2 0) (drop (getD (words r) 1 0) bytes))) × (getD (words r) 1 0 + getD (words r) 2 0 ≤ n)
+unfolding named kind name-of range words
+symbol-named n bytes name nil p f = absurd p
+symbol-named n bytes name (bool b) p f = absurd p
+symbol-named n bytes name (fixnum w) p f = absurd p
+symbol-named n bytes name (symbol s l) p f = (refl, f)
+symbol-named n bytes name (array s k) p f = absurd p
+symbol-named n bytes name (hash s k d) p f = absurd p
+symbol-named n bytes name (object s k c) p f = absurd p
+symbol-named n bytes name (string s l v) p f = absurd p
+symbol-named n bytes name (user s l c v) p f = absurd p
+
+pub range-more : (b bs : List ℕ) (s l : ℕ) → s + l ≤ length b → take l (drop s (b ++ bs)) ≡ take l (drop s b)
+range-more b bs s l h =
+    let x : s ≤ length b = omega arith in
+    let y : l ≤ length (drop s b) = simp length-drop (omega arith) in
+    ap (λ (x : List ℕ). take l x) (drop-append-le s b bs x) ∙ take-append-le l (drop s b) bs y
+
+named-more : (b bs name : List ℕ) (r : Row) → Fit (length b) r → named (b ++ bs) name r ≡ named b name r
+unfolding named kind name-of range
+named-more b bs name nil f = refl
+named-more b bs name (bool x) f = refl
+named-more b bs name (fixnum w) f = refl
+named-more b bs name (symbol s l) f = ap (λ (x : List ℕ). equal name x) (range-more b bs s l f)
+named-more b bs name (array s n) f = refl
+named-more b bs name (hash s n d) f = refl
+named-more b bs name (object s n c) f = refl
+named-more b bs name (string s l v) f = refl
+named-more b bs name (user s l c v) f = refl
+
+fit-any : (n : ℕ) (rows : List Row) (i : ℕ) → AllFit n rows → Fit n (getD rows i nil)
+fit-any n [] i f = tt
+fit-any n (r ∷ rows) zero f = f 0 (omega arith)
+fit-any n (r ∷ rows) (suc i) f = fit-any n rows i (λ j l. f (suc j) (omega arith))
+
+-- a symbol's node is there
+pub symbolic-below : (rows : List Row) (i : ℕ) → Symbolic (getD rows i nil) → i < length rows
+symbolic-below [] i p = absurd p
+symbolic-below (r ∷ rows) zero p = omega arith
+symbolic-below (r ∷ rows) (suc i) p = let l = symbolic-below rows i p in omega arith
+
+pub plain-symbolic : (r : Row) → Plain r → Symbolic r → ⊥
+plain-symbolic nil p q = q
+plain-symbolic (bool b) p q = q
+plain-symbolic (fixnum w) p q = q
+plain-symbolic (symbol s l) p q = p
+plain-symbolic (array s n) p q = q
+plain-symbolic (hash s n d) p q = q
+plain-symbolic (object s n c) p q = q
+plain-symbolic (string s l v) p q = q
+plain-symbolic (user s l c v) p q = q
+
+-- ---- the searches
+
+or-else : Option ℕ → Option ℕ → Option ℕ
+or-else (some i) o = some i
+or-else none o = o
+
+pick-else : (t : Bool) (i : ℕ) (a b : Option ℕ) → pick t (some i) (or-else a b) ≡ or-else (pick t (some i) a) b
+unfolding pick or-else
+pick-else true i a b = refl
+pick-else false i a b = refl
+
+-- rows that are named alike
+find-alike : (b b' name : List ℕ) (rows rows' : List Row) (i : ℕ) → length rows ≡ length rows' → ((j : ℕ) → named b name (getD rows j nil) ≡ named b' name (getD rows' j nil)) → find-symbol b name rows i ≡ find-symbol b' name rows' i
+unfolding find-symbol
+find-alike b b' name [] [] i e h = refl
+find-alike b b' name [] (r' ∷ rows') i e h = absurd (omega arith)
+find-alike b b' name (r ∷ rows) [] i e h = absurd (omega arith)
+find-alike b b' name (r ∷ rows) (r' ∷ rows') i e h =
+    ap (λ (t : Bool). pick t (some i) (find-symbol b name rows (suc i))) (h 0)
+    ∙ ap (λ (o : Option ℕ). pick (named b' name r') (some i) o) (find-alike b b' name rows rows' (suc i) (omega arith) (λ j. h (suc j)))
+
+listed-alike : (b b' name : List ℕ) (rows rows' : List Row) (l : List ℕ) → ((i : ℕ) → i < length l → named b name (getD rows (getD l i 0) nil) ≡ named b' name (getD rows' (getD l i 0) nil)) → find-listed b name rows l ≡ find-listed b' name rows' l
+unfolding find-listed
+listed-alike b b' name rows rows' [] h = refl
+listed-alike b b' name rows rows' (x ∷ l) h =
+    ap (λ (t : Bool). pick t (some x) (find-listed b name rows l)) (h 0 (omega arith))
+    ∙ ap (λ (o : Option ℕ). pick (named b' name (getD rows' x nil)) (some x) o) (listed-alike b b' name rows rows' l (λ i k. h (suc i) (omega arith)))
+
+find-snoc : (b name : List ℕ) (rows : List Row) (r : Row) (i : ℕ) → find-symbol b name (rows ++ (r ∷ [])) i ≡ or-else (find-symbol b name rows i) (pick (named b name r) (some (i + length rows)) none)
+unfolding find-symbol or-else
+find-snoc b name [] r i = ap (λ (k : ℕ). pick (named b name r) (some k) none) (sym (add-zero i))
+find-snoc b name (x ∷ rows) r i =
+    let e : suc i + length rows ≡ i + suc (length rows) = omega arith in
+    ap (λ (o : Option ℕ). pick (named b name x) (some i) o) (find-snoc b name rows r (suc i) ∙ ap (λ (k : ℕ). or-else (find-symbol b name rows (suc i)) (pick (named b name r) (some k) none)) e)
+    ∙ pick-else (named b name x) i _ _
+
+listed-snoc : (b name : List ℕ) (rows : List Row) (l : List ℕ) (h : ℕ) → find-listed b name rows (l ++ (h ∷ [])) ≡ or-else (find-listed b name rows l) (pick (named b name (getD rows h nil)) (some h) none)
+unfolding find-listed or-else
+listed-snoc b name rows [] h = refl
+listed-snoc b name rows (x ∷ l) h =
+    ap (λ (o : Option ℕ). pick (named b name (getD rows x nil)) (some x) o) (listed-snoc b name rows l h)
+    ∙ pick-else (named b name (getD rows x nil)) x _ _
+
+or-none : (o : Option ℕ) → or-else o none ≡ o
+unfolding or-else
+or-none (some i) = refl
+or-none none = refl
+
+pick-true : (t : Bool) (i : ℕ) (o : Option ℕ) → pick t (some i) o ≡ none → (t ≡ false) × (o ≡ none)
+unfolding pick
+pick-true true i o e = absurd (subst full e tt)
+  where
+    full : Option ℕ → Type 0
+    full (some i) = Unit {0}
+    full none = ⊥
+pick-true false i o e = (refl, e)
+
+not-named : (b name : List ℕ) (rows : List Row) (i j : ℕ) → find-symbol b name rows i ≡ none → j < length rows → named b name (getD rows j nil) ≡ false
+unfolding find-symbol
+not-named b name [] i j e l = absurd (omega arith)
+not-named b name (r ∷ rows) i zero e l = pick-true (named b name r) i _ e .0
+not-named b name (r ∷ rows) i (suc j) e l = not-named b name rows (suc i) j (pick-true (named b name r) i _ e .1) (omega arith)
+
+-- ---- the names that are held
+
+pub names-bytes : (b bs : List ℕ) (rows : List Row) (l : List ℕ) → AllFit (length b) rows → Names b rows l → Names (b ++ bs) rows l
+names-bytes b bs rows l f h name =
+    find-alike (b ++ bs) b name rows rows 0 refl (λ j. named-more b bs name (getD rows j nil) (fit-any (length b) rows j f))
+    ∙ h name
+    ∙ listed-alike b (b ++ bs) name rows rows l (λ i k. sym (named-more b bs name (getD rows (getD l i 0) nil) (fit-any (length b) rows (getD l i 0) f)))
+
+-- a row more
+rows-more : (rows : List Row) (r : Row) (l : List ℕ) → AllSymbolic rows l → (i : ℕ) → i < length l → getD (rows ++ (r ∷ [])) (getD l i 0) nil ≡ getD rows (getD l i 0) nil
+rows-more rows r l y i k = List·getD-append rows (r ∷ []) nil (getD l i 0) (symbolic-below rows (getD l i 0) (y i k))
+
+pub symbolic-more : (rows : List Row) (r : Row) (l : List ℕ) → AllSymbolic rows l → AllSymbolic (rows ++ (r ∷ [])) l
+symbolic-more rows r l y i k = subst Symbolic (sym (rows-more rows r l y i k)) (y i k)
+
+listed-more : (b name : List ℕ) (rows : List Row) (r : Row) (l : List ℕ) → AllSymbolic rows l → find-listed b name (rows ++ (r ∷ [])) l ≡ find-listed b name rows l
+listed-more b name rows r l y = listed-alike b b name (rows ++ (r ∷ [])) rows l (λ i k. ap (named b name) (rows-more rows r l y i k))
+
+pub names-more : (b : List ℕ) (rows : List Row) (r : Row) (l : List ℕ) → Plain r → AllSymbolic rows l → Names b rows l → Names b (rows ++ (r ∷ [])) l
+unfolding pick
+names-more b rows r l p y h name =
+    find-snoc b name rows r 0
+    ∙ ap (λ (t : Bool). or-else (find-symbol b name rows 0) (pick t (some (0 + length rows)) none)) (plain-named b name r p)
+    ∙ or-none (find-symbol b name rows 0)
+    ∙ h name
+    ∙ sym (listed-more b name rows r l y)
+
+-- a row changed
+row-set : (P : Row → Type 0) (rows : List Row) (k : ℕ) (r : Row) (j : ℕ) → k < length rows → P r → P (getD rows j nil) → P (getD (set rows k r) j nil)
+row-set P [] k r j l p q = absurd (omega arith)
+row-set P (x ∷ rows) zero r zero l p q = p
+row-set P (x ∷ rows) zero r (suc j) l p q = q
+row-set P (x ∷ rows) (suc k) r zero l p q = q
+row-set P (x ∷ rows) (suc k) r (suc j) l p q = row-set P rows k r j (omega arith) p q
+
+pub plain-set : (rows : List Row) (k : ℕ) (r : Row) (j : ℕ) → k < length rows → Plain r → Plain (getD rows j nil) → Plain (getD (set rows k r) j nil)
+plain-set rows k r j l p q = row-set Plain rows k r j l p q
+
+-- one row in two lists of rows: the same, or both are no symbol's
+alike-set : (b name : List ℕ) (rows : List Row) (k : ℕ) (r : Row) (j : ℕ) → Plain r → Plain (getD rows k nil) → named b name (getD (set rows k r) j nil) ≡ named b name (getD rows j nil)
+alike-set b name [] k r j p q = refl
+alike-set b name (x ∷ rows) zero r zero p q = plain-named b name r p ∙ sym (plain-named b name x q)
+alike-set b name (x ∷ rows) zero r (suc j) p q = refl
+alike-set b name (x ∷ rows) (suc k) r zero p q = refl
+alike-set b name (x ∷ rows) (suc k) r (suc j) p q = alike-set b name rows k r j p q
+
+symbolic-row : (rows : List Row) (k : ℕ) (r : Row) (j : ℕ) → Plain (getD rows k nil) → Symbolic (getD rows j nil) → Symbolic (getD (set rows k r) j nil)
+symbolic-row [] k r j p q = q
+symbolic-row (x ∷ rows) zero r zero p q = absurd (plain-symbolic x p q)
+symbolic-row (x ∷ rows) zero r (suc j) p q = q
+symbolic-row (x ∷ rows) (suc k) r zero p q = q
+symbolic-row (x ∷ rows) (suc k) r (suc j) p q = symbolic-row rows k r j p q
+
+pub symbolic-set : (rows : List Row) (k : ℕ) (r : Row) (l : List ℕ) → Plain (getD rows k nil) → AllSymbolic rows l → AllSymbolic (set rows k r) l
+symbolic-set rows k r l p y i u = symbolic-row rows k r (getD l i 0) p (y i u)
+
+pub names-set : (b : List ℕ) (rows : List Row) (k : ℕ) (r : Row) (l : List ℕ) → Plain r → Plain (getD rows k nil) → Names b rows l → Names b (set rows k r) l
+names-set b rows k r l p q h name =
+    find-alike b b name (set rows k r) rows 0 (lib.ListN.length-set rows k r) (λ j. alike-set b name rows k r j p q)
+    ∙ h name
+    ∙ sym (listed-alike b b name (set rows k r) rows l (λ i u. alike-set b name rows k r (getD l i 0) p q))
+
+-- a symbol more, on the list
+symbolic-snoc : (rows : List Row) (l : List ℕ) (h : ℕ) → AllSymbolic rows l → Symbolic (getD rows h nil) → AllSymbolic rows (l ++ (h ∷ []))
+symbolic-snoc rows [] h y p zero k = p
+symbolic-snoc rows [] h y p (suc i) k = absurd (omega arith)
+symbolic-snoc rows (x ∷ l) h y p zero k = y 0 (omega arith)
+symbolic-snoc rows (x ∷ l) h y p (suc i) k = symbolic-snoc rows l h (λ j u. y (suc j) (omega arith)) p i (omega arith)
+
+pub symbolic-known : (rows : List Row) (l : List ℕ) (h : ℕ) → Symbolic (getD rows h nil) → AllSymbolic rows l → AllSymbolic rows (l ++ (h ∷ []))
+symbolic-known rows l h p y = symbolic-snoc rows l h y p
+
+pub names-known : (b : List ℕ) (rows : List Row) (l : List ℕ) (h : ℕ) → Symbolic (getD rows h nil) → Names b rows l → Names b rows (l ++ (h ∷ []))
+unfolding or-else pick
+names-known b rows l h p y name = y name ∙ go (find-listed b name rows l) refl ∙ sym (listed-snoc b name rows l h)
+  where
+    go : (o : Option ℕ) → find-listed b name rows l ≡ o → find-listed b name rows l ≡ or-else (find-listed b name rows l) (pick (named b name (getD rows h nil)) (some h) none)
+    go (some i) e = e ∙ ap (λ (o : Option ℕ). or-else o (pick (named b name (getD rows h nil)) (some h) none)) (sym e)
+    go none e =
+        e
+        ∙ ap (λ (t : Bool). pick t (some h) none) (sym (not-named b name rows 0 h (y name ∙ e) (symbolic-below rows h p)))
+        ∙ ap (λ (o : Option ℕ). or-else o (pick (named b name (getD rows h nil)) (some h) none)) (sym e)
+
+row-last : (rows : List Row) (r : Row) → getD (rows ++ (r ∷ [])) (length rows) nil ≡ r
+row-last rows r = getD-append-seam rows r [] nil
+
+pub symbolic-new : (rows : List Row) (r : Row) (l : List ℕ) → Symbolic r → AllSymbolic rows l → AllSymbolic (rows ++ (r ∷ [])) (l ++ (length rows ∷ []))
+symbolic-new rows r l p y = symbolic-snoc (rows ++ (r ∷ [])) l (length rows) (symbolic-more rows r l y) (subst Symbolic (sym (row-last rows r)) p)
+
+pub names-new : (b : List ℕ) (rows : List Row) (r : Row) (l : List ℕ) → AllSymbolic rows l → Names b rows l → Names b (rows ++ (r ∷ [])) (l ++ (length rows ∷ []))
+names-new b rows r l y h name =
+    find-snoc b name rows r 0
+    ∙ ap (λ (k : ℕ). or-else (find-symbol b name rows 0) (pick (named b name r) (some k) none)) (zero-add (length rows))
+    ∙ ap (λ (o : Option ℕ). or-else o (pick (named b name r) (some (length rows)) none)) (h name ∙ sym (listed-more b name rows r l y))
+    ∙ ap (λ (x : Row). or-else (find-listed b name (rows ++ (r ∷ [])) l) (pick (named b name x) (some (length rows)) none)) (sym (row-last rows r))
+    ∙ sym (listed-snoc b name (rows ++ (r ∷ [])) l (length rows))
+
+-- ---- one turn of the search over the list
+
+listed-turn : (b name : List ℕ) (rows : List Row) (l : List ℕ) (i : ℕ) → i < length l → find-listed b name rows (drop i l) ≡ pick (named b name (getD rows (getD l i 0) nil)) (some (getD l i 0)) (find-listed b name rows (drop (suc i) l))
+unfolding find-listed
+listed-turn b name rows l i k = ap (λ (x : List ℕ). find-listed b name rows x) (drop-cons l i 0 k)
+
+pub listed-here : (b name : List ℕ) (rows : List Row) (l : List ℕ) (i : ℕ) {t : Bool} → i < length l → t ≡ true → t ≡ named b name (getD rows (getD l i 0) nil) → find-listed b name rows (drop i l) ≡ some (getD l i 0)
+unfolding pick
+listed-here b name rows l i k e f = listed-turn b name rows l i k ∙ ap (λ (t : Bool). pick t (some (getD l i 0)) (find-listed b name rows (drop (suc i) l))) (sym f ∙ e)
+
+pub listed-on : (b name : List ℕ) (rows : List Row) (l : List ℕ) (i : ℕ) {t : Bool} → i < length l → t ≡ false → t ≡ named b name (getD rows (getD l i 0) nil) → find-listed b name rows (drop i l) ≡ find-listed b name rows (drop (i + 1) l)
+unfolding pick
+listed-on b name rows l i k e f = listed-turn b name rows l i k ∙ ap (λ (t : Bool). pick t (some (getD l i 0)) (find-listed b name rows (drop (suc i) l))) (sym f ∙ e) ∙ ap (λ (j : ℕ). find-listed b name rows (drop j l)) (sym (add-one i))
+
+pub listed-none : (b name : List ℕ) (rows : List Row) (l : List ℕ) (i : ℕ) → length l ≤ i → find-listed b name rows (drop i l) ≡ none
+unfolding find-listed
+listed-none b name rows l i k = ap (λ (x : List ℕ). find-listed b name rows x) (drop-of-length-le l k)
+
+-- ---- two byte strings compared
+
+same-cons : (X Y : List ℕ) (i : ℕ) → i < length X → i < length Y → equal (drop i X) (drop i Y) ≡ pick (eqb (getD X i 0) (getD Y i 0)) (equal (drop (suc i) X) (drop (suc i) Y)) false
+unfolding equal
+same-cons X Y i l m = ap (λ (a : List ℕ). equal a (drop i Y)) (drop-cons X i 0 l) ∙ ap (λ (b : List ℕ). equal (getD X i 0 ∷ drop (suc i) X) b) (drop-cons Y i 0 m)
+
+module _ (input bytes : List ℕ) (from to n i : ℕ) (a : from + n ≤ length input) (b : to + n ≤ length bytes) where
+  abbrev lhs : List ℕ
+  lhs = take n (drop from input)
+
+  abbrev rhs : List ℕ
+  rhs = take n (drop to bytes)
+
+  at-lhs : i < n → getD lhs i 0 ≡ getD input (from + i) 0
+  at-lhs l = getD-take n (drop from input) i 0 l ∙ getD-drop from input i 0
+
+  at-rhs : i < n → getD rhs i 0 ≡ getD bytes (to + i) 0
+  at-rhs l = getD-take n (drop to bytes) i 0 l ∙ getD-drop to bytes i 0
+
+  turn : i < n → equal (drop i lhs) (drop i rhs) ≡ pick (eqb (getD input (from + i) 0) (getD bytes (to + i) 0)) (equal (drop (suc i) lhs) (drop (suc i) rhs)) false
+  turn l =
+      let x : i < length lhs = simp (length-take, length-drop) (omega arith) in
+      let y : i < length rhs = simp (length-take, length-drop) (omega arith) in
+      same-cons lhs rhs i x y ∙ ap (λ (v : ℕ). pick (eqb v (getD rhs i 0)) (equal (drop (suc i) lhs) (drop (suc i) rhs)) false) (at-lhs l) ∙ ap (λ (v : ℕ). pick (eqb (getD input (from + i) 0) v) (equal (drop (suc i) lhs) (drop (suc i) rhs)) false) (at-rhs l)
+
+  pub same-more : i < n → getD input (from + i) 0 ≡ getD bytes (to + i) 0 → equal lhs rhs ≡ equal (drop i lhs) (drop i rhs) → equal lhs rhs ≡ equal (drop (i + 1) lhs) (drop (i + 1) rhs)
+  unfolding pick
+  same-more l e p = p ∙ turn l ∙ ap (λ (t : Bool). pick t (equal (drop (suc i) lhs) (drop (suc i) rhs)) false) (eq-eqb _ _ e) ∙ ap (λ (k : ℕ). equal (drop k lhs) (drop k rhs)) (sym (add-one i))
+
+  pub same-not : i < n → (getD input (from + i) 0 ≡ getD bytes (to + i) 0 → ⊥) → equal lhs rhs ≡ equal (drop i lhs) (drop i rhs) → false ≡ equal lhs rhs
+  unfolding pick
+  same-not l e p = sym (p ∙ turn l ∙ ap (λ (t : Bool). pick t (equal (drop (suc i) lhs) (drop (suc i) rhs)) false) (ne-eqb _ _ e))
+
+  pub same-all : n ≤ i → equal lhs rhs ≡ equal (drop i lhs) (drop i rhs) → true ≡ equal lhs rhs
+  unfolding equal
+  same-all l p =
+      let x : length lhs ≤ i = simp (length-take, length-drop) (omega arith) in
+      let y : length rhs ≤ i = simp (length-take, length-drop) (omega arith) in
+      sym (p ∙ ap (λ (v : List ℕ). equal v (drop i rhs)) (drop-of-length-le lhs x) ∙ ap (λ (v : List ℕ). equal [] v) (drop-of-length-le rhs y))
+
+-- different lengths
+pub same-length : (X Y : List ℕ) → (length X ≡ length Y → ⊥) → equal X Y ≡ false
+unfolding equal pick
+same-length [] [] n = absurd (n refl)
+same-length [] (b ∷ Y) n = refl
+same-length (a ∷ X) [] n = refl
+same-length (a ∷ X) (b ∷ Y) n = ap (λ (t : Bool). pick (eqb a b) t false) (same-length X Y (λ e. n (ap suc e))) ∙ both (eqb a b)
+  where
+    both : (t : Bool) → pick t false false ≡ false
+    both true = refl
+    both false = refl

@@ -1,0 +1,490 @@
+-- One law for each primitive of the definition: what the code did to its table and its count is what the definition does.
+use Prim.Native.Nat.{ℕ, zero, suc, _+_, _-_, _*_, _/_, _≤_, _<_}
+use native.Mathlib.Omega.{arith}
+use mathlib.Core.Path.{_≡_, refl, sym, ap, _∙_, subst}
+use mathlib.Core.Bool.{true, false}
+use mathlib.Core.List.{List, [], _∷_, _++_}
+use lib.ListN.{length, take, drop, set, getD, replicate, length-take, length-drop, length-append, length-set, length-replicate, List·getD-append}
+use lib.Seq.{sets}
+use borrow.Author.Tests.{lt-ltb, le-ltb, le-leb, lt-leb}
+use Rattle.definition.specs.Run.{Outcome, ok, pure, refuse, next, look, pick, _>>=_}
+use Rattle.definition.specs.Integer.{data-bytes, little}
+use Rattle.definition.specs.Node.{Row, nil, bool, fixnum, symbol, array, hash, object, string, user, absent, present, words, flat, equal}
+use Rattle.definition.specs.Arena.{range, named}
+use Rattle.definition.specs.Load.{Room, State, Reader, Lists, lists, at-set, nodes-set, references-set, bytes-set, symbols-set, objects-set, read-byte, read-bytes, read-form, add-node, reserve, add-bytes, add-symbol, add-object, fill, put-reference, entry, set-variables}
+use Rattle.definition.specs.declared.Refusal.{Refusal}
+use Rattle.definition.specs.declared.Refusal.the-variants.{ShortInput, NotAnObject, NoSpace}
+use Rattle.loader.specs.Holds.{Padded, Holds, Held, Grown, Went, Meets, Sees, Does, AllBelow, Plain, Symbolic, Fit, AllFit, AllSymbolic, Names, Free, span, span-of, new-symbol, settle, at-of, nodes-of, references-of, bytes-of, symbols-of, objects-of}
+use Rattle.loader.specs.declared.Read.the-variants.{Value, Refused}
+use Rattle.loader.proofs.Counts.{Only, is, none}
+use Rattle.loader.proofs.Counts as K
+use Rattle.loader.proofs.Stores.{push, skip, put, put-row, push-row, at-held, sets-first}
+use Rattle.loader.proofs.Names.{symbolic-below, symbolic-more, symbolic-set, symbolic-known, symbolic-new, names-bytes, names-more, names-set, names-known, names-new, plain-set, symbol-named, same-length, range-more}
+use Rattle.loader.proofs.Laws.{word, word-0, there, free-plain}
+
+-- ---- rows that fit
+
+fit-more : {m n : ℕ} (r : Row) → m ≤ n → Fit m r → Fit n r
+fit-more nil l f = tt
+fit-more (bool b) l f = tt
+fit-more (fixnum w) l f = tt
+fit-more (symbol s k) l f = omega arith
+fit-more (array s k) l f = tt
+fit-more (hash s k d) l f = tt
+fit-more (object s k c) l f = tt
+fit-more (string s k v) l f = tt
+fit-more (user s k c v) l f = tt
+
+plain-fit : (n : ℕ) (r : Row) → Plain r → Fit n r
+plain-fit n nil p = tt
+plain-fit n (bool b) p = tt
+plain-fit n (fixnum w) p = tt
+plain-fit n (symbol s k) p = absurd p
+plain-fit n (array s k) p = tt
+plain-fit n (hash s k d) p = tt
+plain-fit n (object s k c) p = tt
+plain-fit n (string s k v) p = tt
+plain-fit n (user s k c v) p = tt
+
+fit-snoc : (n : ℕ) (r : Row) (l : List Row) → AllFit n l → Fit n r → AllFit n (l ++ (r ∷ []))
+fit-snoc n r [] b g zero lt = g
+fit-snoc n r [] b g (suc i) lt = absurd (omega arith)
+fit-snoc n r (x ∷ l) b g zero lt = b zero (omega arith)
+fit-snoc n r (x ∷ l) b g (suc i) lt = fit-snoc n r l (λ j k. b (suc j) (omega arith)) g i (omega arith)
+
+fit-set : (n : ℕ) (r : Row) (l : List Row) (k : ℕ) → AllFit n l → Fit n r → AllFit n (set l k r)
+fit-set n r [] k b g i lt = absurd (omega arith)
+fit-set n r (x ∷ l) zero b g zero lt = g
+fit-set n r (x ∷ l) zero b g (suc i) lt = b (suc i) lt
+fit-set n r (x ∷ l) (suc k) b g zero lt = b zero (omega arith)
+fit-set n r (x ∷ l) (suc k) b g (suc i) lt = fit-set n r l k (λ j h. b (suc j) (omega arith)) g i (omega arith)
+
+below-snoc : {n h : ℕ} (l : List ℕ) → AllBelow n l → h < n → AllBelow n (l ++ (h ∷ []))
+below-snoc {n} {h} [] b g zero lt = g
+below-snoc {n} {h} [] b g (suc i) lt = absurd (omega arith)
+below-snoc {n} {h} (x ∷ l) b g zero lt = b zero (omega arith)
+below-snoc {n} {h} (x ∷ l) b g (suc i) lt = below-snoc l (λ j k. b (suc j) (omega arith)) g i (omega arith)
+
+-- ---- a state is held with one part changed
+
+at-changed : {input : List ℕ} {room : Room} {s : State} {c c' : List ℕ} {T : Lists} {n : ℕ} → Holds input room s T c → Only 0 c c' → at-of c' ≡ n → n ≤ length input → Holds input room (at-set n s) T c'
+at-changed H o e h = record { small = H .small; counts = o .sized ∙ H .counts; nodes = H .nodes; references = H .references; bytes = H .bytes; symbols = H .symbols; objects = H .objects; count-at = e; inside = h; count-nodes = o .others 1 (omega arith) ∙ H .count-nodes; room-nodes = H .room-nodes; count-references = o .others 2 (omega arith) ∙ H .count-references; count-bytes = o .others 3 (omega arith) ∙ H .count-bytes; count-symbols = o .others 4 (omega arith) ∙ H .count-symbols; count-objects = o .others 5 (omega arith) ∙ H .count-objects; below = H .below; fit = H .fit; symbolic = H .symbolic; names = H .names }
+
+module _ {input : List ℕ} {room : Room} {s : State} {c c' : List ℕ} {no re by sy ob : List ℕ} (H : Holds input room s (lists no re by sy ob) c) where
+  nodes-changed : {rows : List Row} {no' : List ℕ} → Only 1 c c' → Padded (room .nodes * 7) (flat rows) no' → nodes-of c' ≡ length rows → length (s .nodes) ≤ length rows → length rows ≤ room .nodes → AllFit (length (s .bytes)) rows → AllSymbolic rows (s .symbols) → Names (s .bytes) rows (s .symbols) → Holds input room (nodes-set rows s) (lists no' re by sy ob) c'
+  nodes-changed o p e g h f y m = record { small = H .small; counts = o .sized ∙ H .counts; nodes = p; references = H .references; bytes = H .bytes; symbols = H .symbols; objects = H .objects; count-at = o .others 0 (omega arith) ∙ H .count-at; inside = H .inside; count-nodes = e; room-nodes = h; count-references = o .others 2 (omega arith) ∙ H .count-references; count-bytes = o .others 3 (omega arith) ∙ H .count-bytes; count-symbols = o .others 4 (omega arith) ∙ H .count-symbols; count-objects = o .others 5 (omega arith) ∙ H .count-objects; below = λ i l. omega (arith, H .below i l); fit = f; symbolic = y; names = m }
+
+  references-changed : {l re' : List ℕ} → Only 2 c c' → Padded (room .references) l re' → references-of c' ≡ length l → Holds input room (references-set l s) (lists no re' by sy ob) c'
+  references-changed o p e = record { small = H .small; counts = o .sized ∙ H .counts; nodes = H .nodes; references = p; bytes = H .bytes; symbols = H .symbols; objects = H .objects; count-at = o .others 0 (omega arith) ∙ H .count-at; inside = H .inside; count-nodes = o .others 1 (omega arith) ∙ H .count-nodes; room-nodes = H .room-nodes; count-references = e; count-bytes = o .others 3 (omega arith) ∙ H .count-bytes; count-symbols = o .others 4 (omega arith) ∙ H .count-symbols; count-objects = o .others 5 (omega arith) ∙ H .count-objects; below = H .below; fit = H .fit; symbolic = H .symbolic; names = H .names }
+
+  bytes-changed : {by' : List ℕ} (bs : List ℕ) → Only 3 c c' → Padded (room .bytes) (s .bytes ++ bs) by' → bytes-of c' ≡ length (s .bytes ++ bs) → length (s .bytes) ≤ length (s .bytes ++ bs) → Holds input room (bytes-set (s .bytes ++ bs) s) (lists no re by' sy ob) c'
+  bytes-changed bs o p e g = record { small = H .small; counts = o .sized ∙ H .counts; nodes = H .nodes; references = H .references; bytes = p; symbols = H .symbols; objects = H .objects; count-at = o .others 0 (omega arith) ∙ H .count-at; inside = H .inside; count-nodes = o .others 1 (omega arith) ∙ H .count-nodes; room-nodes = H .room-nodes; count-references = o .others 2 (omega arith) ∙ H .count-references; count-bytes = e; count-symbols = o .others 4 (omega arith) ∙ H .count-symbols; count-objects = o .others 5 (omega arith) ∙ H .count-objects; below = H .below; fit = λ i l. fit-more (getD (s .nodes) i nil) g (H .fit i l); symbolic = H .symbolic; names = names-bytes (s .bytes) bs (s .nodes) (s .symbols) (H .fit) (H .names) }
+
+  symbols-changed : {l sy' : List ℕ} → Only 4 c c' → Padded (room .symbols) l sy' → symbols-of c' ≡ length l → AllSymbolic (s .nodes) l → Names (s .bytes) (s .nodes) l → Holds input room (symbols-set l s) (lists no re by sy' ob) c'
+  symbols-changed o p e y m = record { small = H .small; counts = o .sized ∙ H .counts; nodes = H .nodes; references = H .references; bytes = H .bytes; symbols = p; objects = H .objects; count-at = o .others 0 (omega arith) ∙ H .count-at; inside = H .inside; count-nodes = o .others 1 (omega arith) ∙ H .count-nodes; room-nodes = H .room-nodes; count-references = o .others 2 (omega arith) ∙ H .count-references; count-bytes = o .others 3 (omega arith) ∙ H .count-bytes; count-symbols = e; count-objects = o .others 5 (omega arith) ∙ H .count-objects; below = H .below; fit = H .fit; symbolic = y; names = m }
+
+  objects-changed : {l ob' : List ℕ} → Only 5 c c' → Padded (room .objects) l ob' → objects-of c' ≡ length l → AllBelow (length (s .nodes)) l → Holds input room (objects-set l s) (lists no re by sy ob') c'
+  objects-changed o p e b = record { small = H .small; counts = o .sized ∙ H .counts; nodes = H .nodes; references = H .references; bytes = H .bytes; symbols = H .symbols; objects = p; count-at = o .others 0 (omega arith) ∙ H .count-at; inside = H .inside; count-nodes = o .others 1 (omega arith) ∙ H .count-nodes; room-nodes = H .room-nodes; count-references = o .others 2 (omega arith) ∙ H .count-references; count-bytes = o .others 3 (omega arith) ∙ H .count-bytes; count-symbols = o .others 4 (omega arith) ∙ H .count-symbols; count-objects = e; below = b; fit = H .fit; symbolic = H .symbolic; names = H .names }
+
+  -- a symbol's node and its entry
+  symbol-changed : {no' sy' c₁ : List ℕ} (r : Row) → Only 1 c c₁ → Only 4 c₁ c' → Padded (room .nodes * 7) (flat (s .nodes ++ (r ∷ []))) no' → Padded (room .symbols) (s .symbols ++ (length (s .nodes) ∷ [])) sy' → nodes-of c₁ ≡ length (s .nodes ++ (r ∷ [])) → symbols-of c' ≡ length (s .symbols ++ (length (s .nodes) ∷ [])) → length (s .nodes) ≤ length (s .nodes ++ (r ∷ [])) → length (s .nodes ++ (r ∷ [])) ≤ room .nodes → Fit (length (s .bytes)) r → Symbolic r → Holds input room (symbols-set (s .symbols ++ (length (s .nodes) ∷ [])) (nodes-set (s .nodes ++ (r ∷ [])) s)) (lists no' re by sy' ob) c'
+  symbol-changed r a o p q e d g h f y = record { small = H .small; counts = o .sized ∙ a .sized ∙ H .counts; nodes = p; references = H .references; bytes = H .bytes; symbols = q; objects = H .objects; count-at = o .others 0 (omega arith) ∙ a .others 0 (omega arith) ∙ H .count-at; inside = H .inside; count-nodes = o .others 1 (omega arith) ∙ e; room-nodes = h; count-references = o .others 2 (omega arith) ∙ a .others 2 (omega arith) ∙ H .count-references; count-bytes = o .others 3 (omega arith) ∙ a .others 3 (omega arith) ∙ H .count-bytes; count-symbols = d; count-objects = o .others 5 (omega arith) ∙ a .others 5 (omega arith) ∙ H .count-objects; below = λ i l. omega (arith, H .below i l); fit = fit-snoc _ r (s .nodes) (H .fit) f; symbolic = symbolic-new (s .nodes) r (s .symbols) y (H .symbolic); names = names-new (s .bytes) (s .nodes) r (s .symbols) (H .symbolic) (H .names) }
+
+pub found-below : {input : List ℕ} {T : Lists} {c : List ℕ} {i : ℕ} → Held input T c → i < objects-of c → getD (T .objects) i 0 < nodes-of c
+found-below {i = i} H l =
+    let lt : i < length (H .state .objects) = omega arith in
+    omega (arith, at-held i (H .holds .objects) lt, H .holds .below i lt)
+
+-- the symbol that an entry of the list is
+pub entry-symbolic : {input : List ℕ} {room : Room} {s : State} {T : Lists} {c : List ℕ} (i : ℕ) → Holds input room s T c → i < symbols-of c → Symbolic (getD (s .nodes) (getD (T .symbols) i 0) nil)
+entry-symbolic {s = s} i H l =
+    let lt : i < length (s .symbols) = omega (arith, H .count-symbols) in
+    subst (λ (h : ℕ). Symbolic (getD (s .nodes) h nil)) (sym (at-held i (H .symbols) lt)) (H .symbolic i lt)
+
+pub symbol-below : {input : List ℕ} {T : Lists} {c : List ℕ} {i : ℕ} → Held input T c → i < symbols-of c → getD (T .symbols) i 0 < nodes-of c
+symbol-below {i = i} H l = omega (arith, symbolic-below (H .state .nodes) _ (entry-symbolic i (H .holds) l), H .holds .count-nodes)
+
+-- ---- the primitives
+
+-- a reader that gives h and the state s' there
+went : {A : Type 0} {input : List ℕ} {room : Room} {s s' : State} {o : Outcome State A} {c' : List ℕ} {T' : Lists} {h : A} → Holds input room s' T' c' → o ≡ ok h s' → Grown s s' → Went input room s o (pure h) T' c'
+unfolding pure
+went {s' = s'} H e g = record { state = s'; holds = H; same = e; grown = g }
+
+-- the nodes are as before
+grown-rows : {s s' : State} → s .nodes ≡ s' .nodes → length (s .references) ≤ length (s' .references) → Grown s s'
+grown-rows {s} {s'} e l = record { nodes = omega (arith, ap length e); references = l; plain = λ i k p. subst (λ (x : List Row). Plain (getD x i nil)) e p }
+
+grown-snoc : (s : State) (r : Row) (s' : State) → s' .nodes ≡ s .nodes ++ (r ∷ []) → s' .references ≡ s .references → Grown s s'
+grown-snoc s r s' e f =
+    let k : length (s' .nodes) ≡ length (s .nodes) + 1 = ap length e ∙ simp length-append in
+    record {
+      nodes = omega (arith, k);
+      references = omega (arith, ap length f);
+      plain = λ i l p. subst (λ (x : List Row). Plain (getD x i nil)) (sym e) (subst Plain (sym (List·getD-append (s .nodes) (r ∷ []) nil i l)) p);
+    }
+
+grown-set : (s : State) (k : ℕ) (r : Row) → k < length (s .nodes) → Plain r → Grown s (nodes-set (set (s .nodes) k r) s)
+grown-set s k r l p =
+    let e : length (set (s .nodes) k r) ≡ length (s .nodes) = length-set (s .nodes) k r in
+    record { nodes = omega (arith, e); references = omega arith; plain = λ i u q. plain-set (s .nodes) k r i l p q }
+
+module _ {input : List ℕ} {room : Room} {c : List ℕ} {no re by sy ob : List ℕ} where
+  pub row-added : {no' : List ℕ} (row : Row) (ws : List ℕ) → words row ≡ ws → Plain row → nodes-of c < length no / 7 → no' ≡ sets no (nodes-of c * 7) ws → Meets input room (add-node room row) (lists no re by sy ob) c (Value (nodes-of c)) (lists no' re by sy ob) (set c 1 (nodes-of c + 1))
+  unfolding add-node pick
+  row-added {no'} row ws e pl h f = record {
+    meets = record {
+      goes = λ s H.
+          let k : nodes-of c ≡ length (s .nodes) = H .count-nodes in
+          let lt : length (s .nodes) < room .nodes = omega arith in
+          let o = K.put 1 (nodes-of c + 1) c in
+          let j = is 1 (nodes-of c + 1) c (H .counts) (omega arith) in
+          let n : nodes-of c + 1 ≡ length (s .nodes ++ (row ∷ [])) = simp length-append (omega arith) in
+          let p : Padded (room .nodes * 7) (flat (s .nodes ++ (row ∷ []))) no' = rw (f, ← e, k) (push-row (room .nodes) (s .nodes) row (H .nodes) lt) in
+          went (nodes-changed H o p (j ∙ n) (simp length-append (omega arith)) (omega arith) (fit-snoc _ row (s .nodes) (H .fit) (plain-fit _ row pl)) (symbolic-more (s .nodes) row (s .symbols) (H .symbolic)) (names-more (s .bytes) (s .nodes) row (s .symbols) pl (H .symbolic) (H .names)))
+          (simp (lt-ltb _ _ lt, k)) (grown-snoc s row _ refl refl);
+    };
+  }
+
+  pub row-full : (row : Row) {T' : Lists} {c' : List ℕ} → length no / 7 ≤ nodes-of c → Meets input room (add-node room row) (lists no re by sy ob) c (Refused (NoSpace 1)) T' c'
+  unfolding add-node pick
+  row-full row h = record { meets = λ s H. let le : room .nodes ≤ length (s .nodes) = omega arith in simp (le-ltb _ _ le) }
+
+  row-went : {no' : List ℕ} (i : ℕ) (row : Row) (ws : List ℕ) → words row ≡ ws → Plain row → i < nodes-of c → no' ≡ sets no (i * 7) ws → (s : State) → Holds input room s (lists no re by sy ob) c → Plain (getD (s .nodes) i nil) → Went input room s (fill i row s) (pure i) (lists no' re by sy ob) c
+  unfolding fill
+  row-went {no'} i row ws e pl h f s H q =
+      let n : nodes-of c ≡ length (set (s .nodes) i row) = H .count-nodes ∙ sym (length-set (s .nodes) i row) in
+      let le : length (set (s .nodes) i row) ≤ room .nodes = simp length-set (H .room-nodes) in
+      let p : Padded (room .nodes * 7) (flat (set (s .nodes) i row)) no' = rw (f, ← e) (put-row (s .nodes) i row (H .nodes) (omega arith)) in
+      went (nodes-changed H (none 1 c) p n (simp length-set (omega arith)) le (fit-set _ row (s .nodes) i (H .fit) (plain-fit _ row pl)) (symbolic-set (s .nodes) i row (s .symbols) q (H .symbolic)) (names-set (s .bytes) (s .nodes) i row (s .symbols) pl q (H .names)))
+      refl (grown-set s i row (omega (arith, H .count-nodes)) pl)
+
+  pub row-filled : {no' : List ℕ} (i : ℕ) (row : Row) (ws : List ℕ) → words row ≡ ws → Plain row → i < nodes-of c → Free no i → no' ≡ sets no (i * 7) ws → Meets input room (fill i row) (lists no re by sy ob) c (Value i) (lists no' re by sy ob) c
+  row-filled i row ws e pl h q f = record { meets = record { goes = λ s H. row-went i row ws e pl h f s H (free-plain H i h q) } }
+
+  pub object-added : (h : ℕ) → h < nodes-of c → objects-of c < length ob → Meets input room (add-object room h) (lists no re by sy ob) c (Value h) (lists no re by sy (set ob (objects-of c) h)) (set c 5 (objects-of c + 1))
+  unfolding add-object pick
+  object-added h b l = record {
+    meets = record {
+      goes = λ s H.
+          let k : objects-of c ≡ length (s .objects) = H .count-objects in
+          let lt : length (s .objects) < room .objects = omega arith in
+          let o = K.put 5 (objects-of c + 1) c in
+          let n : objects-of c + 1 ≡ length (s .objects ++ (h ∷ [])) = simp length-append (omega arith) in
+          let p : Padded (room .objects) (s .objects ++ (h ∷ [])) (set ob (objects-of c) h) = rw k (push (h ∷ []) (H .objects) (omega arith)) in
+          went (objects-changed H o p (is 5 _ c (H .counts) (omega arith) ∙ n) (below-snoc (s .objects) (H .below) (omega arith)))
+          (simp (lt-ltb _ _ lt)) (grown-rows refl (omega arith));
+    };
+  }
+
+  pub object-full : (h : ℕ) {T' : Lists} {c' : List ℕ} → length ob ≤ objects-of c → Meets input room (add-object room h) (lists no re by sy ob) c (Refused (NoSpace 5)) T' c'
+  unfolding add-object pick
+  object-full h l = record { meets = λ s H. let le : room .objects ≤ length (s .objects) = omega arith in simp (le-ltb _ _ le) }
+
+  pub symbol-added : (h : ℕ) → ((s : State) → Holds input room s (lists no re by sy ob) c → Symbolic (getD (s .nodes) h nil)) → symbols-of c < length sy → Meets input room (add-symbol room h) (lists no re by sy ob) c (Value h) (lists no re by (set sy (symbols-of c) h) ob) (set c 4 (symbols-of c + 1))
+  unfolding add-symbol pick
+  symbol-added h y l = record {
+    meets = record {
+      goes = λ s H.
+          let k : symbols-of c ≡ length (s .symbols) = H .count-symbols in
+          let lt : length (s .symbols) < room .symbols = omega arith in
+          let o = K.put 4 (symbols-of c + 1) c in
+          let n : symbols-of c + 1 ≡ length (s .symbols ++ (h ∷ [])) = simp length-append (omega arith) in
+          let p : Padded (room .symbols) (s .symbols ++ (h ∷ [])) (set sy (symbols-of c) h) = rw k (push (h ∷ []) (H .symbols) (omega arith)) in
+          went (symbols-changed H o p (is 4 _ c (H .counts) (omega arith) ∙ n) (symbolic-known (s .nodes) (s .symbols) h (y s H) (H .symbolic)) (names-known (s .bytes) (s .nodes) (s .symbols) h (y s H) (H .names)))
+          (simp (lt-ltb _ _ lt)) (grown-rows refl (omega arith));
+    };
+  }
+
+  pub symbol-full : (h : ℕ) {T' : Lists} {c' : List ℕ} → length sy ≤ symbols-of c → Meets input room (add-symbol room h) (lists no re by sy ob) c (Refused (NoSpace 4)) T' c'
+  unfolding add-symbol pick
+  symbol-full h l = record { meets = λ s H. let le : room .symbols ≤ length (s .symbols) = omega arith in simp (le-ltb _ _ le) }
+
+  -- a symbol's node, put on the symbol list
+  pub symbol-new : {no' : List ℕ} (start n l : ℕ) → l ≡ n → start + n ≤ bytes-of c → nodes-of c < length no / 7 → symbols-of c < length sy → no' ≡ sets no (nodes-of c * 7) (3 ∷ start ∷ n ∷ 0 ∷ 0 ∷ 0 ∷ 0 ∷ []) → Meets input room (new-symbol room start l) (lists no re by sy ob) c (Value (nodes-of c)) (lists no' re by (set sy (symbols-of c) (nodes-of c)) ob) (set (set c 1 (nodes-of c + 1)) 4 (symbols-of c + 1))
+  unfolding add-node add-symbol pick _>>=_ next words
+  symbol-new {no'} start n l z b h u f = record {
+    meets = record {
+      goes = λ s H.
+          let row = symbol start l in
+          let k : nodes-of c ≡ length (s .nodes) = H .count-nodes in
+          let ky : symbols-of c ≡ length (s .symbols) = H .count-symbols in
+          let lt : length (s .nodes) < room .nodes = omega arith in
+          let ly : length (s .symbols) < room .symbols = omega arith in
+          let c₁ = set c 1 (nodes-of c + 1) in
+          let a = K.put 1 (nodes-of c + 1) c in
+          let o = K.put 4 (symbols-of c + 1) c₁ in
+          let j = is 1 (nodes-of c + 1) c (H .counts) (omega arith) in
+          let jy = is 4 (symbols-of c + 1) c₁ (a .sized ∙ H .counts) (omega arith) in
+          let m : nodes-of c + 1 ≡ length (s .nodes ++ (row ∷ [])) = simp length-append (omega arith) in
+          let my : symbols-of c + 1 ≡ length (s .symbols ++ (length (s .nodes) ∷ [])) = simp length-append (omega arith) in
+          let ws : no' ≡ sets no (nodes-of c * 7) (words row) = f ∙ ap (λ (x : ℕ). sets no (nodes-of c * 7) (3 ∷ start ∷ x ∷ 0 ∷ 0 ∷ 0 ∷ 0 ∷ [])) (sym z) in
+          let p : Padded (room .nodes * 7) (flat (s .nodes ++ (row ∷ []))) no' = rw (ws, k) (push-row (room .nodes) (s .nodes) row (H .nodes) lt) in
+          let q : Padded (room .symbols) (s .symbols ++ (length (s .nodes) ∷ [])) (set sy (symbols-of c) (nodes-of c)) = rw (ky, k) (push (length (s .nodes) ∷ []) (H .symbols) (omega arith)) in
+          went (symbol-changed H row a o p q (j ∙ m) (jy ∙ my) (simp length-append (omega arith)) (omega arith) (omega (arith, H .count-bytes)) tt)
+          (simp (lt-ltb _ _ lt, lt-ltb _ _ ly, k)) (grown-snoc s row _ refl refl);
+    };
+  }
+
+  pub symbol-no-node : (start l : ℕ) {T' : Lists} {c' : List ℕ} → length no / 7 ≤ nodes-of c → Meets input room (new-symbol room start l) (lists no re by sy ob) c (Refused (NoSpace 1)) T' c'
+  unfolding add-node pick _>>=_ next
+  symbol-no-node start l h = record { meets = λ s H. let le : room .nodes ≤ length (s .nodes) = omega arith in simp (le-ltb _ _ le) }
+
+  pub symbol-no-entry : (start l : ℕ) {T' : Lists} {c' : List ℕ} → nodes-of c < length no / 7 → length sy ≤ symbols-of c → Meets input room (new-symbol room start l) (lists no re by sy ob) c (Refused (NoSpace 4)) T' c'
+  unfolding add-node add-symbol pick _>>=_ next
+  symbol-no-entry start l h u = record {
+    meets = λ s H.
+        let lt : length (s .nodes) < room .nodes = omega arith in
+        let le : room .symbols ≤ length (s .symbols) = omega arith in
+        simp (lt-ltb _ _ lt, le-ltb _ _ le);
+  }
+
+  pub object-found : (i : ℕ) (q : Refusal) → i < objects-of c → Meets input room (look λ s. entry (s .objects) i q) (lists no re by sy ob) c (Value (getD ob i 0)) (lists no re by sy ob) c
+  unfolding look entry pick
+  object-found i q l = record {
+    meets = record {
+      goes = λ s H.
+          let lt : i < length (s .objects) = omega arith in
+          went H (simp (lt-ltb _ _ lt, at-held i (H .objects) lt)) (grown-rows refl (omega arith));
+    };
+  }
+
+  pub object-missing : (i : ℕ) (q : Refusal) {T' : Lists} {c' : List ℕ} → objects-of c ≤ i → Meets input room (look λ s. entry (s .objects) i q) (lists no re by sy ob) c (Refused q) T' c'
+  unfolding look entry pick
+  object-missing i q l = record { meets = λ s H. let le : length (s .objects) ≤ i = omega arith in simp (le-ltb _ _ le) }
+
+  pub symbol-found : (i : ℕ) (q : Refusal) → i < symbols-of c → Meets input room (look λ s. entry (s .symbols) i q) (lists no re by sy ob) c (Value (getD sy i 0)) (lists no re by sy ob) c
+  unfolding look entry pick
+  symbol-found i q l = record {
+    meets = record {
+      goes = λ s H.
+          let lt : i < length (s .symbols) = omega arith in
+          went H (simp (lt-ltb _ _ lt, at-held i (H .symbols) lt)) (grown-rows refl (omega arith));
+    };
+  }
+
+  pub symbol-missing : (i : ℕ) (q : Refusal) {T' : Lists} {c' : List ℕ} → symbols-of c ≤ i → Meets input room (look λ s. entry (s .symbols) i q) (lists no re by sy ob) c (Refused q) T' c'
+  unfolding look entry pick
+  symbol-missing i q l = record { meets = λ s H. let le : length (s .symbols) ≤ i = omega arith in simp (le-ltb _ _ le) }
+
+  pub words-reserved : (n : ℕ) → n ≤ length re - references-of c → references-of c ≤ length re → Meets input room (reserve room n) (lists no re by sy ob) c (Value (references-of c)) (lists no re by sy ob) (set c 2 (references-of c + n))
+  unfolding reserve pick
+  words-reserved n l l2 = record {
+    meets = record {
+      goes = λ s H.
+          let k : references-of c ≡ length (s .references) = H .count-references in
+          let le : n ≤ room .references - length (s .references) = omega arith in
+          let o = K.put 2 (references-of c + n) c in
+          let j = is 2 (references-of c + n) c (H .counts) (omega arith) in
+          let e : references-of c + n ≡ length (s .references ++ replicate n 0) = simp (length-append, length-replicate) (omega arith) in
+          went (references-changed H o (skip n (H .references) (omega arith)) (j ∙ e))
+          (simp (le-leb _ _ le, k)) (grown-rows refl (omega (arith, e, k)));
+    };
+  }
+
+  pub words-short : (n : ℕ) {T' : Lists} {c' : List ℕ} → length re - references-of c < n → Meets input room (reserve room n) (lists no re by sy ob) c (Refused (NoSpace 2)) T' c'
+  unfolding reserve pick
+  words-short n l = record { meets = λ s H. let lt : room .references - length (s .references) < n = omega arith in simp (lt-leb _ _ lt) }
+
+  pub reference-put : (i v x : ℕ) → i < references-of c → Does input room (put-reference i v) (lists no re by sy ob) c (Value x) (lists no (set re i v) by sy ob) c
+  unfolding put-reference
+  reference-put i v x l = record {
+    meets = record {
+      goes = λ s H.
+          let e : references-of c ≡ length (set (s .references) i v) = H .count-references ∙ sym (length-set (s .references) i v) in
+          went (references-changed H (none 2 c) (put i v (H .references) (omega arith)) e) refl (grown-rows refl (omega (arith, length-set (s .references) i v)));
+    };
+  }
+
+  pub bytes-added : {by' : List ℕ} (bs : List ℕ) (n : ℕ) → length bs ≡ n → bytes-of c ≤ length by → n ≤ length by - bytes-of c → by' ≡ sets by (bytes-of c) bs → Meets input room (add-bytes room bs) (lists no re by sy ob) c (Value (bytes-of c)) (lists no re by' sy ob) (set c 3 (bytes-of c + n))
+  unfolding add-bytes pick
+  bytes-added {by'} bs n z i l f = record {
+    meets = record {
+      goes = λ s H.
+          let k : bytes-of c ≡ length (s .bytes) = H .count-bytes in
+          let le : length bs ≤ room .bytes - length (s .bytes) = omega arith in
+          let o = K.put 3 (bytes-of c + n) c in
+          let e : bytes-of c + n ≡ length (s .bytes ++ bs) = simp length-append (omega arith) in
+          let p : Padded (room .bytes) (s .bytes ++ bs) by' = rw (f, k) (push bs (H .bytes) (omega arith)) in
+          went (bytes-changed H bs o p (is 3 _ c (H .counts) (omega arith) ∙ e) (simp length-append (omega arith))) (simp (le-leb _ _ le, k)) (grown-rows refl (omega arith));
+    };
+  }
+
+  pub bytes-full : (bs : List ℕ) (n : ℕ) {T' : Lists} {c' : List ℕ} → length bs ≡ n → length by - bytes-of c < n → Meets input room (add-bytes room bs) (lists no re by sy ob) c (Refused (NoSpace 3)) T' c'
+  unfolding add-bytes pick
+  bytes-full bs n z l = record { meets = λ s H. let lt : room .bytes - length (s .bytes) < length bs = omega arith in simp (lt-leb _ _ lt) }
+
+module _ {input : List ℕ} {room : Room} {c : List ℕ} {T : Lists} where
+  pub byte-read : at-of c < length input → Meets input room (read-byte input) T c (Value (getD input (at-of c) 0)) T (set c 0 (at-of c + 1))
+  unfolding read-byte pick
+  byte-read l = record {
+    meets = record {
+      goes = λ s H.
+          let k : at-of c ≡ s .at = H .count-at in
+          let lt : s .at < length input = omega arith in
+          let o = K.put 0 (at-of c + 1) c in
+          let j : at-of c + 1 ≡ s .at + 1 = ap (λ n. n + 1) k in
+          went (at-changed H o (is 0 _ c (H .counts) (omega arith) ∙ j) (omega arith)) (simp (lt-ltb _ _ lt, k)) (grown-rows refl (omega arith));
+    };
+  }
+
+  pub byte-missing : {T' : Lists} {c' : List ℕ} → length input ≤ at-of c → Meets input room (read-byte input) T c (Refused ShortInput) T' c'
+  unfolding read-byte pick
+  byte-missing l = record { meets = λ s H. let le : length input ≤ s .at = omega arith in simp (le-ltb _ _ le) }
+
+  pub data-read : (n above v : ℕ) → at-of c ≤ length input → n ≤ length input - at-of c → v ≡ little (take n (drop (at-of c) input)) above → Meets input room (read-form input (data-bytes n above)) T c (Value v) T (set c 0 (at-of c + n))
+  unfolding read-form read-bytes range pick _>>=_ next pure
+  data-read n above v i l e = record {
+    meets = record {
+      goes = λ s H.
+          let k : at-of c ≡ s .at = H .count-at in
+          let le : n ≤ length input - s .at = omega arith in
+          let o = K.put 0 (at-of c + n) c in
+          let j : at-of c + n ≡ s .at + n = ap (λ m. m + n) k in
+          went (at-changed H o (is 0 _ c (H .counts) (omega arith) ∙ j) (omega arith)) (simp (le-leb _ _ le, e, k)) (grown-rows refl (omega arith));
+    };
+  }
+
+  pub data-missing : (n above : ℕ) {T' : Lists} {c' : List ℕ} → length input - at-of c < n → Meets input room (read-form input (data-bytes n above)) T c (Refused ShortInput) T' c'
+  unfolding read-form read-bytes pick _>>=_ next
+  data-missing n above l = record { meets = λ s H. let lt : length input - s .at < n = omega arith in simp (lt-leb _ _ lt) }
+
+  pub span-read : (n : ℕ) → at-of c ≤ length input → n ≤ length input - at-of c → Sees (span-of input) input room (read-bytes input n) T c (Value n) T (set c 0 (at-of c + n))
+  unfolding read-bytes range pick pure
+  span-read n i l = record {
+    meets = record {
+      goes = λ s H.
+          let k : at-of c ≡ s .at = H .count-at in
+          let le : n ≤ length input - s .at = omega arith in
+          let o = K.put 0 (at-of c + n) c in
+          let j : at-of c + n ≡ s .at + n = ap (λ m. m + n) k in
+          let x = is 0 (at-of c + n) c (H .counts) (omega arith) in
+          let b : at-of (set c 0 (at-of c + n)) - n ≡ s .at = omega (arith, x, k) in
+          record { state = at-set (s .at + n) s; holds = at-changed H o (is 0 _ c (H .counts) (omega arith) ∙ j) (omega arith); same = simp (le-leb _ _ le, b); grown = grown-rows refl (omega arith) };
+    };
+  }
+
+  pub span-missing : (n : ℕ) {T' : Lists} {c' : List ℕ} → length input - at-of c < n → Sees (span-of input) input room (read-bytes input n) T c (Refused ShortInput) T' c'
+  unfolding read-bytes pick
+  span-missing n l = record { meets = λ s H. let lt : length input - s .at < n = omega arith in simp (lt-leb _ _ lt) }
+
+pub span-length : (input : List ℕ) (c : List ℕ) (n : ℕ) → n ≤ at-of c → at-of c ≤ length input → length (span-of input c n) ≡ n
+span-length input c n l h = simp (length-take, length-drop) (omega arith)
+
+pub length-span : (input : List ℕ) (at n : ℕ) → n ≤ at → at ≤ length input → length (span input at n) ≡ n
+length-span input at n l h = simp (length-take, length-drop) (omega arith)
+
+-- ---- a symbol looked at
+
+module _ {input : List ℕ} {room : Room} {s : State} {c : List ℕ} {no re by sy ob : List ℕ} (H : Holds input room s (lists no re by sy ob) c) (i : ℕ) (y : Symbolic (getD (s .nodes) i nil)) where
+  pub is-there : i < nodes-of c
+  is-there = omega (arith, symbolic-below (s .nodes) i y, H .count-nodes)
+
+  pub node-inside : i * 7 + 7 ≤ length no
+  node-inside = omega (arith, is-there, H .count-nodes, H .room-nodes, H .nodes .sized)
+
+  symbol-row : (name : List ℕ) → (named (s .bytes) name (getD (s .nodes) i nil) ≡ equal name (take (getD no (i * 7 + 2) 0) (drop (getD no (i * 7 + 1) 0) (s .bytes)))) × (getD no (i * 7 + 1) 0 + getD no (i * 7 + 2) 0 ≤ length (s .bytes))
+  symbol-row name = rw (word H i is-there 1 (omega arith), word H i is-there 2 (omega arith)) (symbol-named (length (s .bytes)) (s .bytes) name (getD (s .nodes) i nil) y (H .fit i (there H i is-there)))
+
+  pub symbol-inside : (n : ℕ) → getD no (i * 7 + 2) 0 ≡ n → getD no (i * 7 + 1) 0 + n ≤ length by
+  symbol-inside n f = omega (arith, symbol-row [] .1, f, H .bytes .fits, H .bytes .sized)
+
+  pub other-length : (name : List ℕ) (n : ℕ) → length name ≡ n → (getD no (i * 7 + 2) 0 ≡ n → ⊥) → false ≡ named (s .bytes) name (getD (s .nodes) i nil)
+  other-length name n z f =
+      let g = symbol-row name in
+      let k : length (take (getD no (i * 7 + 2) 0) (drop (getD no (i * 7 + 1) 0) (s .bytes))) ≡ getD no (i * 7 + 2) 0 = simp (length-take, length-drop) (omega (arith, g .1)) in
+      sym (g .0 ∙ same-length name _ (λ q. f (sym k ∙ sym q ∙ z)))
+
+  pub by-bytes : (name : List ℕ) (n : ℕ) → getD no (i * 7 + 2) 0 ≡ n → equal name (take n (drop (getD no (i * 7 + 1) 0) by)) ≡ named (s .bytes) name (getD (s .nodes) i nil)
+  by-bytes name n f =
+      let g = symbol-row name in
+      let w = getD no (i * 7 + 1) 0 in
+      let a : w + n ≤ length (s .bytes) = omega (arith, g .1, f) in
+      ap (λ (x : List ℕ). equal name (take n (drop w x))) (H .bytes .same)
+      ∙ ap (λ (x : List ℕ). equal name x) (range-more (s .bytes) _ w n a)
+      ∙ ap (λ (k : ℕ). equal name (take k (drop w (s .bytes)))) (sym f)
+      ∙ sym (g .0)
+
+-- a node stored is no symbol, if its kind is none
+pub stored-free : {no' : List ℕ} (no : List ℕ) (i x : ℕ) (xs : List ℕ) → no' ≡ sets no (i * 7) (x ∷ xs) → i * 7 + suc (length xs) ≤ length no → (x ≡ 3 → ⊥) → Free no' i
+stored-free t i x xs e l n q = n (sym (ap (λ (y : List ℕ). getD y (i * 7) 0) e ∙ sets-first t (i * 7) x xs l) ∙ q)
+
+-- ---- variables set
+
+-- a string's or a user-defined's row with another variable list
+abbrev varied : ℕ → ℕ → Row → Row
+varied start n nil = nil
+varied start n (bool b) = nil
+varied start n (fixnum w) = nil
+varied start n (symbol s l) = nil
+varied start n (array s m) = nil
+varied start n (hash s m d) = nil
+varied start n (object s m c) = nil
+varied start n (string s l v) = string s l (present start n)
+varied start n (user s l c v) = user s l c (present start n)
+
+varied-plain : (start n : ℕ) (r : Row) → Plain (varied start n r)
+varied-plain start n nil = tt
+varied-plain start n (bool b) = tt
+varied-plain start n (fixnum w) = tt
+varied-plain start n (symbol s l) = tt
+varied-plain start n (array s m) = tt
+varied-plain start n (hash s m d) = tt
+varied-plain start n (object s m c) = tt
+varied-plain start n (string s l v) = tt
+varied-plain start n (user s l c v) = tt
+
+varied-words : (h start n : ℕ) (r : Row) → 7 ≤ getD (words r) 0 0 → (words (varied start n r) ≡ getD (words r) 0 0 ∷ getD (words r) 1 0 ∷ getD (words r) 2 0 ∷ start ∷ n ∷ getD (words r) 5 0 ∷ 1 ∷ []) × (set-variables h start n r ≡ fill h (varied start n r)) × Plain r
+unfolding words set-variables
+varied-words h start n nil l = absurd (omega arith)
+varied-words h start n (bool true) l = absurd (omega arith)
+varied-words h start n (bool false) l = absurd (omega arith)
+varied-words h start n (fixnum w) l = absurd (omega arith)
+varied-words h start n (symbol s k) l = absurd (omega arith)
+varied-words h start n (array s m) l = absurd (omega arith)
+varied-words h start n (hash s m d) l = absurd (omega arith)
+varied-words h start n (object s m c) l = absurd (omega arith)
+varied-words h start n (string s k absent) l = (refl, refl, tt)
+varied-words h start n (string s k (present p m)) l = (refl, refl, tt)
+varied-words h start n (user s k c absent) l = (refl, refl, tt)
+varied-words h start n (user s k c (present p m)) l = (refl, refl, tt)
+
+not-varied : (h start n : ℕ) (r : Row) → (getD (words r) 0 0 ≡ 7 → ⊥) → (getD (words r) 0 0 ≡ 8 → ⊥) → set-variables h start n r ≡ refuse NotAnObject
+unfolding words set-variables
+not-varied h start n nil a b = refl
+not-varied h start n (bool x) a b = refl
+not-varied h start n (fixnum w) a b = refl
+not-varied h start n (symbol s k) a b = refl
+not-varied h start n (array s m) a b = refl
+not-varied h start n (hash s m d) a b = refl
+not-varied h start n (object s m c) a b = refl
+not-varied h start n (string s k absent) a b = absurd (a refl)
+not-varied h start n (string s k (present p m)) a b = absurd (a refl)
+not-varied h start n (user s k c absent) a b = absurd (b refl)
+not-varied h start n (user s k c (present p m)) a b = absurd (b refl)
+
+words-same : {a b d e a' b' d' e' : ℕ} (start n : ℕ) → a ≡ a' → b ≡ b' → d ≡ d' → e ≡ e' → _≡_ {A = List ℕ} (a ∷ b ∷ d ∷ start ∷ n ∷ e ∷ 1 ∷ []) (a' ∷ b' ∷ d' ∷ start ∷ n ∷ e' ∷ 1 ∷ [])
+words-same start n p q r t = λ i. p i ∷ q i ∷ r i ∷ start ∷ n ∷ t i ∷ 1 ∷ []
+
+module _ {input : List ℕ} {room : Room} {c : List ℕ} {no re by sy ob : List ℕ} (h start n : ℕ) (l : h < nodes-of c) where
+  pub variables-set : {no' : List ℕ} → 7 ≤ getD no (h * 7) 0 → no' ≡ sets no (h * 7) (getD no (h * 7) 0 ∷ getD no (h * 7 + 1) 0 ∷ getD no (h * 7 + 2) 0 ∷ start ∷ n ∷ getD no (h * 7 + 5) 0 ∷ 1 ∷ []) → Meets input room (settle h start n) (lists no re by sy ob) c (Value h) (lists no' re by sy ob) c
+  unfolding look
+  variables-set g f = record {
+    meets = record {
+      goes = λ s H.
+          let r = getD (s .nodes) h nil in
+          let w0 = word-0 H h l in
+          let v = varied-words h start n r (omega (arith, w0, g)) in
+          let e = words-same start n w0 (word H h l 1 (omega arith)) (word H h l 2 (omega arith)) (word H h l 5 (omega arith)) in
+          let x = row-went h (varied start n r) _ (v .0 ∙ sym e) (varied-plain start n r) l f s H (v .2) in
+          record { state = x .state; holds = x .holds; same = ap (λ (m : Reader ℕ). m s) (v .1) ∙ x .same; grown = x .grown };
+    };
+  }
+
+  pub variables-refused : {T' : Lists} {c' : List ℕ} → (getD no (h * 7) 0 ≡ 7 → ⊥) → (getD no (h * 7) 0 ≡ 8 → ⊥) → Meets input room (settle h start n) (lists no re by sy ob) c (Refused NotAnObject) T' c'
+  unfolding look refuse
+  variables-refused a b = record {
+    meets = λ s H.
+        let w0 = word-0 H h l in
+        ap (λ (m : Reader ℕ). m s) (not-varied h start n (getD (s .nodes) h nil) (λ e. a (w0 ∙ e)) (λ e. b (w0 ∙ e)));
+  }

@@ -1,0 +1,2 @@
+-- What the loader's leaves are proved against.
+pub mod Holds

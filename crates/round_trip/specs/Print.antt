@@ -1,0 +1,559 @@
+-- The text of a forest determines it: a reader of texts, which needs no arena, gives back the forest.
+use Prim.Native.Nat.{ℕ, zero, suc, _+_, _*_, _≤_, _<_}
+use mathlib.Core.Path.{_≡_, refl, ap, sym, _∙_}
+use mathlib.Core.Bool.{Bool, true, false}
+use mathlib.Core.List.{List, [], _∷_, _++_, append-assoc}
+use lib.Dec.{eqb}
+use lib.ListN.{length, take, drop}
+use lib.Seq.{take-at, drop-at, drop-append-seam}
+use native.Mathlib.Omega.{arith}
+use Rattle.definition.specs.Run.{pick}
+use Rattle.definition.specs.Integer.{Form, value, data-bytes, form, little, integer-bytes}
+use Rattle.definition.specs.Kind.{NIL, TRUE, FALSE, FIXNUM, SYMBOL, SYMBOL-LINK, OBJECT-LINK, INSTANCE-VARIABLES, ARRAY, HASH, HASH-DEFAULT, OBJECT, STRING, USER-DEFINED}
+use Rattle.definition.specs.Dump.{byte-string-bytes}
+use Rattle.definition.specs.Graph.{header-of}
+use Rattle.graph.specs.Forest.{F, fEnd, fLeaf, fBox, fRef, fSym, fSymref, fIv, trees, Mode, values, pairs, value-pairs, name, name-pairs, after, IsValue, Text, tEnd, tEndPairs, tName, tNameLink, tOneName, tOneLink, tClass, tClassLink, tNil, tFalse, tTrue, tFixnum, tSymbol, tSymbolLink, tObjectLink, tArray, tHash, tHashDefault, tObject, tString, tStringVars, tUser, tUserVars}
+use Rattle.load_text.specs.Codec.{Codes, short, long, codes}
+
+-- every link, count and length of a byte string has 31 bits, every leaf's value 32
+abbrev pub Bounded : F → Type 0
+Bounded fEnd = Unit {0}
+Bounded (fLeaf k w r) = (w < 4294967296) × Bounded r
+Bounded (fBox h p f r) = (h .count < 2147483648) × (length (h .bytes) < 2147483648) × Bounded p × Bounded f × Bounded r
+Bounded (fRef k r) = (k < 2147483648) × Bounded r
+Bounded (fSym m b r) = (length b < 2147483648) × Bounded r
+Bounded (fSymref m k r) = (k < 2147483648) × Bounded r
+Bounded (fIv f p r) = Bounded f × Bounded p × Bounded r
+
+-- the number of pairs that is written after a class's name
+abbrev BoundedMode : Mode → Type 0
+BoundedMode values = Unit {0}
+BoundedMode (pairs n) = Unit {0}
+BoundedMode (value-pairs n) = Unit {0}
+BoundedMode name = Unit {0}
+BoundedMode (name-pairs n) = n < 2147483648
+
+-- ---- integers and byte strings
+
+form-int : Form → List ℕ → ℕ × List ℕ
+form-int (value w) x = (w, x)
+form-int (data-bytes n above) x = (little (take n x) above, drop n x)
+
+-- an integer and the bytes after it
+unfoldable int : List ℕ → ℕ × List ℕ
+int [] = (0, [])
+int (b ∷ x) = form-int (form b) x
+
+unfoldable str : List ℕ → List ℕ × List ℕ
+str x = (take (int x .0) (int x .1), drop (int x .0) (int x .1))
+
+coded : {w : ℕ} {bs : List ℕ} (u : List ℕ) → Codes w bs → int (bs ++ u) ≡ (w, u)
+unfolding int form-int
+coded u (short b f) = rw f
+coded u (long b n above bs f l e) = rw (f, take-at bs u n l, drop-at bs u n l, e)
+
+int-back : (w : ℕ) (u : List ℕ) → w < 4294967296 → int (integer-bytes w ++ u) ≡ (w, u)
+int-back w u h = coded u (codes w h)
+
+str-back : (b u : List ℕ) → length b < 2147483648 → str (byte-string-bytes b ++ u) ≡ (b, u)
+unfolding str byte-string-bytes
+str-back b u h =
+    let e : int (integer-bytes (length b) ++ b ++ u) ≡ (length b, b ++ u) = ap int (append-assoc (integer-bytes (length b)) b u) ∙ int-back (length b) (b ++ u) (omega arith) in
+    rw (e, take-at b u (length b) refl, drop-at b u (length b) refl)
+
+-- ---- the reader
+
+-- what a kind byte begins
+data Head : Type 0 where
+  h-nil h-true h-false h-fixnum h-symbol h-symbol-link h-object-link h-variables h-array h-hash h-hash-default h-object h-string h-user h-other : Head
+
+unfoldable head : ℕ → Head
+head b =
+    pick (eqb b NIL) h-nil (pick (eqb b TRUE) h-true (pick (eqb b FALSE) h-false (pick (eqb b FIXNUM) h-fixnum
+    (pick (eqb b SYMBOL) h-symbol (pick (eqb b SYMBOL-LINK) h-symbol-link (pick (eqb b OBJECT-LINK) h-object-link (pick (eqb b INSTANCE-VARIABLES) h-variables
+    (pick (eqb b ARRAY) h-array (pick (eqb b HASH) h-hash (pick (eqb b HASH-DEFAULT) h-hash-default (pick (eqb b OBJECT) h-object
+    (pick (eqb b STRING) h-string (pick (eqb b USER-DEFINED) h-user h-other)))))))))))))
+
+-- what is to be read: a mode, where the number of values is known and that of a class's pairs is not
+data Want : Type 0 where
+  w-values : ℕ → Want
+  w-pairs : ℕ → Want
+  w-value-pairs : ℕ → Want
+  w-name : Want
+  w-name-pairs : Want
+
+-- what was read: the number of a class's pairs, else 0; the forest; the bytes after it
+record Got : Type 0 where
+  number : ℕ
+  forest : F
+  rest : List ℕ
+
+abbrev got : ℕ → F → List ℕ → Got
+got n f u = record { number = n; forest = f; rest = u }
+
+abbrev Reader : Type 0
+Reader = Want → List ℕ → Got
+
+abbrev on : (F → F) → Got → Got
+on k t = got 0 (k (t .forest)) (t .rest)
+
+-- a box's members are read; then what comes after it
+abbrev boxed : Reader → Want → (Got → F → F) → Got → Got
+boxed p w k t = on (k t) (p w (t .rest))
+
+abbrev user : Reader → Want → Got → Got
+user p w t = on (fBox (header-of 8 0 (str (t .rest) .0) 0 false) (t .forest) fEnd) (p w (str (t .rest) .1))
+
+abbrev variables : Reader → Want → (ℕ → F → F → F) → List ℕ → Got
+variables p w k x = boxed p w (λ t. k (int x .0) (t .forest)) (p (w-pairs (int x .0)) (int x .1))
+
+abbrev user-variables : Reader → Want → Got → Got
+user-variables p w t = variables p w (λ n f. fBox (header-of 8 0 (str (t .rest) .0) n true) (t .forest) f) (str (t .rest) .1)
+
+-- a string or, where the byte is no string's, a user-defined value, with variables
+unfoldable varied : Reader → Want → Bool → List ℕ → Got
+varied p w true x = variables p w (λ n f. fBox (header-of 7 0 (str x .0) n true) fEnd f) (str x .1)
+varied p w false x = user-variables p w (p w-name x)
+
+unfoldable begins : (ℕ → List ℕ → Got) → List ℕ → Got
+begins k [] = got 0 fEnd []
+begins k (b ∷ x) = k b x
+
+-- a value, then what is wanted after it
+unfoldable item : Reader → Want → Head → List ℕ → Got
+item p w h-nil x = on (fLeaf 0 0) (p w x)
+item p w h-true x = on (fLeaf 1 1) (p w x)
+item p w h-false x = on (fLeaf 1 0) (p w x)
+item p w h-fixnum x = on (fLeaf 2 (int x .0)) (p w (int x .1))
+item p w h-symbol x = on (fSym true (str x .0)) (p w (str x .1))
+item p w h-symbol-link x = on (fSymref true (int x .0)) (p w (int x .1))
+item p w h-object-link x = on (fRef (int x .0)) (p w (int x .1))
+item p w h-variables x = begins (λ b. varied p w (eqb b STRING)) x
+item p w h-array x = boxed p w (λ t. fBox (header-of 4 0 [] (int x .0) false) fEnd (t .forest)) (p (w-values (int x .0)) (int x .1))
+item p w h-hash x = boxed p w (λ t. fBox (header-of 5 0 [] (int x .0) false) fEnd (t .forest)) (p (w-values (int x .0 * 2)) (int x .1))
+item p w h-hash-default x = boxed p w (λ t. fBox (header-of 5 0 [] (int x .0) true) fEnd (t .forest)) (p (w-values (int x .0 * 2 + 1)) (int x .1))
+item p w h-object x = boxed p w (λ t. fBox (header-of 6 0 [] (t .number) false) fEnd (t .forest)) (p w-name-pairs x)
+item p w h-string x = on (fBox (header-of 7 0 (str x .0) 0 false) fEnd fEnd) (p w (str x .1))
+item p w h-user x = user p w (p w-name x)
+item p w h-other x = got 0 fEnd x
+
+-- a name or, where the byte is no symbol's, a link to one, then what is wanted after it
+unfoldable named : Reader → Want → Bool → List ℕ → Got
+named p w true x = on (fSym false (str x .0)) (p w (str x .1))
+named p w false x = on (fSymref false (int x .0)) (p w (int x .1))
+
+-- a class's name, the number of pairs, and the pairs
+abbrev counted : Reader → (F → F) → List ℕ → Got
+counted p k x = let t : Got = p (w-pairs (int x .0)) (int x .1) in got (int x .0) (k (t .forest)) (t .rest)
+
+unfoldable class : Reader → Bool → List ℕ → Got
+class p true x = counted p (fSym false (str x .0)) (str x .1)
+class p false x = counted p (fSymref false (int x .0)) (int x .1)
+
+unfoldable body : Reader → Want → List ℕ → Got
+body p (w-values zero) x = got 0 fEnd x
+body p (w-values (suc n)) x = begins (λ b. item p (w-values n) (head b)) x
+body p (w-pairs zero) x = got 0 fEnd x
+body p (w-pairs (suc n)) x = begins (λ b. named p (w-value-pairs n) (eqb b SYMBOL)) x
+body p (w-value-pairs n) x = begins (λ b. item p (w-pairs n) (head b)) x
+body p w-name x = begins (λ b. named p (w-values 0) (eqb b SYMBOL)) x
+body p w-name-pairs x = begins (λ b. class p (eqb b SYMBOL)) x
+
+unfoldable parse : ℕ → Reader
+parse zero w x = got 0 fEnd x
+parse (suc l) w x = body (parse l) w x
+
+-- ---- it reads a text
+
+abbrev want : Mode → F → Want
+want values g = w-values (trees g)
+want (pairs n) g = w-pairs n
+want (value-pairs n) g = w-value-pairs n
+want name g = w-name
+want (name-pairs n) g = w-name-pairs
+
+abbrev num : Mode → ℕ
+num values = 0
+num (pairs n) = 0
+num (value-pairs n) = 0
+num name = 0
+num (name-pairs n) = n
+
+-- turns of the reader that a forest takes
+abbrev need : F → ℕ
+need fEnd = 1
+need (fLeaf k x r) = suc (need r)
+need (fBox h p f r) = suc (need p + need f + need r)
+need (fRef k r) = suc (need r)
+need (fSym m b r) = suc (need r)
+need (fSymref m k r) = suc (need r)
+need (fIv f p r) = suc (need f + need p + need r)
+
+-- with l turns the bytes x of g are read, whatever comes after them
+abbrev Reads : Mode → ℕ → F → List ℕ → Type 0
+Reads m l g x = (u : List ℕ) → parse l (want m g) (x ++ u) ≡ got (num m) g u
+
+-- a value is read by its head
+value-turn : (m : Mode) (l b : ℕ) (g r : F) (x u : List ℕ) → IsValue m → trees g ≡ suc (trees r)
+    → item (parse l) (want (after m) r) (head b) x ≡ got 0 g u → parse (suc l) (want m g) (b ∷ x) ≡ got (num m) g u
+unfolding parse body begins
+value-turn values l b g r x u v e h = rw e h
+value-turn (pairs n) l b g r x u v e h = absurd v
+value-turn (value-pairs n) l b g r x u v e h = h
+value-turn name l b g r x u v e h = absurd v
+value-turn (name-pairs n) l b g r x u v e h = absurd v
+
+module _ (p : Reader) (w : Want) (k : ℕ) (r : F) (u : List ℕ) where
+  abbrev Then : List ℕ → Type 0
+  Then x = p w x ≡ got k r u
+
+  item-nil : (x : List ℕ) → Then x → item p w (head NIL) x ≡ got 0 (fLeaf 0 0 r) u
+  unfolding item head pick
+  item-nil x e = rw e
+
+  item-true : (x : List ℕ) → Then x → item p w (head TRUE) x ≡ got 0 (fLeaf 1 1 r) u
+  unfolding item head pick
+  item-true x e = rw e
+
+  item-false : (x : List ℕ) → Then x → item p w (head FALSE) x ≡ got 0 (fLeaf 1 0 r) u
+  unfolding item head pick
+  item-false x e = rw e
+
+  item-fixnum : (x y : List ℕ) (n : ℕ) → int x ≡ (n, y) → Then y → item p w (head FIXNUM) x ≡ got 0 (fLeaf 2 n r) u
+  unfolding item head pick
+  item-fixnum x y n i e = rw (i, e)
+
+  item-symbol : (x y b : List ℕ) → str x ≡ (b, y) → Then y → item p w (head SYMBOL) x ≡ got 0 (fSym true b r) u
+  unfolding item head pick
+  item-symbol x y b i e = rw (i, e)
+
+  item-symbol-link : (x y : List ℕ) (n : ℕ) → int x ≡ (n, y) → Then y → item p w (head SYMBOL-LINK) x ≡ got 0 (fSymref true n r) u
+  unfolding item head pick
+  item-symbol-link x y n i e = rw (i, e)
+
+  item-object-link : (x y : List ℕ) (n : ℕ) → int x ≡ (n, y) → Then y → item p w (head OBJECT-LINK) x ≡ got 0 (fRef n r) u
+  unfolding item head pick
+  item-object-link x y n i e = rw (i, e)
+
+  item-array : (x y z : List ℕ) (n j : ℕ) (f : F) → int x ≡ (n, y) → p (w-values n) y ≡ got j f z → Then z → item p w (head ARRAY) x ≡ got 0 (fBox (header-of 4 0 [] n false) fEnd f r) u
+  unfolding item head pick
+  item-array x y z n j f i h e = rw (i, h, e)
+
+  item-hash : (x y z : List ℕ) (n j : ℕ) (f : F) → int x ≡ (n, y) → p (w-values (n * 2)) y ≡ got j f z → Then z → item p w (head HASH) x ≡ got 0 (fBox (header-of 5 0 [] n false) fEnd f r) u
+  unfolding item head pick
+  item-hash x y z n j f i h e = rw (i, h, e)
+
+  item-hash-default : (x y z : List ℕ) (n j : ℕ) (f : F) → int x ≡ (n, y) → p (w-values (n * 2 + 1)) y ≡ got j f z → Then z → item p w (head HASH-DEFAULT) x ≡ got 0 (fBox (header-of 5 0 [] n true) fEnd f r) u
+  unfolding item head pick
+  item-hash-default x y z n j f i h e = rw (i, h, e)
+
+  item-object : (x z : List ℕ) (n : ℕ) (f : F) → p w-name-pairs x ≡ got n f z → Then z → item p w (head OBJECT) x ≡ got 0 (fBox (header-of 6 0 [] n false) fEnd f r) u
+  unfolding item head pick
+  item-object x z n f h e = rw (h, e)
+
+  item-string : (x y b : List ℕ) → str x ≡ (b, y) → Then y → item p w (head STRING) x ≡ got 0 (fBox (header-of 7 0 b 0 false) fEnd fEnd r) u
+  unfolding item head pick
+  item-string x y b i e = rw (i, e)
+
+  item-string-variables : (x y z a b : List ℕ) (n j : ℕ) (f : F) → str x ≡ (b, y) → int y ≡ (n, z) → p (w-pairs n) z ≡ got j f a → Then a
+      → item p w (head INSTANCE-VARIABLES) (STRING ∷ x) ≡ got 0 (fBox (header-of 7 0 b n true) fEnd f r) u
+  unfolding item head pick begins varied
+  item-string-variables x y z a b n j f s i h e = rw (s, i, h, e)
+
+  item-user : (x y z b : List ℕ) (j : ℕ) (c : F) → p w-name x ≡ got j c y → str y ≡ (b, z) → Then z → item p w (head USER-DEFINED) x ≡ got 0 (fBox (header-of 8 0 b 0 false) c fEnd r) u
+  unfolding item head pick
+  item-user x y z b j c h s e = rw (h, s, e)
+
+  item-user-variables : (x y z a q b : List ℕ) (n j i : ℕ) (c f : F) → p w-name x ≡ got i c y → str y ≡ (b, z) → int z ≡ (n, a) → p (w-pairs n) a ≡ got j f q → Then q
+      → item p w (head INSTANCE-VARIABLES) (USER-DEFINED ∷ x) ≡ got 0 (fBox (header-of 8 0 b n true) c f r) u
+  unfolding item head pick begins varied
+  item-user-variables x y z a q b n j i c f g s o h e = rw (g, s, o, h, e)
+
+-- ---- parts of a text
+
+three : (a b c d : List ℕ) → a ++ b ++ c ++ d ≡ a ++ (b ++ (c ++ d))
+three a b c d = append-assoc (a ++ b) c d ∙ append-assoc a b (c ++ d)
+
+four : (a b c d e : List ℕ) → a ++ b ++ c ++ d ++ e ≡ a ++ (b ++ (c ++ (d ++ e)))
+four a b c d e = append-assoc (a ++ b ++ c) d e ∙ three a b c (d ++ e)
+
+five : (a b c d e f : List ℕ) → a ++ b ++ c ++ d ++ e ++ f ≡ a ++ (b ++ (c ++ (d ++ (e ++ f))))
+five a b c d e f = append-assoc (a ++ b ++ c ++ d) e f ∙ four a b c d (e ++ f)
+
+-- bytes that begin with an integer, or with a byte string
+int-of : (n : ℕ) (x y : List ℕ) → n < 4294967296 → x ≡ integer-bytes n ++ y → int x ≡ (n, y)
+int-of n x y h e = ap int e ∙ int-back n y h
+
+str-of : (b x y : List ℕ) → length b < 2147483648 → x ≡ byte-string-bytes b ++ y → str x ≡ (b, y)
+str-of b x y h e = ap str e ∙ str-back b y h
+
+-- ---- constructor by constructor
+
+module _ (l : ℕ) where
+  module _ (m : Mode) (v : IsValue m) (r : F) (x : List ℕ) (h : Reads (after m) l r x) where
+    -- a value's turn, by its item
+    turn : (b : ℕ) (g : F) (y u : List ℕ) → trees g ≡ suc (trees r) → item (parse l) (want (after m) r) (head b) y ≡ got 0 g u → parse (suc l) (want m g) (b ∷ y) ≡ got (num m) g u
+    turn b g y u e i = value-turn m l b g r y u v e i
+
+    abbrev w : Want
+    w = want (after m) r
+
+    abbrev k : ℕ
+    k = num (after m)
+
+    reads-nil : Reads m (suc l) (fLeaf 0 0 r) (NIL ∷ x)
+    reads-nil u = turn NIL (fLeaf 0 0 r) (x ++ u) u refl (item-nil (parse l) w k r u (x ++ u) (h u))
+
+    reads-false : Reads m (suc l) (fLeaf 1 0 r) (FALSE ∷ x)
+    reads-false u = turn FALSE (fLeaf 1 0 r) (x ++ u) u refl (item-false (parse l) w k r u (x ++ u) (h u))
+
+    reads-true : Reads m (suc l) (fLeaf 1 1 r) (TRUE ∷ x)
+    reads-true u = turn TRUE (fLeaf 1 1 r) (x ++ u) u refl (item-true (parse l) w k r u (x ++ u) (h u))
+
+    reads-fixnum : (n : ℕ) → n < 4294967296 → Reads m (suc l) (fLeaf 2 n r) (FIXNUM ∷ integer-bytes n ++ x)
+    reads-fixnum n o u =
+        let y = integer-bytes n ++ x ++ u in
+        turn FIXNUM (fLeaf 2 n r) y u refl (item-fixnum (parse l) w k r u y (x ++ u) n (int-of n y (x ++ u) o (append-assoc (integer-bytes n) x u)) (h u))
+
+    reads-symbol : (b : List ℕ) → length b < 2147483648 → Reads m (suc l) (fSym true b r) (SYMBOL ∷ byte-string-bytes b ++ x)
+    reads-symbol b o u =
+        let y = byte-string-bytes b ++ x ++ u in
+        turn SYMBOL (fSym true b r) y u refl (item-symbol (parse l) w k r u y (x ++ u) b (str-of b y (x ++ u) o (append-assoc (byte-string-bytes b) x u)) (h u))
+
+    reads-symbol-link : (n : ℕ) → n < 2147483648 → Reads m (suc l) (fSymref true n r) (SYMBOL-LINK ∷ integer-bytes n ++ x)
+    reads-symbol-link n o u =
+        let y = integer-bytes n ++ x ++ u in
+        turn SYMBOL-LINK (fSymref true n r) y u refl (item-symbol-link (parse l) w k r u y (x ++ u) n (int-of n y (x ++ u) (omega arith) (append-assoc (integer-bytes n) x u)) (h u))
+
+    reads-object-link : (n : ℕ) → n < 2147483648 → Reads m (suc l) (fRef n r) (OBJECT-LINK ∷ integer-bytes n ++ x)
+    reads-object-link n o u =
+        let y = integer-bytes n ++ x ++ u in
+        turn OBJECT-LINK (fRef n r) y u refl (item-object-link (parse l) w k r u y (x ++ u) n (int-of n y (x ++ u) (omega arith) (append-assoc (integer-bytes n) x u)) (h u))
+
+    reads-array : (n : ℕ) (f : F) (y : List ℕ) → n < 2147483648 → trees f ≡ n → Reads values l f y → Reads m (suc l) (fBox (header-of 4 0 [] n false) fEnd f r) (ARRAY ∷ integer-bytes n ++ y ++ x)
+    reads-array n f y o e t u =
+        let z = integer-bytes n ++ y ++ x ++ u in
+        let c : parse l (w-values n) (y ++ (x ++ u)) ≡ got 0 f (x ++ u) = rw (← e) (t (x ++ u)) in
+        turn ARRAY _ z u refl (item-array (parse l) w k r u z (y ++ (x ++ u)) (x ++ u) n 0 f (int-of n z (y ++ (x ++ u)) (omega arith) (three (integer-bytes n) y x u)) c (h u))
+
+    reads-hash : (n : ℕ) (f : F) (y : List ℕ) → n < 2147483648 → trees f ≡ n * 2 → Reads values l f y → Reads m (suc l) (fBox (header-of 5 0 [] n false) fEnd f r) (HASH ∷ integer-bytes n ++ y ++ x)
+    reads-hash n f y o e t u =
+        let z = integer-bytes n ++ y ++ x ++ u in
+        let c : parse l (w-values (n * 2)) (y ++ (x ++ u)) ≡ got 0 f (x ++ u) = rw (← e) (t (x ++ u)) in
+        turn HASH _ z u refl (item-hash (parse l) w k r u z (y ++ (x ++ u)) (x ++ u) n 0 f (int-of n z (y ++ (x ++ u)) (omega arith) (three (integer-bytes n) y x u)) c (h u))
+
+    reads-hash-default : (n : ℕ) (f : F) (y : List ℕ) → n < 2147483648 → trees f ≡ n * 2 + 1 → Reads values l f y → Reads m (suc l) (fBox (header-of 5 0 [] n true) fEnd f r) (HASH-DEFAULT ∷ integer-bytes n ++ y ++ x)
+    reads-hash-default n f y o e t u =
+        let z = integer-bytes n ++ y ++ x ++ u in
+        let c : parse l (w-values (n * 2 + 1)) (y ++ (x ++ u)) ≡ got 0 f (x ++ u) = rw (← e) (t (x ++ u)) in
+        turn HASH-DEFAULT _ z u refl (item-hash-default (parse l) w k r u z (y ++ (x ++ u)) (x ++ u) n 0 f (int-of n z (y ++ (x ++ u)) (omega arith) (three (integer-bytes n) y x u)) c (h u))
+
+    reads-object : (n : ℕ) (f : F) (y : List ℕ) → Reads (name-pairs n) l f y → Reads m (suc l) (fBox (header-of 6 0 [] n false) fEnd f r) (OBJECT ∷ y ++ x)
+    reads-object n f y t u =
+        turn OBJECT _ (y ++ x ++ u) u refl (item-object (parse l) w k r u (y ++ x ++ u) (x ++ u) n f (ap (parse l w-name-pairs) (append-assoc y x u) ∙ t (x ++ u)) (h u))
+
+    reads-string : (b : List ℕ) → length b < 2147483648 → Reads m (suc l) (fBox (header-of 7 0 b 0 false) fEnd fEnd r) (STRING ∷ byte-string-bytes b ++ x)
+    reads-string b o u =
+        let y = byte-string-bytes b ++ x ++ u in
+        turn STRING _ y u refl (item-string (parse l) w k r u y (x ++ u) b (str-of b y (x ++ u) o (append-assoc (byte-string-bytes b) x u)) (h u))
+
+    reads-string-variables : (n : ℕ) (b : List ℕ) (f : F) (y : List ℕ) → n < 2147483648 → length b < 2147483648 → Reads (pairs n) l f y
+        → Reads m (suc l) (fBox (header-of 7 0 b n true) fEnd f r) (INSTANCE-VARIABLES ∷ STRING ∷ byte-string-bytes b ++ integer-bytes n ++ y ++ x)
+    reads-string-variables n b f y o q t u =
+        let z = byte-string-bytes b ++ integer-bytes n ++ y ++ x ++ u in
+        let a = y ++ (x ++ u) in
+        turn INSTANCE-VARIABLES _ (STRING ∷ z) u refl
+        (item-string-variables (parse l) w k r u z (integer-bytes n ++ a) a (x ++ u) b n 0 f
+        (str-of b z (integer-bytes n ++ a) q (four (byte-string-bytes b) (integer-bytes n) y x u)) (int-back n a (omega arith)) (t (x ++ u)) (h u))
+
+    reads-user : (b : List ℕ) (c : F) (z : List ℕ) → length b < 2147483648 → Reads name l c z → Reads m (suc l) (fBox (header-of 8 0 b 0 false) c fEnd r) (USER-DEFINED ∷ z ++ byte-string-bytes b ++ x)
+    reads-user b c z q t u =
+        let y = byte-string-bytes b ++ (x ++ u) in
+        turn USER-DEFINED _ (z ++ byte-string-bytes b ++ x ++ u) u refl
+        (item-user (parse l) w k r u _ y (x ++ u) b 0 c (ap (parse l w-name) (three z (byte-string-bytes b) x u) ∙ t y) (str-back b (x ++ u) q) (h u))
+
+    reads-user-variables : (n : ℕ) (b : List ℕ) (c f : F) (z y : List ℕ) → n < 2147483648 → length b < 2147483648 → Reads name l c z → Reads (pairs n) l f y
+        → Reads m (suc l) (fBox (header-of 8 0 b n true) c f r) (INSTANCE-VARIABLES ∷ USER-DEFINED ∷ z ++ byte-string-bytes b ++ integer-bytes n ++ y ++ x)
+    reads-user-variables n b c f z y o q t s u =
+        let a = y ++ (x ++ u) in
+        let d = byte-string-bytes b ++ (integer-bytes n ++ a) in
+        turn INSTANCE-VARIABLES _ (USER-DEFINED ∷ (z ++ byte-string-bytes b ++ integer-bytes n ++ y ++ x ++ u)) u refl
+        (item-user-variables (parse l) w k r u _ d (integer-bytes n ++ a) a (x ++ u) b n 0 0 c f
+        (ap (parse l w-name) (five z (byte-string-bytes b) (integer-bytes n) y x u) ∙ t d) (str-back b (integer-bytes n ++ a) q) (int-back n a (omega arith)) (s (x ++ u)) (h u))
+
+  -- ---- names
+
+  name-turn : (t : Want) (k : ℕ) (r : F) (b x y u : List ℕ) → str x ≡ (b, y) → parse l t y ≡ got k r u → named (parse l) t (eqb SYMBOL SYMBOL) x ≡ got 0 (fSym false b r) u
+  unfolding named
+  name-turn t k r b x y u s e = rw (s, e)
+
+  name-link-turn : (t : Want) (k : ℕ) (r : F) (n : ℕ) (x y u : List ℕ) → int x ≡ (n, y) → parse l t y ≡ got k r u → named (parse l) t (eqb SYMBOL-LINK SYMBOL) x ≡ got 0 (fSymref false n r) u
+  unfolding named
+  name-link-turn t k r n x y u s e = rw (s, e)
+
+  reads-name : (n : ℕ) (b x : List ℕ) (r : F) → length b < 2147483648 → Reads (value-pairs n) l r x → Reads (pairs (suc n)) (suc l) (fSym false b r) (SYMBOL ∷ byte-string-bytes b ++ x)
+  unfolding parse body begins
+  reads-name n b x r o h u = name-turn (w-value-pairs n) 0 r b _ (x ++ u) u (str-of b _ (x ++ u) o (append-assoc (byte-string-bytes b) x u)) (h u)
+
+  reads-name-link : (n j : ℕ) (x : List ℕ) (r : F) → j < 2147483648 → Reads (value-pairs n) l r x → Reads (pairs (suc n)) (suc l) (fSymref false j r) (SYMBOL-LINK ∷ integer-bytes j ++ x)
+  unfolding parse body begins
+  reads-name-link n j x r o h u = name-link-turn (w-value-pairs n) 0 r j _ (x ++ u) u (int-of j _ (x ++ u) (omega arith) (append-assoc (integer-bytes j) x u)) (h u)
+
+  reads-one-name : (b : List ℕ) → length b < 2147483648 → Reads values l fEnd [] → Reads name (suc l) (fSym false b fEnd) (SYMBOL ∷ byte-string-bytes b)
+  unfolding parse body begins
+  reads-one-name b o h u = name-turn (w-values 0) 0 fEnd b _ u u (str-back b u o) (h u)
+
+  reads-one-link : (j : ℕ) → j < 2147483648 → Reads values l fEnd [] → Reads name (suc l) (fSymref false j fEnd) (SYMBOL-LINK ∷ integer-bytes j)
+  unfolding parse body begins
+  reads-one-link j o h u = name-link-turn (w-values 0) 0 fEnd j _ u u (int-back j u (omega arith)) (h u)
+
+  class-turn : (r : F) (n : ℕ) (b x y z u : List ℕ) → str x ≡ (b, y) → int y ≡ (n, z) → parse l (w-pairs n) z ≡ got 0 r u → class (parse l) (eqb SYMBOL SYMBOL) x ≡ got n (fSym false b r) u
+  unfolding class
+  class-turn r n b x y z u s i e = rw (s, i, e)
+
+  class-link-turn : (r : F) (n j : ℕ) (x y z u : List ℕ) → int x ≡ (j, y) → int y ≡ (n, z) → parse l (w-pairs n) z ≡ got 0 r u → class (parse l) (eqb SYMBOL-LINK SYMBOL) x ≡ got n (fSymref false j r) u
+  unfolding class
+  class-link-turn r n j x y z u s i e = rw (s, i, e)
+
+  reads-class : (n : ℕ) (b x : List ℕ) (r : F) → n < 2147483648 → length b < 2147483648 → Reads (pairs n) l r x → Reads (name-pairs n) (suc l) (fSym false b r) (SYMBOL ∷ byte-string-bytes b ++ integer-bytes n ++ x)
+  unfolding parse body begins
+  reads-class n b x r o q h u =
+      class-turn r n b _ (integer-bytes n ++ (x ++ u)) (x ++ u) u (str-of b _ (integer-bytes n ++ (x ++ u)) q (three (byte-string-bytes b) (integer-bytes n) x u)) (int-back n (x ++ u) (omega arith)) (h u)
+
+  reads-class-link : (n j : ℕ) (x : List ℕ) (r : F) → n < 2147483648 → j < 2147483648 → Reads (pairs n) l r x → Reads (name-pairs n) (suc l) (fSymref false j r) (SYMBOL-LINK ∷ integer-bytes j ++ integer-bytes n ++ x)
+  unfolding parse body begins
+  reads-class-link n j x r o q h u =
+      class-link-turn r n j _ (integer-bytes n ++ (x ++ u)) (x ++ u) u (int-of j _ (integer-bytes n ++ (x ++ u)) (omega arith) (three (integer-bytes j) (integer-bytes n) x u)) (int-back n (x ++ u) (omega arith)) (h u)
+
+  reads-end : Reads values (suc l) fEnd []
+  unfolding parse body
+  reads-end u = refl
+
+  reads-end-pairs : Reads (pairs 0) (suc l) fEnd []
+  unfolding parse body
+  reads-end-pairs u = refl
+
+-- ---- every text is read
+
+need-some : (g : F) → 1 ≤ need g
+need-some fEnd = omega arith
+need-some (fLeaf k x r) = omega arith
+need-some (fBox h p f r) = omega arith
+need-some (fRef k r) = omega arith
+need-some (fSym m b r) = omega arith
+need-some (fSymref m k r) = omega arith
+need-some (fIv f p r) = omega arith
+
+after-bounded : (m : Mode) → IsValue m → BoundedMode (after m)
+after-bounded values v = tt
+after-bounded (pairs n) v = tt
+after-bounded (value-pairs n) v = tt
+after-bounded name v = absurd v
+after-bounded (name-pairs n) v = absurd v
+
+no-turn : {C : Type 0} (g : F) → need g ≤ 0 → C
+no-turn g h = absurd (omega (arith, need-some g))
+
+reads : {m : Mode} {lv : ℕ} {g : F} {x : List ℕ} (l : ℕ) → need g ≤ l → BoundedMode m → Bounded g → Text m lv g x → Reads m l g x
+reads {g = g} zero o c b t = no-turn g o
+reads (suc l) o c b tEnd = reads-end l
+reads (suc l) o c b tEndPairs = reads-end-pairs l
+reads (suc l) o c b (tName {n = n} {b = s} {x = x} {r = r} t) = reads-name l n s x r (b .0) (reads l (omega arith) tt (b .1) t)
+reads (suc l) o c b (tNameLink {n = n} {k = k} {x = x} {r = r} t) = reads-name-link l n k x r (b .0) (reads l (omega arith) tt (b .1) t)
+reads (suc l) o c b (tOneName {b = s}) = reads-one-name l s (b .0) (reads {lv = 0} l (omega arith) tt tt tEnd)
+reads (suc l) o c b (tOneLink {k = k}) = reads-one-link l k (b .0) (reads {lv = 0} l (omega arith) tt tt tEnd)
+reads (suc l) o c b (tClass {n = n} {b = s} {x = x} {r = r} t) = reads-class l n s x r c (b .0) (reads l (omega arith) tt (b .1) t)
+reads (suc l) o c b (tClassLink {n = n} {k = k} {x = x} {r = r} t) = reads-class-link l n k x r c (b .0) (reads l (omega arith) tt (b .1) t)
+reads (suc l) o c b (tNil {m = m} {x = x} {r = r} v t) = reads-nil l m v r x (reads l (omega arith) (after-bounded m v) (b .1) t)
+reads (suc l) o c b (tFalse {m = m} {x = x} {r = r} v t) = reads-false l m v r x (reads l (omega arith) (after-bounded m v) (b .1) t)
+reads (suc l) o c b (tTrue {m = m} {x = x} {r = r} v t) = reads-true l m v r x (reads l (omega arith) (after-bounded m v) (b .1) t)
+reads (suc l) o c b (tFixnum {m = m} {w = w} {x = x} {r = r} v h t) = reads-fixnum l m v r x (reads l (omega arith) (after-bounded m v) (b .1) t) w h
+reads (suc l) o c b (tSymbol {m = m} {b = s} {x = x} {r = r} v t) = reads-symbol l m v r x (reads l (omega arith) (after-bounded m v) (b .1) t) s (b .0)
+reads (suc l) o c b (tSymbolLink {m = m} {k = k} {x = x} {r = r} v t) = reads-symbol-link l m v r x (reads l (omega arith) (after-bounded m v) (b .1) t) k (b .0)
+reads (suc l) o c b (tObjectLink {m = m} {k = k} {x = x} {r = r} v t) = reads-object-link l m v r x (reads l (omega arith) (after-bounded m v) (b .1) t) k (b .0)
+reads (suc l) o c b (tArray {m = m} {n = n} {x = x} {y = y} {f = f} {r = r} v e s t) =
+    reads-array l m v r x (reads l (omega arith) (after-bounded m v) (b .4) t) n f y (b .0) e (reads l (omega arith) tt (b .3) s)
+reads (suc l) o c b (tHash {m = m} {n = n} {x = x} {y = y} {f = f} {r = r} v e s t) =
+    reads-hash l m v r x (reads l (omega arith) (after-bounded m v) (b .4) t) n f y (b .0) e (reads l (omega arith) tt (b .3) s)
+reads (suc l) o c b (tHashDefault {m = m} {n = n} {x = x} {y = y} {f = f} {r = r} v e s t) =
+    reads-hash-default l m v r x (reads l (omega arith) (after-bounded m v) (b .4) t) n f y (b .0) e (reads l (omega arith) tt (b .3) s)
+reads (suc l) o c b (tObject {m = m} {n = n} {x = x} {y = y} {f = f} {r = r} v s t) =
+    reads-object l m v r x (reads l (omega arith) (after-bounded m v) (b .4) t) n f y (reads l (omega arith) (b .0) (b .3) s)
+reads (suc l) o c b (tString {m = m} {b = s} {x = x} {r = r} v t) = reads-string l m v r x (reads l (omega arith) (after-bounded m v) (b .4) t) s (b .1)
+reads (suc l) o c b (tStringVars {m = m} {n = n} {b = a} {x = x} {y = y} {f = f} {r = r} v s t) =
+    reads-string-variables l m v r x (reads l (omega arith) (after-bounded m v) (b .4) t) n a f y (b .0) (b .1) (reads l (omega arith) tt (b .3) s)
+reads (suc l) o c b (tUser {m = m} {b = a} {x = x} {z = z} {p = p} {r = r} v s t) =
+    reads-user l m v r x (reads l (omega arith) (after-bounded m v) (b .4) t) a p z (b .1) (reads l (omega arith) tt (b .2) s)
+reads (suc l) o c b (tUserVars {m = m} {n = n} {b = a} {x = x} {y = y} {z = z} {p = p} {f = f} {r = r} v q s t) =
+    reads-user-variables l m v r x (reads l (omega arith) (after-bounded m v) (b .4) t) n a p f z y (b .0) (b .1) (reads l (omega arith) tt (b .2) q) (reads l (omega arith) tt (b .3) s)
+
+-- ---- print is injective
+
+same-want : (m : Mode) (g f : F) → trees g ≡ trees f → want m g ≡ want m f
+same-want values g f e = ap w-values e
+same-want (pairs n) g f e = refl
+same-want (value-pairs n) g f e = refl
+same-want name g f e = refl
+same-want (name-pairs n) g f e = refl
+
+bounded-injective : (m : Mode) (l k : ℕ) (g f : F) (x y u v : List ℕ) → Text m l g x → Text m k f y → BoundedMode m → Bounded g → Bounded f → trees g ≡ trees f → x ++ u ≡ y ++ v → (g ≡ f) × (u ≡ v)
+bounded-injective m l k g f x y u v s t c a b e z =
+    let o = need g + need f in
+    let p : parse o (want m g) (x ++ u) ≡ got (num m) g u = reads o (omega arith) c a s u in
+    let q : parse o (want m f) (y ++ v) ≡ got (num m) f v = reads o (omega arith) c b t v in
+    let h : got (num m) g u ≡ got (num m) f v = sym p ∙ ap (λ (w : Want). parse o w (x ++ u)) (same-want m g f e) ∙ ap (parse o (want m f)) z ∙ q in
+    (ap (λ (d : Got). d .forest) h, ap (λ (d : Got). d .rest) h)
+
+-- a class's number of pairs is the mode's: it is the same in both texts, whether it has 31 bits or not
+
+cancel : (a x y : List ℕ) → a ++ x ≡ a ++ y → x ≡ y
+cancel a x y e = sym (drop-append-seam a x) ∙ ap (drop (length a)) e ∙ drop-append-seam a y
+
+first-apart : {C : Type 0} (a b : ℕ) (x y : List ℕ) → (a ≡ b → ⊥) → _≡_ {A = List ℕ} (a ∷ x) (b ∷ y) → C
+first-apart a b x y n e = absurd (n (cc))
+
+after-first : (a : ℕ) (x y : List ℕ) → _≡_ {A = List ℕ} (a ∷ x) (a ∷ y) → x ≡ y
+after-first a x y e = cc
+
+module _ (n l k : ℕ) (r q : F) (x y u v : List ℕ) (s : Text (pairs n) l r x) (t : Text (pairs n) k q y) (a : Bounded r) (b : Bounded q) (e : trees r ≡ trees q) where
+  -- the pairs after the number
+  class-pairs : integer-bytes n ++ (x ++ u) ≡ integer-bytes n ++ (y ++ v) → (r ≡ q) × (u ≡ v)
+  class-pairs z = bounded-injective (pairs n) l k r q x y u v s t tt a b e (cancel (integer-bytes n) (x ++ u) (y ++ v) z)
+
+  class-names : (i j : List ℕ) → length i < 2147483648 → length j < 2147483648 → SYMBOL ∷ byte-string-bytes i ++ integer-bytes n ++ x ++ u ≡ SYMBOL ∷ byte-string-bytes j ++ integer-bytes n ++ y ++ v
+      → (fSym false i r ≡ fSym false j q) × (u ≡ v)
+  class-names i j c d z =
+      let i′ = integer-bytes n ++ (x ++ u) in
+      let j′ = integer-bytes n ++ (y ++ v) in
+      let h : _≡_ {A = List ℕ × List ℕ} (i, i′) (j, j′) = sym (str-of i _ i′ c (three (byte-string-bytes i) (integer-bytes n) x u)) ∙ ap str (after-first SYMBOL _ _ z) ∙ str-of j _ j′ d (three (byte-string-bytes j) (integer-bytes n) y v) in
+      let (g, w) = class-pairs (ap (λ (o : List ℕ × List ℕ). o .1) h) in
+      let f : i ≡ j = ap (λ (o : List ℕ × List ℕ). o .0) h in
+      (rw (f, g), w)
+
+  class-links : (i j : ℕ) → i < 2147483648 → j < 2147483648 → SYMBOL-LINK ∷ integer-bytes i ++ integer-bytes n ++ x ++ u ≡ SYMBOL-LINK ∷ integer-bytes j ++ integer-bytes n ++ y ++ v
+      → (fSymref false i r ≡ fSymref false j q) × (u ≡ v)
+  class-links i j c d z =
+      let i′ = integer-bytes n ++ (x ++ u) in
+      let j′ = integer-bytes n ++ (y ++ v) in
+      let h : _≡_ {A = ℕ × List ℕ} (i, i′) (j, j′) = sym (int-of i _ i′ (omega arith) (three (integer-bytes i) (integer-bytes n) x u)) ∙ ap int (after-first SYMBOL-LINK _ _ z) ∙ int-of j _ j′ (omega arith) (three (integer-bytes j) (integer-bytes n) y v) in
+      let (g, w) = class-pairs (ap (λ (o : ℕ × List ℕ). o .1) h) in
+      let f : i ≡ j = ap (λ (o : ℕ × List ℕ). o .0) h in
+      (rw (f, g), w)
+
+class-injective : {n l k : ℕ} {g f : F} {x y : List ℕ} (u v : List ℕ) → Text (name-pairs n) l g x → Text (name-pairs n) k f y → Bounded g → Bounded f → trees g ≡ trees f → x ++ u ≡ y ++ v → (g ≡ f) × (u ≡ v)
+class-injective {n = n} {l = l} {k = k} u v (tClass {b = i} {x = x} {r = r} s) (tClass {b = j} {x = y} {r = q} t) a b e z = class-names n l k r q x y u v s t (a .1) (b .1) (omega arith) i j (a .0) (b .0) z
+class-injective u v (tClass s) (tClassLink t) a b e z = first-apart SYMBOL SYMBOL-LINK _ _ (λ h. omega arith) z
+class-injective u v (tClassLink s) (tClass t) a b e z = first-apart SYMBOL-LINK SYMBOL _ _ (λ h. omega arith) z
+class-injective {n = n} {l = l} {k = k} u v (tClassLink {k = i} {x = x} {r = r} s) (tClassLink {k = j} {x = y} {r = q} t) a b e z = class-links n l k r q x y u v s t (a .1) (b .1) (omega arith) i j (a .0) (b .0) z
+
+-- two texts that begin the same bytes are the texts of one forest, and leave the same rest
+pub print-injective : (m : Mode) (l k : ℕ) (g f : F) (x y u v : List ℕ) → Text m l g x → Text m k f y → Bounded g → Bounded f → trees g ≡ trees f → x ++ u ≡ y ++ v → (g ≡ f) × (u ≡ v)
+print-injective values l k g f x y u v s t a b e z = bounded-injective values l k g f x y u v s t tt a b e z
+print-injective (pairs n) l k g f x y u v s t a b e z = bounded-injective (pairs n) l k g f x y u v s t tt a b e z
+print-injective (value-pairs n) l k g f x y u v s t a b e z = bounded-injective (value-pairs n) l k g f x y u v s t tt a b e z
+print-injective name l k g f x y u v s t a b e z = bounded-injective name l k g f x y u v s t tt a b e z
+print-injective (name-pairs n) l k g f x y u v s t a b e z = class-injective u v s t a b e z
+
+-- one text, one forest
+pub one-forest : (l k : ℕ) (g f : F) (x : List ℕ) → Text values l g x → Text values k f x → Bounded g → Bounded f → trees g ≡ trees f → g ≡ f
+one-forest l k g f x s t a b e = print-injective values l k g f x x [] [] s t a b e refl .0
