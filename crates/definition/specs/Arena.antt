@@ -42,6 +42,7 @@ zeroed table = replicate (length table) 0
 
 -- ---- what tables and counts hold
 
+-- the three tables as lent: "nodes .., references .., bytes"
 pub record Tables : Type 0 where
   pub nodes : List ℕ
   pub references : List ℕ
@@ -54,9 +55,11 @@ pub record Arena : Type 0 where
   pub bytes : List ℕ
   pub root : ℕ
 
+-- the used part of tables, by "Four counts .. : nodes, references, bytes, root"
 unfoldable pub arena : Tables → Counts → Arena
 arena T c = record { nodes = rows (c .nodes) (T .nodes); references = take (c .references) (T .references); bytes = take (c .bytes) (T .bytes); root = c .root }
 
+-- the row of a node
 unfoldable pub node : Arena → ℕ → Row
 node A i = getD (A .nodes) i nil
 
@@ -93,6 +96,7 @@ all-below n (m ∷ ms) = pick (ltb m n) (all-below n ms) false
 unfoldable pub is-name : Arena → ℕ → Bool
 is-name A i = eqb (kind (node A i)) 3
 
+-- each of these is a name of kind 3
 unfoldable pub all-names : Arena → List ℕ → Bool
 all-names A [] = true
 all-names A (m ∷ ms) = pick (is-name A m) (all-names A ms) false
@@ -101,6 +105,7 @@ all-names A (m ∷ ms) = pick (is-name A m) (all-names A ms) false
 unfoldable pub bytes-right : Arena → ℕ → ℕ → Bool
 bytes-right A start n = leb (start + n) (length (A .bytes))
 
+-- a list's range and members
 unfoldable pub list-right : Arena → ℕ → ℕ → Bool
 list-right A start n = leb (start + n) (length (A .references)) && all-below (length (A .nodes)) (range (A .references) start n)
 
@@ -108,10 +113,12 @@ list-right A start n = leb (start + n) (length (A .references)) && all-below (le
 unfoldable pub pairs-right : Arena → ℕ → ℕ → Bool
 pairs-right A start n = list-right A start (n * 2) && all-names A (firsts (range (A .references) start (n * 2)))
 
+-- a variable list, where there is one
 unfoldable pub vars-right : Arena → Vars → Bool
 vars-right A absent = true
 vars-right A (present start n) = pairs-right A start n
 
+-- the ranges, members and names of a row, by its kind
 unfoldable pub row-right : Arena → Row → Bool
 row-right A nil = true
 row-right A (bool b) = true

@@ -25,9 +25,11 @@ pub record Lent : Type 0 where
   pub tables : Tables
   pub counts : Counts
 
+-- tables and counts put together
 abbrev pub lent : List ℕ → List ℕ → List ℕ → Counts → Lent
 lent n r b c = record { tables = record { nodes = n; references = r; bytes = b }; counts = c }
 
+-- the arena that they hold
 abbrev pub held : Lent → Arena
 held L = arena (L .tables) (L .counts)
 
@@ -90,6 +92,7 @@ get-root = check [] >>= λ _. look λ L. pure (L .counts .root)
 unfoldable pub set-root : ℕ → Run Lent ℕ
 set-root h L = ok (L .counts .root) (record { tables = L .tables; counts = record { nodes = L .counts .nodes; references = L .counts .references; bytes = L .counts .bytes; root = h } })
 
+-- `replace_root`: the handle is tested, then the root replaced
 unfoldable pub exchange-root : ℕ → Run Lent ℕ
 exchange-root h = handle-checked h >>= λ _. set-root h
 
@@ -112,15 +115,19 @@ add bs ms row = check-space bs ms >>= λ _. append bs ms row
 unfoldable pub byte-slice : List ℕ → ℕ × Bool
 byte-slice bs = (8, too-long (length bs))
 
+-- a list of members: slice 9
 unfoldable pub member-slice : List ℕ → ℕ × Bool
 member-slice ms = (9, too-long (length ms))
 
+-- a list of pairs: slice 9, and "odd pair list"
 unfoldable pub pair-slice : List ℕ → ℕ × Bool
 pair-slice ps = (9, too-long (length ps) || not (eqb (length ps % 2) 0))
 
+-- `create_nil`
 unfoldable pub create-nil : Run Lent ℕ
 create-nil = check [] >>= λ _. add [] [] λ b r. nil
 
+-- `create_bool`
 unfoldable pub create-bool : Bool → Run Lent ℕ
 create-bool v = check [] >>= λ _. add [] [] λ b r. bool v
 
@@ -129,9 +136,11 @@ unfoldable pub bits : ℤ → ℕ
 bits (pos n) = n
 bits (negsuc n) = 4294967295 - n
 
+-- `create_fixnum`
 unfoldable pub create-fixnum : ℤ → Run Lent ℕ
 create-fixnum v = check [] >>= λ _. add [] [] λ b r. fixnum (bits v)
 
+-- a symbol node with its bytes
 unfoldable pub add-symbol : List ℕ → Run Lent ℕ
 add-symbol name = add name [] λ b r. symbol b (length name)
 
@@ -139,6 +148,7 @@ add-symbol name = add name [] λ b r. symbol b (length name)
 unfoldable pub create-new-symbol : List ℕ → Run Lent ℕ
 create-new-symbol name = check (byte-slice name ∷ []) >>= λ _. add-symbol name
 
+-- what the search found, or a new symbol
 unfoldable pub known-or-new : List ℕ → Option ℕ → Run Lent ℕ
 known-or-new name (some h) = pure h
 known-or-new name none = add-symbol name
@@ -147,6 +157,7 @@ known-or-new name none = add-symbol name
 unfoldable pub create-symbol : List ℕ → Run Lent ℕ
 create-symbol name = check (byte-slice name ∷ []) >>= λ _. look λ L. known-or-new name (find-symbol (held L .bytes) name (held L .nodes) 0)
 
+-- `create_array`: the members are handles
 unfoldable pub create-array : List ℕ → Run Lent ℕ
 create-array ms = check (member-slice ms ∷ []) >>= λ _. check-handles ms >>= λ _. add [] ms λ b r. array r (length ms)
 
@@ -163,9 +174,11 @@ create-hash ps d = check (pair-slice ps ∷ []) >>= λ _. check-handles (ps ++ d
 unfoldable pub create-object : ℕ → List ℕ → Run Lent ℕ
 create-object c ps = check (pair-slice ps ∷ []) >>= λ _. check-handles (c ∷ ps) >>= λ _. check-names (c ∷ firsts ps) >>= λ _. add [] ps λ b r. object r (length ps / 2) c
 
+-- `create_string`: no variable list
 unfoldable pub create-string : List ℕ → Run Lent ℕ
 create-string bs = check (byte-slice bs ∷ []) >>= λ _. add bs [] λ b r. string b (length bs) absent
 
+-- `create_user_defined`: the name, then the bytes; no variable list
 unfoldable pub create-user-defined : ℕ → List ℕ → Run Lent ℕ
 create-user-defined c bs = check (byte-slice bs ∷ []) >>= λ _. check-handles (c ∷ []) >>= λ _. check-names (c ∷ []) >>= λ _. add bs [] λ b r. user b (length bs) c absent
 
@@ -176,10 +189,12 @@ pub record BuildCall : Type 0 where
   pub answer : Created
   pub tables : Tables
 
+-- the answer of a builder by its outcome
 unfoldable pub build-done : Lent → Outcome Lent ℕ → BuildCall
 build-done L (ok h M) = record { answer = record { answer = Accepted; handle = h; counts = M .counts }; tables = M .tables }
 build-done L (refused r) = record { answer = record { answer = Refused r; handle = 0; counts = L .counts }; tables = L .tables }
 
+-- a builder's whole call
 unfoldable pub build-call : Run Lent ℕ → Lent → BuildCall
 build-call m L = build-done L (m L)
 
@@ -188,10 +203,12 @@ unfoldable pub number-done : Outcome Lent ℕ → Number
 number-done (ok n L) = record { answer = Accepted; value = n }
 number-done (refused r) = record { answer = Refused r; value = 0 }
 
+-- `get`
 unfoldable pub words-done : Outcome Lent (List ℕ) → Words
 words-done (ok ws L) = record { answer = Accepted; words = ws }
 words-done (refused r) = record { answer = Refused r; words = replicate width 0 }
 
+-- `get_symbol`
 unfoldable pub name-done : Outcome Lent (List ℕ) → Name
 name-done (ok ws L) = record { answer = Accepted; start = getD ws 0 0; length = getD ws 1 0 }
 name-done (refused r) = record { answer = Refused r; start = 0; length = 0 }
@@ -201,9 +218,11 @@ pub record NewCall : Type 0 where
   pub answer : Begun
   pub tables : Tables
 
+-- by the lowest wrong slice, or 0
 unfoldable pub new-if : ℕ → Tables → NewCall
 new-if zero T = record { answer = record { answer = Accepted; counts = record { nodes = 1; references = 0; bytes = 0; root = 0 } }; tables = record { nodes = zeroed (T .nodes); references = zeroed (T .references); bytes = zeroed (T .bytes) } }
 new-if (suc slice) T = record { answer = record { answer = Refused (BadTables (suc slice)); counts = record { nodes = 0; references = 0; bytes = 0; root = 0 } }; tables = T }
 
+-- `new`: "1 2 3" are the slices it takes
 unfoldable pub new-call : Tables → NewCall
 new-call T = new-if (wrong T []) T

@@ -22,6 +22,7 @@ pub record Written : Type 0 where
   pub symbols : List ℕ
   pub objects : List ℕ
 
+-- a step of dump
 abbrev pub Writer : Type 0
 Writer = Run Written (Unit {0})
 
@@ -38,6 +39,7 @@ write size bs s = pick (leb (length bs) (size - length (s .bytes))) (ok tt (reco
 unfoldable pub number-symbol : ℕ → Writer
 number-symbol h s = ok tt (record { bytes = s .bytes; symbols = s .symbols ++ (h ∷ []); objects = s .objects })
 
+-- "gets the next object number"
 unfoldable pub number-object : ℕ → Writer
 number-object h s = ok tt (record { bytes = s .bytes; symbols = s .symbols; objects = s .objects ++ (h ∷ []) })
 
@@ -137,6 +139,7 @@ pub record DumpCall : Type 0 where
   pub scratch : List ℕ
   pub output : List ℕ
 
+-- an answer with the number of bytes written, scratch and output
 abbrev pub dump-call-of : Answer → ℕ → List ℕ → List ℕ → DumpCall
 dump-call-of a n scratch output = record { answer = record { answer = a; written = n }; scratch = scratch; output = output }
 
@@ -150,5 +153,6 @@ unfoldable pub dump-checked : Tables → Counts → List ℕ → List ℕ → �
 dump-checked T c scratch output limit (refused r) = dump-call-of (Refused r) 0 scratch output
 dump-checked T c scratch output limit (ok _ _) = dump-done scratch output (dump (length output) (arena T c) limit)
 
+-- dump's whole call: "Order: 1, 2, 13, then as work meets them"
 unfoldable pub dump-call : Tables → Counts → List ℕ → List ℕ → ℕ → DumpCall
 dump-call T c scratch output limit = dump-checked T c scratch output limit ((allowed (dump-wrong T scratch output limit) >>= λ _. sound (fault T c)) tt)

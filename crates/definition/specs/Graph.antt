@@ -16,21 +16,26 @@ pub record Header : Type 0 where
   pub count : ℕ
   pub presence : Bool
 
+-- a header by its fields
 abbrev pub header-of : ℕ → ℕ → List ℕ → ℕ → Bool → Header
 header-of k v bs n p = record { kind = k; value = v; bytes = bs; count = n; presence = p }
 
+-- how many variables
 unfoldable pub vars-count : Vars → ℕ
 vars-count absent = 0
 vars-count (present s n) = n
 
+-- "presence of .. variables"
 unfoldable pub vars-present : Vars → Bool
 vars-present absent = false
 vars-present (present s n) = true
 
+-- "presence of defaults"
 unfoldable pub default-present : ℕ → Bool
 default-present zero = false
 default-present (suc d) = true
 
+-- a row's header
 unfoldable pub header : Arena → Row → Header
 header A nil = header-of 0 0 [] 0 false
 header A (bool false) = header-of 1 0 [] 0 false
@@ -48,10 +53,12 @@ unfoldable pub vars-links : Arena → Vars → List ℕ
 vars-links A absent = []
 vars-links A (present s n) = range (A .references) s (n * 2)
 
+-- a default's node
 unfoldable pub default-link : ℕ → List ℕ
 default-link zero = []
 default-link (suc d) = d ∷ []
 
+-- a row's name, members in order and default
 unfoldable pub links : Arena → Row → List ℕ
 links A nil = []
 links A (bool b) = []
@@ -83,5 +90,6 @@ pub record Pairing (P Q : Arena) (R : ℕ → ℕ → Type 0) : Type 0 where
   pub left : (a b c : ℕ) → R a b → R a c → 3 ≤ kind (node P a) → b ≡ c
   pub right : (a b c : ℕ) → R a c → R b c → 3 ≤ kind (node Q c) → a ≡ b
 
+-- "Two arenas hold the same graph exactly when there is a pairing"
 abbrev pub SameGraph : Arena → Arena → Type 1
 SameGraph P Q = (R : ℕ → ℕ → Type 0) × Pairing P Q R

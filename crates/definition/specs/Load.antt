@@ -33,9 +33,11 @@ pub record State : Type 0 where
   pub symbols : List ℕ
   pub objects : List ℕ
 
+-- a step of load that gives an A
 abbrev pub Reader : Type 0 → Type 0
 Reader A = Run State A
 
+-- a state with one part changed: the offset, the nodes, the references, the bytes, either list
 abbrev pub at-set : ℕ → State → State
 at-set x s = record { at = x; nodes = s .nodes; references = s .references; bytes = s .bytes; symbols = s .symbols; objects = s .objects }
 
@@ -73,6 +75,7 @@ unfoldable pub read-form : List ℕ → Form → Reader ℕ
 read-form input (form-value w) = pure w
 read-form input (data-bytes n above) = read-bytes input n >>= λ bs. pure (little bs above)
 
+-- "Integer": the first byte and what it asks for
 unfoldable pub read-integer : List ℕ → Reader ℕ
 read-integer input = read-byte input >>= λ b. read-form input (form b)
 
@@ -86,6 +89,7 @@ read-byte-string input = read-count input >>= read-bytes input
 
 -- ---- the tables and lists; each is asked for room before anything is added
 
+-- a node, and its handle: "handle = order of insertion"
 unfoldable pub add-node : Room → Row → Reader ℕ
 add-node room r s = pick (ltb (length (s .nodes)) (room .nodes)) (ok (length (s .nodes)) (nodes-set (s .nodes ++ (r ∷ [])) s)) (refused (NoSpace 1))
 
@@ -97,9 +101,11 @@ reserve room n s = pick (leb n (room .references - length (s .references))) (ok 
 unfoldable pub add-bytes : Room → List ℕ → Reader ℕ
 add-bytes room bs s = pick (leb (length bs) (room .bytes - length (s .bytes))) (ok (length (s .bytes)) (bytes-set (s .bytes ++ bs) s)) (refused (NoSpace 3))
 
+-- an entry of the symbol list
 unfoldable pub add-symbol : Room → ℕ → Reader ℕ
 add-symbol room h s = pick (ltb (length (s .symbols)) (room .symbols)) (ok h (symbols-set (s .symbols ++ (h ∷ [])) s)) (refused (NoSpace 4))
 
+-- an entry of the object list
 unfoldable pub add-object : Room → ℕ → Reader ℕ
 add-object room h s = pick (ltb (length (s .objects)) (room .objects)) (ok h (objects-set (s .objects ++ (h ∷ [])) s)) (refused (NoSpace 5))
 
@@ -122,6 +128,7 @@ unfoldable pub intern-as : Room → List ℕ → Option ℕ → Reader ℕ
 intern-as room name (some h) = pure h
 intern-as room name none = add-bytes room name >>= λ start. add-node room (symbol start (length name))
 
+-- a name's node, searched in what there is so far
 unfoldable pub intern : Room → List ℕ → Reader ℕ
 intern room name = look λ s. intern-as room name (find-symbol (s .bytes) name (s .nodes) 0)
 
@@ -147,6 +154,7 @@ read-object-link input = read-count input >>= λ i. look λ s. entry (s .objects
 pub data Head : Type 0 where
   Nil True False Fixnum Symbol SymbolLink ObjectLink InstanceVariables Array Hash HashDefault Object String UserDefined Unknown : Head
 
+-- a kind byte's head
 unfoldable pub head : ℕ → Head
 head k =
     pick (eqb k NIL) Nil
@@ -272,9 +280,11 @@ pub record Lists : Type 0 where
   pub symbols : List ℕ
   pub objects : List ℕ
 
+-- the five lent lists put together
 abbrev pub lists : List ℕ → List ℕ → List ℕ → List ℕ → List ℕ → Lists
 lists n r b y o = record { nodes = n; references = r; bytes = b; symbols = y; objects = o }
 
+-- as much room as the lent lists have
 unfoldable pub room-of : Lists → Room
 room-of T = record { nodes = length (T .nodes) / width; references = length (T .references); bytes = length (T .bytes); symbols = length (T .symbols); objects = length (T .objects) }
 
@@ -287,6 +297,7 @@ pub record LoadCall : Type 0 where
   pub answer : Loaded
   pub lent : Lists
 
+-- counts by their fields
 abbrev pub counts : ℕ → ℕ → ℕ → ℕ → Counts
 counts n r b root = record { nodes = n; references = r; bytes = b; root = root }
 
@@ -300,5 +311,6 @@ unfoldable pub load-if : ℕ → List ℕ → Lists → ℕ → LoadCall
 load-if zero input T limit = load-done T (load input (room-of T) limit)
 load-if (suc slice) input T limit = record { answer = record { answer = Refused (BadTables (suc slice)); counts = counts 0 0 0 0; used = 0 }; lent = T }
 
+-- load's whole call
 unfoldable pub load-call : List ℕ → Lists → ℕ → LoadCall
 load-call input T limit = load-if (load-wrong input T limit) input T limit

@@ -61,6 +61,7 @@ flat (r ∷ rs) = words r ++ flat rs
 
 -- ---- and back
 
+-- word 6 of kinds 7 and 8: "1 if a variable list is present, even an empty one"
 unfoldable pub vars : ℕ → ℕ → ℕ → Vars
 vars zero p n = absent
 vars (suc present?) p n = present p n

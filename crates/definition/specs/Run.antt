@@ -8,15 +8,19 @@ pub data Outcome (S A : Type 0) : Type 0 where
   ok : A → S → Outcome S A
   refused : Refusal → Outcome S A
 
+-- work on a state S that gives an A
 abbrev pub Run : Type 0 → Type 0 → Type 0
 Run S A = S → Outcome S A
 
+-- nothing to do
 unfoldable pub pure : {S A : Type 0} → A → Run S A
 pure a s = ok a s
 
+-- stop with a refusal
 unfoldable pub refuse : {S A : Type 0} → Refusal → Run S A
 refuse r s = refused r
 
+-- go on with what an outcome gives
 unfoldable pub next : {S A B : Type 0} → Outcome S A → (A → Run S B) → Outcome S B
 next (ok a t) f = f a t
 next (refused r) f = refused r

@@ -169,3 +169,72 @@ pub fn read_case(data: &mut [u8]) -> usize {
     }
     0
 }
+
+// What an entry holds before the call.
+fn junk(i: usize) -> u32 {
+    ((i % 65536) as u32) * 40503 + 90001
+}
+
+fn junk_byte(i: usize) -> u8 {
+    (i % 251) as u8
+}
+
+pub fn fill_words(out: &mut [u32]) {
+    for i in 0..out.len() {
+        out[i] = junk(i);
+    }
+}
+
+pub fn fill_bytes(out: &mut [u8]) {
+    for i in 0..out.len() {
+        out[i] = junk_byte(i);
+    }
+}
+
+fn word_at(data: &[u8], at: usize, n: usize, i: usize, touched: bool) -> u32 {
+    if !touched {
+        return junk(i);
+    }
+    if i < n {
+        word(&data[..], plus(at, i))
+    } else {
+        0
+    }
+}
+
+fn byte_at(data: &[u8], at: usize, n: usize, i: usize, touched: bool) -> u8 {
+    if !touched {
+        return junk_byte(i);
+    }
+    if i < n {
+        let p = plus(at, i);
+        if p < data.len() {
+            return data[p];
+        }
+    }
+    0
+}
+
+// The table holds the n words that stand at `at`, then zeros; or what it held, where nothing is to be touched.
+pub fn words_agree(data: &[u8], at: usize, n: usize, table: &[u32], touched: bool) -> bool {
+    for i in 0..table.len() {
+        if word_at(&data[..], at, n, i, touched) != table[i] {
+            return false;
+        }
+    }
+    true
+}
+
+// The same of bytes, from byte `at` on.
+pub fn bytes_agree(data: &[u8], at: usize, n: usize, table: &[u8], touched: bool) -> bool {
+    for i in 0..table.len() {
+        if byte_at(&data[..], at, n, i, touched) != table[i] {
+            return false;
+        }
+    }
+    true
+}
+
+pub fn times4(n: usize) -> usize {
+    if n < 100000000 { n * 4 } else { 0 }
+}

@@ -1,4 +1,4 @@
-// The library that users link: load, and the arena's getters and builder.
+// The library that users link: load, dump, and the arena's getters and builder.
 pub use definition::Answer;
 pub use definition::Begun;
 pub use definition::Counts;
@@ -11,6 +11,7 @@ pub use definition::Number;
 pub use definition::Refusal;
 pub use definition::ValueKind;
 pub use definition::Words;
+pub use dump::dump;
 pub use load::load;
 pub use refusal::Numbers;
 pub use refusal::answer_numbers;

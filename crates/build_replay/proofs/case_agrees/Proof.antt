@@ -1,18 +1,8 @@
 use borrow.Author.Needs.{needs}
-use native.Mathlib.Omega.{arith}
-use Prim.Native.Nat.{ℕ, _+_, _-_, _≤_}
-use mathlib.Core.Path.{_≡_, refl}
-use lib.ListN.{length}
 use lib.Seq.{length-take-le}
 use mathlib.Core.Path.{sym}
-use borrow.Author.Needs.{needs}
 use Rattle.build_replay.proofs.case_agrees.Statement.{statement}
 use Rattle.build_replay.proofs.case_agrees.Tie as tie
-use Rattle.build_replay.proofs.case_agrees.Reads as reads
-use Rattle.build_replay.proofs.case_agrees.Lts as lts
-use Rattle.build_replay.proofs.fitted_agrees.Reads as fitted-agrees-reads
-use Rattle.replay.proofs.plus.Reads as plus-reads
-use Rattle.replay.proofs.word.Reads as word-reads
 
 -- src/main.rt:169:29
 plus-requires : tie.Need-plus-requires

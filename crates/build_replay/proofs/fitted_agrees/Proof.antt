@@ -1,19 +1,7 @@
 use borrow.Author.Needs.{needs}
 use native.Mathlib.Omega.{arith}
-use Prim.Native.Nat.{ℕ, _+_, _-_, _≤_}
-use mathlib.Core.Path.{_≡_, refl}
-use lib.ListN.{length}
-use borrow.Author.Needs.{needs}
 use Rattle.build_replay.proofs.fitted_agrees.Statement.{statement}
 use Rattle.build_replay.proofs.fitted_agrees.Tie as tie
-use Rattle.build_replay.proofs.fitted_agrees.Reads as reads
-use Rattle.build_replay.proofs.fitted_agrees.Lts as lts
-use Rattle.build_replay.proofs.call_agrees.Reads as call-agrees-reads
-use Rattle.replay.proofs.plus.Reads as plus-reads
-use Rattle.replay.proofs.read_bytes.Reads as read-bytes-reads
-use Rattle.replay.proofs.read_words.Reads as read-words-reads
-use Rattle.replay.proofs.same_bytes.Reads as same-bytes-reads
-use Rattle.replay.proofs.same_words.Reads as same-words-reads
 
 -- src/main.rt:146:9
 plus-requires : tie.Need-plus-requires

@@ -1,16 +1,10 @@
 use borrow.Author.Needs.{needs}
 use native.Mathlib.Omega.{arith}
-use Prim.Native.Nat.{ℕ, _+_, _-_, _≤_}
-use mathlib.Core.Path.{_≡_, refl, _∙_}
+use Prim.Native.Nat.{_-_, _≤_}
+use mathlib.Core.Path.{_≡_, refl}
 use lib.ListN.{length}
 use Rattle.build_replay.proofs.replay_all.Statement.{statement}
 use Rattle.build_replay.proofs.replay_all.Tie as tie
-use Rattle.build_replay.proofs.replay_all.Reads as reads
-use Rattle.build_replay.proofs.replay_all.Lts as lts
-use Rattle.build_replay.proofs.step.Reads as step-reads
-use Rattle.replay.proofs.next.Reads as next-reads
-use Rattle.replay.proofs.print_case.Reads as print-case-reads
-use Rattle.replay.proofs.print_counts.Reads as print-counts-reads
 
 abbrev Inv-loop : tie.InvT-loop
 Inv-loop data₀ nodes₀ references₀ bytes₀ list₀ text₀ wrong₀ i₀ «data» nodes references bytes list text wrong i =

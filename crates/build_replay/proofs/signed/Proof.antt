@@ -1,14 +1,9 @@
 use borrow.Author.Needs.{needs}
 use native.Mathlib.Omega.{arith}
-use Prim.Native.Nat.{ℕ, _+_, _-_, _≤_}
-use mathlib.Core.Path.{_≡_, refl}
-use lib.ListN.{length}
+use Prim.Native.Nat.{_-_}
 use Rattle.build_replay.proofs.Minus.{fits}
-use borrow.Author.Needs.{needs}
 use Rattle.build_replay.proofs.signed.Statement.{statement}
 use Rattle.build_replay.proofs.signed.Tie as tie
-use Rattle.build_replay.proofs.signed.Reads as reads
-use Rattle.build_replay.proofs.signed.Lts as lts
 
 -- src/main.rt:49:9
 cast-result : tie.Need-cast-result

@@ -1,0 +1,3 @@
+-- Laws for the proofs of dump.
+pub mod Loops
+pub mod Whole

@@ -1,0 +1,1 @@
+-- What the cycle's contracts say.

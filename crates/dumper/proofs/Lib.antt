@@ -1,0 +1,8 @@
+-- Laws for the proofs of the writers.
+pub mod Steps
+pub mod Integers
+pub mod Rows
+pub mod Names
+pub mod Openings
+pub mod Heads
+pub mod Slices

@@ -1,0 +1,236 @@
+-- What is held after bytes are written and after a number is given.
+use Prim.Native.Nat.{ℕ, zero, suc, _+_, _-_, _≤_, _<_}
+use native.Mathlib.Omega.{arith}
+use native.Mathlib.Nat.{zero-sub, sub-zero}
+use native.Mathlib.Numerals.{add-one}
+use mathlib.Core.Bool.{Bool, true, false}
+use mathlib.Core.Option.{Option, none, some}
+use mathlib.Core.Path.{_≡_, refl, sym, ap, _∙_}
+use mathlib.Core.List.{List, [], _∷_, _++_}
+use lib.Dec.{eqb}
+use lib.ListN.{length, getD, set, take, drop, replicate, length-append, length-set}
+use lib.Seq.{sets, sets-eq, length-sets, take-append-seam, drop-append-add, getD-set-same, getD-set-other}
+use borrow.Author.Tests.{le-leb, lt-leb, eqb-true, eqb-false, eq-eqb, ne-eqb}
+use Rattle.definition.specs.Run.{pure, next, _>>=_, look, pick}
+use Rattle.definition.specs.Integer.{integer-bytes}
+use Rattle.definition.specs.Kind.{OBJECT-LINK}
+use Rattle.definition.specs.Node.{kind}
+use Rattle.definition.specs.Arena.{Arena, node}
+use Rattle.definition.specs.Dump.{Written, Writer, _>>_, write, number-in, number-symbol, number-object, link-or, write-object-or-link}
+use Rattle.definition.specs.declared.Refusal.the-variants.{NoSpace}
+use Rattle.dumper.specs.Held.{Buffers, buffers, word, marked, marks, Holds, IsObject, Goes, Meets}
+use Rattle.dumper.specs.declared.Write.the-variants.{Done, Refused}
+
+-- ---- numbers
+
+number-same : (l : List ℕ) (h i : ℕ) → number-in l h i ≡ none → number-in (l ++ (h ∷ [])) h i ≡ some (i + length l)
+unfolding number-in pick
+number-same [] h i e = rw (eq-eqb h h refl) (ap some (omega arith))
+number-same (x ∷ l) h i e = go (eqb x h) refl e (λ q. number-same l h (suc i) q)
+  where
+    go : (b : Bool) → eqb x h ≡ b → pick b (some i) (number-in l h (suc i)) ≡ none → (number-in l h (suc i) ≡ none → number-in (l ++ (h ∷ [])) h (suc i) ≡ some (suc i + length l)) → pick (eqb x h) (some i) (number-in (l ++ (h ∷ [])) h (suc i)) ≡ some (i + suc (length l))
+    go true p q f = let z : _≡_ {A = ℕ} 0 1 = cc in absurd (omega arith)
+    go false p q f = rw p (f q ∙ ap some (omega arith))
+
+number-other : (l : List ℕ) (h k i : ℕ) → (h ≡ k → ⊥) → number-in (l ++ (h ∷ [])) k i ≡ number-in l k i
+unfolding number-in pick
+number-other [] h k i n = rw (ne-eqb h k n) refl
+number-other (x ∷ l) h k i n = ap (λ (o : Option ℕ). pick (eqb x k) (some i) o) (number-other l h k (suc i) n)
+
+number-new : (l : List ℕ) (h : ℕ) → number-in l h 0 ≡ none → suc (length l) ≡ word (number-in (l ++ (h ∷ [])) h 0)
+unfolding word
+number-new l h e = sym (ap word (number-same l h 0 e) ∙ omega arith)
+
+pub word-none : (o : Option ℕ) (x : ℕ) → x ≡ word o → x ≡ 0 → o ≡ none
+unfolding word
+word-none none x e z = refl
+word-none (some i) x e z = absurd (omega arith)
+
+pub word-some : (o : Option ℕ) (x : ℕ) → x ≡ word o → (x ≡ 0 → ⊥) → o ≡ some (x - 1)
+unfolding word
+word-some none x e n = absurd (n e)
+word-some (some i) x e n = ap some (omega arith)
+
+-- ---- words that are not zero
+
+marks-set : (l : List ℕ) (i x : ℕ) → i < length l → getD l i 0 ≡ 0 → marks (set l i (suc x)) ≡ suc (marks l)
+unfolding marks marked
+marks-set [] i x h e = absurd (omega arith)
+marks-set (y ∷ l) zero x h e = rw e (omega arith)
+marks-set (y ∷ l) (suc i) x h e = rw (marks-set l i x (omega arith) e) (omega arith)
+
+marked-le : (x : ℕ) → marked x ≤ 1
+unfolding marked
+marked-le zero = omega arith
+marked-le (suc x) = omega arith
+
+marks-le : (l : List ℕ) → marks l ≤ length l
+unfolding marks
+marks-le [] = omega arith
+marks-le (x ∷ l) = omega (arith, marked-le x, marks-le l)
+
+marks-lt : (l : List ℕ) (i : ℕ) → i < length l → getD l i 0 ≡ 0 → marks l < length l
+unfolding marks marked
+marks-lt [] i h e = absurd (omega arith)
+marks-lt (x ∷ l) zero h e = rw e (omega (arith, marks-le l))
+marks-lt (x ∷ l) (suc i) h e = omega (arith, marked-le x, marks-lt l i (omega arith) e)
+
+-- ---- bytes
+
+drop-zeros : (m k : ℕ) → drop {A = ℕ} m (replicate k 0) ≡ replicate (k - m) 0
+drop-zeros zero k = rw sub-zero
+drop-zeros (suc m) zero = rw zero-sub
+drop-zeros (suc m) (suc k) =
+    let e : suc k - suc m ≡ k - m = omega arith in
+    rw e (drop-zeros m k)
+
+-- bytes stored behind those that stand
+pushed : (room : ℕ) (l vs t : List ℕ) → t ≡ l ++ replicate (room - length l) 0 → length t ≡ room → length l + length vs ≤ room → sets t (length l) vs ≡ (l ++ vs) ++ replicate (room - length (l ++ vs)) 0
+pushed room l vs t e z h =
+    let left : room - length l - length vs ≡ room - length (l ++ vs) = omega (arith, length-append l vs) in
+    sets-eq vs t (length l) (omega arith)
+    ∙ ap (λ (x : List ℕ). take (length l) x ++ vs ++ drop (length l + length vs) x) e
+    ∙ ap (λ (x : List ℕ). x ++ vs ++ drop (length l + length vs) (l ++ replicate (room - length l) 0)) (take-append-seam l _)
+    ∙ ap (λ (x : List ℕ). l ++ vs ++ x) (drop-append-add l _ (length vs) ∙ drop-zeros (length vs) (room - length l))
+    ∙ ap (λ (k : ℕ). (l ++ vs) ++ replicate k 0) left
+
+module _ {A : Arena} {room : ℕ} {sc out : List ℕ} {c : List ℕ} where
+  -- bytes where there is room
+  pub chunk : (bs : List ℕ) (n : ℕ) → length bs ≡ n → getD c 0 0 + n ≤ length out → Meets A room (write room bs) (buffers sc out) c Done (buffers sc (sets out (getD c 0 0) bs)) (set c 0 (getD c 0 0 + n))
+  unfolding write pick pure
+  chunk bs n z h = record {
+    meets = record {
+      goes = λ s H.
+          let at : getD c 0 0 ≡ length (s .bytes) = H .count-written in
+          let le : length bs ≤ room - length (s .bytes) = omega (arith, H .sized) in
+          let len = length-append (s .bytes) bs in
+          record {
+            state = record { bytes = s .bytes ++ bs; symbols = s .symbols; objects = s .objects };
+            holds = record {
+              small = H .small;
+              counts = length-set c 0 _ ∙ H .counts;
+              sized = length-sets out (getD c 0 0) bs ∙ H .sized;
+              fits = omega (arith, len, H .fits);
+              same = ap (λ (k : ℕ). sets out k bs) at ∙ pushed room (s .bytes) bs out (H .same) (H .sized) (omega (arith, H .fits));
+              count-written = getD-set-same c 0 _ 0 (omega (arith, H .counts)) ∙ omega (arith, len);
+              count-symbols = getD-set-other c 0 1 _ 0 (omega arith) ∙ H .count-symbols;
+              count-objects = getD-set-other c 0 2 _ 0 (omega arith) ∙ H .count-objects;
+              scratch-small = H .scratch-small;
+              scratch-fits = H .scratch-fits;
+              numbered = H .numbered;
+              symbol-words = H .symbol-words;
+              object-words = H .object-words;
+            };
+            same = rw (le-leb (length bs) (room - length (s .bytes)) le) refl;
+          };
+    };
+  }
+
+  pub no-chunk : {B' : Buffers} {c' : List ℕ} (bs : List ℕ) (n : ℕ) → length bs ≡ n → length out < getD c 0 0 + n → Meets A room (write room bs) (buffers sc out) c (Refused (NoSpace 6)) B' c'
+  unfolding write pick
+  no-chunk bs n z h = record {
+    meets = λ s H.
+        let lt : room - length (s .bytes) < length bs = omega (arith, H .sized, H .count-written, H .fits) in
+        rw (lt-leb (length bs) (room - length (s .bytes)) lt) refl;
+  }
+
+  -- ---- an object's number
+
+  object-held : (v : ℕ) (s : Written) → IsObject A v → getD sc v 0 ≡ 0 → Holds A room s (buffers sc out) c → Holds A room (record { bytes = s .bytes; symbols = s .symbols; objects = s .objects ++ (v ∷ []) }) (buffers (set sc v (getD c 2 0 + 1)) out) (set c 2 (getD c 2 0 + 1))
+  unfolding word
+  object-held v s o e H =
+      let len = length-append (s .objects) (v ∷ []) in
+      let in-scratch : v < length sc = omega (arith, o .below, H .scratch-fits) in
+      record {
+        small = H .small;
+        counts = length-set c 2 _ ∙ H .counts;
+        sized = H .sized;
+        fits = H .fits;
+        same = H .same;
+        count-written = getD-set-other c 2 0 _ 0 (omega arith) ∙ H .count-written;
+        count-symbols = getD-set-other c 2 1 _ 0 (omega arith) ∙ H .count-symbols;
+        count-objects = getD-set-same c 2 _ 0 (omega (arith, H .counts)) ∙ omega (arith, len, H .count-objects);
+        scratch-small = rw (length-set sc v (getD c 2 0 + 1)) (H .scratch-small);
+        scratch-fits = rw (length-set sc v (getD c 2 0 + 1)) (H .scratch-fits);
+        numbered = omega (arith, len, H .numbered, ap (λ (x : ℕ). marks (set sc v x)) (add-one (getD c 2 0)) ∙ marks-set sc v (getD c 2 0) in-scratch e);
+        symbol-words = λ i l k. getD-set-other sc v i _ 0 (λ q. let z = ap (λ (j : ℕ). kind (node A j)) q in omega (arith, o .kind-above)) ∙ H .symbol-words i l k;
+        object-words = λ i l k. at i l k (eqb i v) refl;
+      }
+    where
+      at : (i : ℕ) → i < length (A .nodes) → 3 < kind (node A i) → (b : Bool) → eqb i v ≡ b → getD (set sc v (getD c 2 0 + 1)) i 0 ≡ word (number-in (s .objects ++ (v ∷ [])) i 0)
+      at i l k true q =
+          let same : i ≡ v = eqb-true i v q in
+          let in-scratch : v < length sc = omega (arith, o .below, H .scratch-fits) in
+          let unnumbered = word-none _ _ (H .object-words v (o .below) (o .kind-above)) e in
+          rw same (getD-set-same sc v _ 0 in-scratch ∙ add-one _ ∙ ap suc (H .count-objects) ∙ number-new (s .objects) v unnumbered)
+      at i l k false q =
+          let other : (i ≡ v → ⊥) = eqb-false i v q in
+          getD-set-other sc v i _ 0 other ∙ H .object-words i l k ∙ sym (ap word (number-other (s .objects) v i 0 (λ p. other (sym p))))
+
+  -- node v, which has no number, gets one before the rest
+  pub object-numbered : (v : ℕ) (rest : Writer) → IsObject A v → getD sc v 0 ≡ 0 → Goes A room (write-object-or-link room v rest) (buffers sc out) c rest (buffers (set sc v (getD c 2 0 + 1)) out) (set c 2 (getD c 2 0 + 1))
+  unfolding write-object-or-link look link-or number-object _>>_ _>>=_ next
+  object-numbered v rest o e = record {
+    goes = λ s H. record {
+      state = record { bytes = s .bytes; symbols = s .symbols; objects = s .objects ++ (v ∷ []) };
+      holds = object-held v s o e H;
+      same = rw (word-none _ _ (H .object-words v (o .below) (o .kind-above)) e) refl;
+    };
+  }
+
+  pub object-linked : (v : ℕ) (rest : Writer) → IsObject A v → (getD sc v 0 ≡ 0 → ⊥) → Goes A room (write-object-or-link room v rest) (buffers sc out) c (write room (OBJECT-LINK ∷ integer-bytes (getD sc v 0 - 1))) (buffers sc out) c
+  unfolding write-object-or-link look link-or
+  object-linked v rest o n = record {
+    goes = λ s H. record {
+      state = s;
+      holds = H;
+      same = rw (word-some _ _ (H .object-words v (o .below) (o .kind-above)) n) refl;
+    };
+  }
+
+  -- ---- a symbol's number
+
+  symbol-held : (v : ℕ) (s : Written) → v < length (A .nodes) → kind (node A v) ≡ 3 → getD sc v 0 ≡ 0 → Holds A room s (buffers sc out) c → Holds A room (record { bytes = s .bytes; symbols = s .symbols ++ (v ∷ []); objects = s .objects }) (buffers (set sc v (getD c 1 0 + 1)) out) (set c 1 (getD c 1 0 + 1))
+  unfolding word
+  symbol-held v s below three e H =
+      let len = length-append (s .symbols) (v ∷ []) in
+      let in-scratch : v < length sc = omega (arith, below, H .scratch-fits) in
+      record {
+        small = H .small;
+        counts = length-set c 1 _ ∙ H .counts;
+        sized = H .sized;
+        fits = H .fits;
+        same = H .same;
+        count-written = getD-set-other c 1 0 _ 0 (omega arith) ∙ H .count-written;
+        count-symbols = getD-set-same c 1 _ 0 (omega (arith, H .counts)) ∙ omega (arith, len, H .count-symbols);
+        count-objects = getD-set-other c 1 2 _ 0 (omega arith) ∙ H .count-objects;
+        scratch-small = rw (length-set sc v (getD c 1 0 + 1)) (H .scratch-small);
+        scratch-fits = rw (length-set sc v (getD c 1 0 + 1)) (H .scratch-fits);
+        numbered = omega (arith, len, H .numbered, ap (λ (x : ℕ). marks (set sc v x)) (add-one (getD c 1 0)) ∙ marks-set sc v (getD c 1 0) in-scratch e);
+        symbol-words = λ i l k. at i l k (eqb i v) refl;
+        object-words = λ i l k. getD-set-other sc v i _ 0 (λ q. let z = ap (λ (j : ℕ). kind (node A j)) q in omega (arith, three)) ∙ H .object-words i l k;
+      }
+    where
+      at : (i : ℕ) → i < length (A .nodes) → kind (node A i) ≡ 3 → (b : Bool) → eqb i v ≡ b → getD (set sc v (getD c 1 0 + 1)) i 0 ≡ word (number-in (s .symbols ++ (v ∷ [])) i 0)
+      at i l k true q =
+          let same : i ≡ v = eqb-true i v q in
+          let in-scratch : v < length sc = omega (arith, below, H .scratch-fits) in
+          let unnumbered = word-none _ _ (H .symbol-words v below three) e in
+          rw same (getD-set-same sc v _ 0 in-scratch ∙ add-one _ ∙ ap suc (H .count-symbols) ∙ number-new (s .symbols) v unnumbered)
+      at i l k false q =
+          let other : (i ≡ v → ⊥) = eqb-false i v q in
+          getD-set-other sc v i _ 0 other ∙ H .symbol-words i l k ∙ sym (ap word (number-other (s .symbols) v i 0 (λ p. other (sym p))))
+
+  pub symbol-numbered : (v : ℕ) (rest : Writer) → v < length (A .nodes) → kind (node A v) ≡ 3 → getD sc v 0 ≡ 0 → Goes A room (number-symbol v >> rest) (buffers sc out) c rest (buffers (set sc v (getD c 1 0 + 1)) out) (set c 1 (getD c 1 0 + 1))
+  unfolding number-symbol _>>_ _>>=_ next
+  symbol-numbered v rest below three e = record {
+    goes = λ s H. record {
+      state = record { bytes = s .bytes; symbols = s .symbols ++ (v ∷ []); objects = s .objects };
+      holds = symbol-held v s below three e H;
+      same = refl;
+    };
+  }
+
+-- the number's place is a word
+pub number-fits : {A : Arena} {room : ℕ} {s : Written} {sc out c : List ℕ} → Holds A room s (buffers sc out) c → (v : ℕ) → v < length (A .nodes) → getD sc v 0 ≡ 0 → getD c 1 0 + getD c 2 0 < 2147483647
+number-fits {sc = sc} H v l e = omega (arith, H .numbered, H .count-symbols, H .count-objects, H .scratch-small, marks-lt sc v (omega (arith, H .scratch-fits)) e)

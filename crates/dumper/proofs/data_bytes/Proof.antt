@@ -1,0 +1,25 @@
+use native.Mathlib.Omega.{arith}
+use mathlib.Core.Path.{refl}
+use lib.Count.{leading-le}
+use Rattle.definition.specs.Integer.{fewest}
+use Rattle.dumper.proofs.Integers.{fewest-most, fewest-some}
+use Rattle.dumper.proofs.data_bytes.Statement.{statement}
+use Rattle.dumper.proofs.data_bytes.Tie as tie
+use Rattle.dumper.proofs.data_bytes.Reads as reads
+use Rattle.dumper.proofs.data_bytes.Lts as lts
+
+-- src/lib.rt:93:6
+sub-result : tie.Need-sub-result
+sub-result c =
+    let l = leading-le 32 (c .args .v) in
+    omega (arith, l)
+
+-- src/lib.rt:89:1
+returns : tie.Need-returns
+unfolding fewest
+returns c =
+    let v = c .args .v in
+    (refl, (fewest-most v, λ h. fewest-some v h (omega arith)))
+
+pub data-bytes-spec : {M : Type 1} → statement M
+data-bytes-spec = tie.close (tie.spec sub-result returns)

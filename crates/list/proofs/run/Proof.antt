@@ -1,0 +1,120 @@
+use borrow.Author.Needs.{needs}
+use native.Mathlib.Omega.{arith}
+use Prim.Native.Nat.{ℕ, _+_, _-_, _≤_, _<_}
+use mathlib.Core.Path.{_≡_, refl, sym}
+use lib.ListN.{length}
+use lib.Seq.{length-take-le}
+use borrow.Author.Needs.{needs}
+use Rattle.list.proofs.run.Statement.{statement}
+use Rattle.list.proofs.run.Tie as tie
+use Rattle.list.proofs.run.Reads as reads
+use Rattle.list.proofs.run.Lts as lts
+use Rattle.list.proofs.list.Reads as list-reads
+use Rattle.list.proofs.read_input.Reads as read-input-reads
+use Rattle.os.proofs.fail.Reads as fail-reads
+
+-- src/main.rt:60:11
+read-input-requires : tie.Need-read-input-requires
+read-input-requires c κs = search needs
+
+-- src/main.rt:61:21
+enum-known-n : tie.Need-enum-known-n
+enum-known-n c = search needs
+
+-- src/main.rt:63:22
+slice-reshare-prefix-list : tie.Need-slice-reshare-prefix-list
+slice-reshare-prefix-list c = search needs
+
+-- src/main.rt:63:22
+slice-aggregate-list : tie.Need-slice-aggregate-list
+slice-aggregate-list c =
+    sym (length-take-le _ _ (c .before .if1 .taken))
+
+-- src/main.rt:63:17
+list-requires : tie.Need-list-requires
+list-requires c κs = search needs
+
+-- src/main.rt:66:35
+enum-told : tie.Need-enum-told
+enum-told c = search needs
+
+-- src/main.rt:66:35
+slice-aggregate-fail : tie.Need-slice-aggregate-fail
+slice-aggregate-fail c = search needs
+
+-- src/main.rt:66:26
+fail-requires : tie.Need-fail-requires
+fail-requires c κs = search needs
+
+-- src/main.rt:59:1
+same-length : tie.Need-same-length
+same-length c = search needs
+
+-- src/main.rt:59:1
+same-length-2 : tie.Need-same-length-2
+same-length-2 c = search needs
+
+-- src/main.rt:59:1
+same-length-3 : tie.Need-same-length-3
+same-length-3 c = search needs
+
+-- src/main.rt:59:1
+same-length-4 : tie.Need-same-length-4
+same-length-4 c = search needs
+
+-- src/main.rt:59:1
+same-length-5 : tie.Need-same-length-5
+same-length-5 c = search needs
+
+-- src/main.rt:59:1
+same-length-6 : tie.Need-same-length-6
+same-length-6 c = search needs
+
+-- src/main.rt:59:1
+same-length-7 : tie.Need-same-length-7
+same-length-7 c = search needs
+
+-- src/main.rt:59:1
+returns : tie.Need-returns
+returns c = search needs
+
+-- src/main.rt:59:1
+same-length-8 : tie.Need-same-length-8
+same-length-8 c = search needs
+
+-- src/main.rt:59:1
+returns-2 : tie.Need-returns-2
+returns-2 c = search needs
+
+-- src/main.rt:59:1
+same-length-9 : tie.Need-same-length-9
+same-length-9 c = search needs
+
+-- src/main.rt:59:1
+returns-3 : tie.Need-returns-3
+returns-3 c = search needs
+
+pub run-spec : {M : Type 1} → statement M
+run-spec =
+    tie.close
+    (tie.spec
+    read-input-requires
+    enum-known-n
+    slice-reshare-prefix-list
+    slice-aggregate-list
+    list-requires
+    enum-told
+    slice-aggregate-fail
+    fail-requires
+    same-length
+    same-length-2
+    same-length-3
+    same-length-4
+    same-length-5
+    same-length-6
+    same-length-7
+    returns
+    same-length-8
+    returns-2
+    same-length-9
+    returns-3)

@@ -1,0 +1,214 @@
+// Replays stored cases of load through the public function, and prints those that disagree.
+//
+// A case is words of 32 bits, low byte first: its length in words; the lengths of the five tables and lists; the limit;
+// the input's length; what is expected: the answer's number and two details, four counts, the bytes used, and how much of
+// nodes, references and bytes is laid out; then those node words and references. Bytes follow, padded to a word: those
+// laid out, then the input.
+use definition::Loaded;
+use load::load;
+use replay::bytes_agree;
+use replay::fill_bytes;
+use replay::fill_words;
+use replay::next;
+use replay::plus;
+use replay::print_case;
+use replay::print_counts;
+use replay::read_case;
+use replay::same_answer;
+use replay::same_counts;
+use replay::times4;
+use replay::word;
+use replay::words_agree;
+
+// Places in a case.
+const LIMIT: usize = 6;
+
+const INPUT: usize = 7;
+
+const ANSWER: usize = 8;
+
+const COUNTS: usize = 11;
+
+const USED: usize = 15;
+
+const LAID: usize = 16;
+
+const TABLES: usize = 19;
+
+fn loaded_agrees(data: &[u8], r: Loaded) -> bool {
+    let answer = r.answer;
+    let counts = r.counts;
+    let used = r.used;
+    if same_answer(&data[..], ANSWER, answer) {
+        if same_counts(&data[..], COUNTS, counts) {
+            return word(&data[..], USED) as usize == used;
+        }
+    }
+    false
+}
+
+fn tables_agree(
+    data: &[u8],
+    nodes: &[u32],
+    references: &[u32],
+    bytes: &[u8],
+    symbols: &[u32],
+    objects: &[u32],
+) -> bool {
+    let touched = word(&data[..], ANSWER) != 1;
+    let n = word(&data[..], LAID) as usize;
+    let r = word(&data[..], 17) as usize;
+    let b = word(&data[..], 18) as usize;
+    let p = plus(TABLES, n);
+    let q = times4(plus(p, r));
+    if !words_agree(&data[..], TABLES, n, &nodes[..], touched) {
+        return false;
+    }
+    if !words_agree(&data[..], p, r, &references[..], touched) {
+        return false;
+    }
+    if !bytes_agree(&data[..], q, b, &bytes[..], touched) {
+        return false;
+    }
+    if !words_agree(&data[..], 0, 0, &symbols[..], touched) {
+        return false;
+    }
+    words_agree(&data[..], 0, 0, &objects[..], touched)
+}
+
+// A case in tables and lists of just its lengths.
+fn fitted_agrees(
+    data: &[u8],
+    input: &[u8],
+    nodes: &mut [u32],
+    references: &mut [u32],
+    bytes: &mut [u8],
+    symbols: &mut [u32],
+    objects: &mut [u32],
+) -> bool {
+    fill_words(nodes);
+    fill_words(references);
+    fill_bytes(bytes);
+    fill_words(symbols);
+    fill_words(objects);
+    let limit = word(&data[..], LIMIT);
+    let r = load(
+        &input[..],
+        nodes,
+        references,
+        bytes,
+        symbols,
+        objects,
+        limit,
+    );
+    if loaded_agrees(&data[..], r) {
+        return tables_agree(&data[..], nodes, references, bytes, symbols, objects);
+    }
+    false
+}
+
+// The byte at which the input starts.
+fn input_start(data: &[u8]) -> usize {
+    let n = word(&data[..], LAID) as usize;
+    let r = word(&data[..], 17) as usize;
+    let b = word(&data[..], 18) as usize;
+    plus(times4(plus(plus(TABLES, n), r)), b)
+}
+
+fn case_agrees(
+    data: &[u8],
+    nodes: &mut [u32],
+    references: &mut [u32],
+    bytes: &mut [u8],
+    symbols: &mut [u32],
+    objects: &mut [u32],
+) -> bool {
+    let n = word(&data[..], 1) as usize;
+    let r = word(&data[..], 2) as usize;
+    let b = word(&data[..], 3) as usize;
+    let s = word(&data[..], 4) as usize;
+    let o = word(&data[..], 5) as usize;
+    let start = input_start(&data[..]);
+    let end = plus(start, word(&data[..], INPUT) as usize);
+    if n <= nodes.len() {
+        if r <= references.len() {
+            if b <= bytes.len() {
+                if s <= symbols.len() {
+                    if o <= objects.len() {
+                        if end <= data.len() {
+                            if start <= end {
+                                return fitted_agrees(
+                                    &data[..],
+                                    &data[start..end],
+                                    &mut nodes[..n],
+                                    &mut references[..r],
+                                    &mut bytes[..b],
+                                    &mut symbols[..s],
+                                    &mut objects[..o],
+                                );
+                            }
+                        }
+                    }
+                }
+            }
+        }
+    }
+    false
+}
+
+// The next case: 0 where there is none, 1 where it agrees, else 2.
+fn step(
+    data: &mut [u8],
+    nodes: &mut [u32],
+    references: &mut [u32],
+    bytes: &mut [u8],
+    symbols: &mut [u32],
+    objects: &mut [u32],
+) -> u32 {
+    if read_case(data) == 0 {
+        return 0;
+    }
+    if case_agrees(data, nodes, references, bytes, symbols, objects) {
+        return 1;
+    }
+    2
+}
+
+fn replay_all(
+    data: &mut [u8],
+    nodes: &mut [u32],
+    references: &mut [u32],
+    bytes: &mut [u8],
+    symbols: &mut [u32],
+    objects: &mut [u32],
+) {
+    let mut wrong: u64 = 0;
+    for i in 0..10000 {
+        let s = step(data, nodes, references, bytes, symbols, objects);
+        if s == 0 {
+            print_counts(i, wrong);
+            return;
+        }
+        if s == 2 {
+            print_case(i);
+            wrong = next(wrong);
+        }
+    }
+}
+
+fn main() {
+    let mut data = [0u8; 131072];
+    let mut nodes = [0u32; 7000];
+    let mut references = [0u32; 4000];
+    let mut bytes = [0u8; 16384];
+    let mut symbols = [0u32; 1000];
+    let mut objects = [0u32; 1000];
+    replay_all(
+        &mut data,
+        &mut nodes,
+        &mut references,
+        &mut bytes,
+        &mut symbols,
+        &mut objects,
+    );
+}

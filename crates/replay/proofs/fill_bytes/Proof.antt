@@ -1,0 +1,69 @@
+use borrow.Author.Needs.{needs}
+use native.Mathlib.Omega.{arith}
+use Prim.Native.Nat.{ℕ, _+_, _-_, _≤_}
+use mathlib.Core.Path.{_≡_, refl}
+use lib.ListN.{length, length-set}
+use Rattle.replay.proofs.fill_bytes.Statement.{statement}
+use Rattle.replay.proofs.fill_bytes.Tie as tie
+use Rattle.replay.proofs.fill_bytes.Reads as reads
+use Rattle.replay.proofs.fill_bytes.Lts as lts
+use Rattle.replay.proofs.junk_byte.Reads as junk-byte-reads
+
+abbrev Inv-loop : tie.InvT-loop
+Inv-loop out₀ i₀ i-end out i =
+    (i ≤ i-end) × (i-end ≡ length out₀) × (length out ≡ length out₀)
+
+abbrev μ-loop : tie.MeasureT-loop
+μ-loop out₀ i₀ i-end out i =
+    i-end - i
+
+-- src/main.rt:43:5
+loop-holds : tie.Need-loop-holds Inv-loop μ-loop
+loop-holds c =
+    (omega arith, refl, refl)
+
+-- src/main.rt:44:18
+junk-byte-requires : tie.Need-junk-byte-requires Inv-loop μ-loop
+junk-byte-requires c κs = search needs
+
+-- src/main.rt:44:9
+slice-write-out : tie.Need-slice-write-out Inv-loop μ-loop
+slice-write-out c =
+    omega (arith, c .before .before .loop .inv .1, c .before .before .loop .inv .2)
+
+-- src/main.rt:43:9
+add-i : tie.Need-add-i Inv-loop μ-loop
+add-i c = search needs
+
+-- src/main.rt:43:5
+loop-less : tie.Need-loop-less Inv-loop μ-loop
+loop-less c = search needs
+
+-- src/main.rt:43:5
+loop-again : tie.Need-loop-again Inv-loop μ-loop
+loop-again c =
+    (omega arith, c .before .before .loop .inv .1, simp length-set (c .before .before .loop .inv .2))
+
+-- src/main.rt:42:1
+same-length : tie.Need-same-length Inv-loop μ-loop
+same-length c =
+    c .before .loop .inv .2
+
+-- src/main.rt:42:1
+returns : tie.Need-returns Inv-loop μ-loop
+returns c = search needs
+
+pub fill-bytes-spec : {M : Type 1} → statement M
+fill-bytes-spec =
+    tie.close
+    (tie.spec
+    Inv-loop
+    μ-loop
+    loop-holds
+    junk-byte-requires
+    slice-write-out
+    add-i
+    loop-less
+    loop-again
+    same-length
+    returns)

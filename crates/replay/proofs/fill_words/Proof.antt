@@ -1,0 +1,74 @@
+use borrow.Author.Needs.{needs}
+use native.Mathlib.Omega.{arith}
+use Prim.Native.Nat.{ℕ, _+_, _-_, _≤_}
+use mathlib.Core.Path.{_≡_, refl}
+use lib.ListN.{length, length-set}
+use Rattle.replay.proofs.fill_words.Statement.{statement}
+use Rattle.replay.proofs.fill_words.Tie as tie
+use Rattle.replay.proofs.fill_words.Reads as reads
+use Rattle.replay.proofs.fill_words.Lts as lts
+use Rattle.replay.proofs.junk.Reads as junk-reads
+
+abbrev Inv-loop : tie.InvT-loop
+Inv-loop out₀ i₀ i-end out i =
+    (i ≤ i-end) × (i-end ≡ length out₀) × (length out ≡ length out₀)
+
+abbrev μ-loop : tie.MeasureT-loop
+μ-loop out₀ i₀ i-end out i =
+    i-end - i
+
+-- src/main.rt:37:5
+loop-holds : tie.Need-loop-holds Inv-loop μ-loop
+loop-holds c =
+    (omega arith, refl, refl)
+
+-- src/main.rt:38:18
+junk-requires : tie.Need-junk-requires Inv-loop μ-loop
+junk-requires c κs = search needs
+
+-- src/main.rt:38:9
+mul-out : tie.Need-mul-out Inv-loop μ-loop
+mul-out c = search needs
+
+-- src/main.rt:38:9
+slice-write-out : tie.Need-slice-write-out Inv-loop μ-loop
+slice-write-out c =
+    omega (arith, c .before .before .loop .inv .1, c .before .before .loop .inv .2)
+
+-- src/main.rt:37:9
+add-i : tie.Need-add-i Inv-loop μ-loop
+add-i c = search needs
+
+-- src/main.rt:37:5
+loop-less : tie.Need-loop-less Inv-loop μ-loop
+loop-less c = search needs
+
+-- src/main.rt:37:5
+loop-again : tie.Need-loop-again Inv-loop μ-loop
+loop-again c =
+    (omega arith, c .before .before .loop .inv .1, simp length-set (c .before .before .loop .inv .2))
+
+-- src/main.rt:36:1
+same-length : tie.Need-same-length Inv-loop μ-loop
+same-length c =
+    c .before .loop .inv .2
+
+-- src/main.rt:36:1
+returns : tie.Need-returns Inv-loop μ-loop
+returns c = search needs
+
+pub fill-words-spec : {M : Type 1} → statement M
+fill-words-spec =
+    tie.close
+    (tie.spec
+    Inv-loop
+    μ-loop
+    loop-holds
+    junk-requires
+    mul-out
+    slice-write-out
+    add-i
+    loop-less
+    loop-again
+    same-length
+    returns)

@@ -1,0 +1,72 @@
+use borrow.Author.Needs.{needs}
+use native.Mathlib.Omega.{arith}
+use Prim.Native.Nat.{ℕ, _+_, _-_, _≤_}
+use mathlib.Core.Path.{_≡_, refl}
+use lib.ListN.{length, length-set}
+use Rattle.replay.proofs.words_agree.Statement.{statement}
+use Rattle.replay.proofs.words_agree.Tie as tie
+use Rattle.replay.proofs.words_agree.Reads as reads
+use Rattle.replay.proofs.words_agree.Lts as lts
+use Rattle.replay.proofs.word_at.Reads as word-at-reads
+
+abbrev Inv-loop : tie.InvT-loop
+Inv-loop «data» at n table touched i₀ i-end i =
+    (i ≤ i-end) × (i-end ≡ length table)
+
+abbrev μ-loop : tie.MeasureT-loop
+μ-loop «data» at n table touched i₀ i-end i =
+    i-end - i
+
+-- src/main.rt:74:5
+loop-holds : tie.Need-loop-holds Inv-loop μ-loop
+loop-holds c =
+    (omega arith, refl)
+
+-- src/main.rt:75:12
+word-at-requires : tie.Need-word-at-requires Inv-loop μ-loop
+word-at-requires c κs = search needs
+
+-- src/main.rt:75:53
+mul-if1 : tie.Need-mul-if1 Inv-loop μ-loop
+mul-if1 c = search needs
+
+-- src/main.rt:75:53
+shared-slice-read-if1 : tie.Need-shared-slice-read-if1 Inv-loop μ-loop
+shared-slice-read-if1 c = search needs
+
+-- src/main.rt:76:13
+returns : tie.Need-returns Inv-loop μ-loop
+returns c = search needs
+
+-- src/main.rt:74:9
+add-i : tie.Need-add-i Inv-loop μ-loop
+add-i c = search needs
+
+-- src/main.rt:74:5
+loop-less : tie.Need-loop-less Inv-loop μ-loop
+loop-less c = search needs
+
+-- src/main.rt:74:5
+loop-again : tie.Need-loop-again Inv-loop μ-loop
+loop-again c =
+    (omega arith, c .before .before .before .before .loop .inv .1)
+
+-- src/main.rt:73:1
+returns-2 : tie.Need-returns-2 Inv-loop μ-loop
+returns-2 c = search needs
+
+pub words-agree-spec : {M : Type 1} → statement M
+words-agree-spec =
+    tie.close
+    (tie.spec
+    Inv-loop
+    μ-loop
+    loop-holds
+    word-at-requires
+    mul-if1
+    shared-slice-read-if1
+    returns
+    add-i
+    loop-less
+    loop-again
+    returns-2)
