@@ -1,0 +1,68 @@
+use borrow.Author.Needs.{needs}
+use native.Mathlib.Omega.{arith}
+use Prim.Native.Nat.{ℕ, _+_, _-_, _≤_, _<_}
+use mathlib.Core.Path.{_≡_, refl, sym}
+use lib.ListN.{length}
+use lib.Seq.{length-take-le}
+use borrow.Author.Needs.{needs}
+use Rattle.list_cases.proofs.list_first.Statement.{statement}
+use Rattle.list_cases.proofs.list_first.Tie as tie
+use Rattle.list_cases.proofs.list_first.Reads as reads
+use Rattle.list_cases.proofs.list_first.Lts as lts
+use Rattle.listing.proofs.put_listing.Reads as put-listing-reads
+
+-- src/main.rt:33:37
+slice-aggregate-put-listing : tie.Need-slice-aggregate-put-listing
+slice-aggregate-put-listing c =
+    sym (length-take-le _ _ (c .before .before .if1 .taken))
+
+-- src/main.rt:33:9
+put-listing-requires : tie.Need-put-listing-requires
+put-listing-requires c κs = search needs
+
+-- src/main.rt:33:9
+same-length : tie.Need-same-length
+same-length c = search needs
+
+-- src/main.rt:33:9
+same-length-2 : tie.Need-same-length-2
+same-length-2 c = search needs
+
+-- src/main.rt:33:9
+same-length-3 : tie.Need-same-length-3
+same-length-3 c = search needs
+
+-- src/main.rt:33:9
+same-length-4 : tie.Need-same-length-4
+same-length-4 c = search needs
+
+-- src/main.rt:33:9
+same-length-5 : tie.Need-same-length-5
+same-length-5 c = search needs
+
+-- src/main.rt:33:9
+same-length-6 : tie.Need-same-length-6
+same-length-6 c = search needs
+
+-- src/main.rt:33:9
+returns : tie.Need-returns
+returns c = search needs
+
+-- src/main.rt:31:1
+returns-2 : tie.Need-returns-2
+returns-2 c = search needs
+
+pub list-first-spec : {M : Type 1} → statement M
+list-first-spec =
+    tie.close
+    (tie.spec
+    slice-aggregate-put-listing
+    put-listing-requires
+    same-length
+    same-length-2
+    same-length-3
+    same-length-4
+    same-length-5
+    same-length-6
+    returns
+    returns-2)
