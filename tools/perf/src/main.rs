@@ -170,6 +170,61 @@ fn times(input: &[u8], tables: &mut Tables) -> (f64, f64) {
     (ours, theirs)
 }
 
+// Plain recipes: an array of hashes of eight ingredients, names by link after the first.
+fn recipes(size: usize) -> Vec<u8> {
+    let names = ["sand", "cement", "water", "gravel", "lime", "ash", "fibre", "dye"];
+    list(size, |count, members| {
+        members.extend(b"{");
+        integer(8, members);
+        for (i, name) in names.iter().enumerate() {
+            named(name, i, count, members);
+            members.push(b'i');
+            integer((count * 37 + i as i32 * 1001) % 70000, members);
+        }
+    })
+}
+
+// Objects: an array of objects of one class with three variables, one of them an array.
+fn objects(size: usize) -> Vec<u8> {
+    list(size, |count, members| {
+        members.push(b'o');
+        named("Step", 0, count, members);
+        integer(3, members);
+        for (i, name) in ["@from", "@to", "@parts"].iter().enumerate() {
+            named(name, i + 1, count, members);
+            if i < 2 {
+                members.push(b'i');
+                integer((count * 7 + i as i32) % 70000, members);
+            } else {
+                members.extend(b"[\x07i\x06i\x07");
+            }
+        }
+    })
+}
+
+// A name, by link after the first time.
+fn named(name: &str, i: usize, count: i32, out: &mut Vec<u8>) {
+    if count == 0 {
+        symbol(name, out);
+    } else {
+        out.push(b';');
+        integer(i as i32, out);
+    }
+}
+
+// An array of as many members as fill the size.
+fn list(size: usize, member: impl Fn(i32, &mut Vec<u8>)) -> Vec<u8> {
+    let (mut members, mut count) = (Vec::new(), 0);
+    while members.len() < size {
+        member(count, &mut members);
+        count += 1;
+    }
+    let mut out = vec![4, 8, b'['];
+    integer(count, &mut out);
+    out.extend(members);
+    out
+}
+
 fn main() {
     if std::env::args().nth(1).as_deref() == Some("deep") {
         let kind = std::env::args().nth(2).unwrap();
@@ -182,6 +237,8 @@ fn main() {
         ("small recipe", batches(900)),
         ("100 KB, few names", batches(100_000)),
         ("1 MB, few names", batches(1_000_000)),
+        ("100 KB, plain recipes", recipes(100_000)),
+        ("100 KB, objects", objects(100_000)),
         ("128 levels deep", deep(128)),
         ("1,000 names", names(1000)),
     ] {
