@@ -1,49 +1,9 @@
 // list: prints the arena that load makes of standard input, or its refusal.
-use listing::LONGEST;
-use listing::flush;
+use console::Input;
+use console::LONGEST;
+use console::flush;
+use console::read_input;
 use listing::put_listing;
-
-enum Input {
-    Read(usize),
-    Failed,
-}
-
-// Bytes of standard input from `at` on; how many, 0 at the end.
-fn read_more(input: &mut [u8], at: usize) -> Input {
-    if at < input.len() {
-        let got = libc::read(0, &mut input[at..]);
-        if got < 0 {
-            return Input::Failed;
-        }
-        let n = io::count(got, &input[..]);
-        if n <= input.len() - at {
-            return Input::Read(n);
-        }
-    }
-    Input::Read(0)
-}
-
-// Standard input, as far as it goes into the buffer.
-fn read_input(input: &mut [u8]) -> Input {
-    let mut at = 0;
-    while at < input.len() {
-        match read_more(input, at) {
-            Input::Read(n) => {
-                if n == 0 {
-                    return Input::Read(at);
-                }
-                if input.len() - at < n {
-                    return Input::Read(at);
-                }
-                at = at + n;
-            }
-            Input::Failed => {
-                return Input::Failed;
-            }
-        }
-    }
-    Input::Read(at)
-}
 
 fn list(
     input: &[u8],

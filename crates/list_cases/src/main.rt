@@ -1,31 +1,15 @@
 // Prints the listing of each of several inputs, as the program list prints one.
 //
 // Standard input: for each input its length, four bytes, low byte first, and its bytes.
-use listing::flush;
+use console::Input;
+use console::LONGEST;
+use console::flush;
+use console::read_next;
 use listing::put_listing;
-ghost use Prim.Native.Nat.{_<_};
-
-fn wide(x: u8) -> usize
-    ensures { λ r. ⌜ r < 256 ⌝ }
-{
-    x as usize
-}
-
-fn length_of(head: &[u8; 4]) -> usize {
-    wide(head[0]) + wide(head[1]) * 256
-}
 
 enum Step {
     Listed(usize),
     End,
-}
-
-// The next n bytes, into the buffer's first; whether they were there.
-fn read_input(data: &mut [u8], n: usize) -> bool {
-    if n <= data.len() {
-        return io::read_full(0, &mut data[..n]) == n;
-    }
-    false
 }
 
 fn list_first(
@@ -65,13 +49,8 @@ fn list_next(
     symbols: &mut [u32],
     objects: &mut [u32],
 ) -> Step {
-    let mut head = [0u8; 4];
-    if io::read_full(0, &mut head) < 4 {
-        return Step::End;
-    }
-    let n = length_of(&head);
-    if read_input(data, n) {
-        return Step::Listed(list_first(
+    match read_next(data) {
+        Input::Read(n) => Step::Listed(list_first(
             data,
             n,
             out,
@@ -81,9 +60,9 @@ fn list_next(
             bytes,
             symbols,
             objects,
-        ));
+        )),
+        Input::Failed => Step::End,
     }
-    Step::End
 }
 
 fn list_all(
@@ -110,7 +89,7 @@ fn list_all(
 }
 
 fn main() {
-    let mut data = [0u8; 16385];
+    let mut data = [0u8; LONGEST + 1];
     let mut out = io::buffer();
     let mut nodes = [0u32; 7000];
     let mut references = [0u32; 4000];

@@ -1,116 +1,13 @@
 // What the program list prints: an input loaded, and the arena or the refusal as rows of columns.
-//
-// Text is put into a buffer that is written when it is full. A position past the buffer's end says that a write failed:
-// nothing more is put then.
+use console::LIMIT;
+use console::LONGEST;
+use console::end_row;
+use console::put_number;
+use console::put_refusal;
 use definition::Answer;
 use definition::Counts;
 use definition::Refusal;
 use load::load;
-use refusal::answer_numbers;
-
-// The longest input that is taken.
-pub const LONGEST: usize = 16384;
-
-const LIMIT: u32 = 64;
-
-const COLUMN: usize = 11;
-
-// Writes what stands in the buffer before `at`; the position afterwards.
-pub fn flush(out: &[u8], at: usize) -> usize {
-    if at <= out.len() {
-        if io::write_all(1, &out[..at]) {
-            return 0;
-        }
-    }
-    failed(out.len())
-}
-
-// The position that says that a write failed.
-fn failed(length: usize) -> usize {
-    if length < 1000000000 {
-        length + 1
-    } else {
-        1000000000
-    }
-}
-
-fn put(out: &mut [u8], at: usize, b: u8) -> usize {
-    if at < out.len() {
-        out[at] = b;
-        return at + 1;
-    }
-    if at == out.len() {
-        let p = flush(out, at);
-        if p < out.len() {
-            out[p] = b;
-            return p + 1;
-        }
-        return p;
-    }
-    at
-}
-
-fn put_all(out: &mut [u8], at: usize, text: &[u8]) -> usize {
-    let mut p = at;
-    for i in 0..text.len() {
-        p = put(out, p, text[i]);
-    }
-    p
-}
-
-// Spaces before a text of `width` characters.
-fn pad(out: &mut [u8], at: usize, width: usize) -> usize {
-    let mut p = at;
-    for i in width..COLUMN {
-        p = put(out, p, b' ');
-    }
-    p
-}
-
-fn put_number(out: &mut [u8], at: usize, n: u64) -> usize {
-    let mut digits = [0u8; 20];
-    let k = io::decimal(n, &mut digits);
-    let p = pad(out, at, k);
-    put_all(out, p, &digits[..k])
-}
-
-// The characters of k digits with a sign.
-fn with_sign(k: usize) -> usize {
-    if k < COLUMN { k + 1 } else { k }
-}
-
-fn put_below(out: &mut [u8], at: usize, n: u64) -> usize {
-    let mut digits = [0u8; 20];
-    let k = io::decimal(n, &mut digits);
-    let p = pad(out, at, with_sign(k));
-    let q = put(out, p, b'-');
-    put_all(out, q, &digits[..k])
-}
-
-fn put_signed(out: &mut [u8], at: usize, below: bool, n: u64) -> usize {
-    if below {
-        put_below(out, at, n)
-    } else {
-        put_number(out, at, n)
-    }
-}
-
-fn end_row(out: &mut [u8], at: usize) -> usize {
-    put(out, at, b'\n')
-}
-
-// The refusal's number and two details.
-fn put_refusal(out: &mut [u8], at: usize, answer: Answer) -> usize {
-    let n = answer_numbers(answer);
-    let number = n.number;
-    let below = n.below;
-    let first = n.first;
-    let second = n.second;
-    let p = put_number(out, at, number as u64);
-    let q = put_signed(out, p, below, first as u64);
-    let r = put_number(out, q, second as u64);
-    end_row(out, r)
-}
 
 fn put_counts(out: &mut [u8], at: usize, counts: Counts, used: usize) -> usize {
     let n = counts.nodes;

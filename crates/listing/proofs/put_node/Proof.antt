@@ -7,8 +7,8 @@ use Rattle.listing.proofs.put_node.Statement.{statement}
 use Rattle.listing.proofs.put_node.Tie as tie
 use Rattle.listing.proofs.put_node.Reads as reads
 use Rattle.listing.proofs.put_node.Lts as lts
-use Rattle.listing.proofs.end_row.Reads as end-row-reads
-use Rattle.listing.proofs.put_number.Reads as put-number-reads
+use Rattle.console.proofs.end_row.Reads as end-row-reads
+use Rattle.console.proofs.put_number.Reads as put-number-reads
 use Rattle.listing.proofs.put_word.Reads as put-word-reads
 
 abbrev Inv-loop : tie.InvT-loop
@@ -19,42 +19,42 @@ abbrev μ-loop : tie.MeasureT-loop
 μ-loop out₀ at nodes i p₀ j₀ out p j =
     7 - j
 
--- src/lib.rt:149:9
+-- src/lib.rt:51:9
 put-number-requires : tie.Need-put-number-requires Inv-loop μ-loop
 put-number-requires c κs = search needs
 
--- src/lib.rt:150:5
+-- src/lib.rt:52:5
 loop-holds : tie.Need-loop-holds Inv-loop μ-loop
 loop-holds c =
     omega (arith, c .before .before .put-number .kept)
 
--- src/lib.rt:151:9
+-- src/lib.rt:53:9
 put-word-requires : tie.Need-put-word-requires Inv-loop μ-loop
 put-word-requires c κs = search needs
 
--- src/lib.rt:150:9
+-- src/lib.rt:52:9
 add-j : tie.Need-add-j Inv-loop μ-loop
 add-j c = search needs
 
--- src/lib.rt:150:5
+-- src/lib.rt:52:5
 loop-less : tie.Need-loop-less Inv-loop μ-loop
 loop-less c = search needs
 
--- src/lib.rt:150:5
+-- src/lib.rt:52:5
 loop-again : tie.Need-loop-again Inv-loop μ-loop
 loop-again c =
     omega (arith, c .before .before .before .before .before .loop .inv, c .before .before .put-word .kept)
 
--- src/lib.rt:153:5
+-- src/lib.rt:55:5
 end-row-requires : tie.Need-end-row-requires Inv-loop μ-loop
 end-row-requires c κs = search needs
 
--- src/lib.rt:148:1
+-- src/lib.rt:50:1
 same-length : tie.Need-same-length Inv-loop μ-loop
 same-length c =
     omega (arith, c .before .before .before .before .before .loop .inv, c .before .before .end-row .kept)
 
--- src/lib.rt:148:1
+-- src/lib.rt:50:1
 returns : tie.Need-returns Inv-loop μ-loop
 returns c = search needs
 

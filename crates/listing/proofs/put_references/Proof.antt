@@ -7,8 +7,8 @@ use Rattle.listing.proofs.put_references.Statement.{statement}
 use Rattle.listing.proofs.put_references.Tie as tie
 use Rattle.listing.proofs.put_references.Reads as reads
 use Rattle.listing.proofs.put_references.Lts as lts
-use Rattle.listing.proofs.end_row.Reads as end-row-reads
-use Rattle.listing.proofs.put_number.Reads as put-number-reads
+use Rattle.console.proofs.end_row.Reads as end-row-reads
+use Rattle.console.proofs.put_number.Reads as put-number-reads
 use Rattle.listing.proofs.word_of.Reads as word-of-reads
 
 abbrev Inv-loop : tie.InvT-loop
@@ -19,42 +19,42 @@ abbrev μ-loop : tie.MeasureT-loop
 μ-loop out₀ at references n p₀ i₀ out p i =
     n - i
 
--- src/lib.rt:175:5
+-- src/lib.rt:77:5
 loop-holds : tie.Need-loop-holds Inv-loop μ-loop
 loop-holds c =
     refl
 
--- src/lib.rt:176:32
+-- src/lib.rt:78:32
 word-of-requires : tie.Need-word-of-requires Inv-loop μ-loop
 word-of-requires c κs = search needs
 
--- src/lib.rt:176:9
+-- src/lib.rt:78:9
 put-number-requires : tie.Need-put-number-requires Inv-loop μ-loop
 put-number-requires c κs = search needs
 
--- src/lib.rt:177:9
+-- src/lib.rt:79:9
 end-row-requires : tie.Need-end-row-requires Inv-loop μ-loop
 end-row-requires c κs = search needs
 
--- src/lib.rt:175:9
+-- src/lib.rt:77:9
 add-i : tie.Need-add-i Inv-loop μ-loop
 add-i c = search needs
 
--- src/lib.rt:175:5
+-- src/lib.rt:77:5
 loop-less : tie.Need-loop-less Inv-loop μ-loop
 loop-less c = search needs
 
--- src/lib.rt:175:5
+-- src/lib.rt:77:5
 loop-again : tie.Need-loop-again Inv-loop μ-loop
 loop-again c =
     omega (arith, c .before .before .before .before .before .before .before .before .before .before .loop .inv, c .before .before .before .before .before .before .put-number .kept, c .before .before .end-row .kept)
 
--- src/lib.rt:173:1
+-- src/lib.rt:75:1
 same-length : tie.Need-same-length Inv-loop μ-loop
 same-length c =
     c .before .loop .inv
 
--- src/lib.rt:173:1
+-- src/lib.rt:75:1
 returns : tie.Need-returns Inv-loop μ-loop
 returns c = search needs
 

@@ -1,13 +1,10 @@
 use borrow.Author.Needs.{needs}
 use native.Mathlib.Omega.{arith}
-use Prim.Native.Nat.{ℕ, _+_, _-_, _≤_, _<_}
-use mathlib.Core.Path.{_≡_, refl, sym}
+use Prim.Native.Nat.{_-_}
+use mathlib.Core.Path.{_≡_, refl}
 use lib.ListN.{length}
-use Rattle.listing.proofs.put_all.Statement.{statement}
-use Rattle.listing.proofs.put_all.Tie as tie
-use Rattle.listing.proofs.put_all.Reads as reads
-use Rattle.listing.proofs.put_all.Lts as lts
-use Rattle.listing.proofs.put.Reads as put-reads
+use Rattle.console.proofs.put_all.Statement.{statement}
+use Rattle.console.proofs.put_all.Tie as tie
 
 abbrev Inv-loop : tie.InvT-loop
 Inv-loop out₀ at text p₀ i₀ i-end out p i =
@@ -17,39 +14,39 @@ abbrev μ-loop : tie.MeasureT-loop
 μ-loop out₀ at text p₀ i₀ i-end out p i =
     i-end - i
 
--- src/lib.rt:55:5
+-- src/lib.rt:54:5
 loop-holds : tie.Need-loop-holds Inv-loop μ-loop
 loop-holds c =
     (refl, refl)
 
--- src/lib.rt:56:25
+-- src/lib.rt:55:25
 shared-slice-read-put : tie.Need-shared-slice-read-put Inv-loop μ-loop
 shared-slice-read-put c =
     omega (arith, c .before .before .before .loop .inv .1, c .before .before .loop-test .taken)
 
--- src/lib.rt:56:9
+-- src/lib.rt:55:9
 put-requires : tie.Need-put-requires Inv-loop μ-loop
 put-requires c κs = search needs
 
--- src/lib.rt:55:9
+-- src/lib.rt:54:9
 add-i : tie.Need-add-i Inv-loop μ-loop
 add-i c = search needs
 
--- src/lib.rt:55:5
+-- src/lib.rt:54:5
 loop-less : tie.Need-loop-less Inv-loop μ-loop
 loop-less c = search needs
 
--- src/lib.rt:55:5
+-- src/lib.rt:54:5
 loop-again : tie.Need-loop-again Inv-loop μ-loop
 loop-again c =
     (omega (arith, c .before .before .before .before .before .before .loop .inv .0, c .before .before .put .kept), c .before .before .before .before .before .before .loop .inv .1)
 
--- src/lib.rt:53:1
+-- src/lib.rt:52:1
 same-length : tie.Need-same-length Inv-loop μ-loop
 same-length c =
     c .before .loop .inv .0
 
--- src/lib.rt:53:1
+-- src/lib.rt:52:1
 returns : tie.Need-returns Inv-loop μ-loop
 returns c = search needs
 

@@ -1,0 +1,185 @@
+// Standard input and output as the programs over an input share them: reading, buffered text in columns, the refusal's row.
+//
+// Text is put into a buffer that is written when it is full. A position past the buffer's end says that a write failed:
+// nothing more is put then.
+use definition::Answer;
+use refusal::answer_numbers;
+ghost use Prim.Native.Nat.{_<_};
+
+// The longest input that is taken.
+pub const LONGEST: usize = 16384;
+
+// The level limit of load and dump.
+pub const LIMIT: u32 = 64;
+
+const COLUMN: usize = 11;
+
+// Writes what stands in the buffer before `at`; the position afterwards.
+pub fn flush(out: &[u8], at: usize) -> usize {
+    if at <= out.len() {
+        if io::write_all(1, &out[..at]) {
+            return 0;
+        }
+    }
+    failed(out.len())
+}
+
+// The position that says that a write failed.
+fn failed(length: usize) -> usize {
+    if length < 1000000000 {
+        length + 1
+    } else {
+        1000000000
+    }
+}
+
+pub fn put(out: &mut [u8], at: usize, b: u8) -> usize {
+    if at < out.len() {
+        out[at] = b;
+        return at + 1;
+    }
+    if at == out.len() {
+        let p = flush(out, at);
+        if p < out.len() {
+            out[p] = b;
+            return p + 1;
+        }
+        return p;
+    }
+    at
+}
+
+pub fn put_all(out: &mut [u8], at: usize, text: &[u8]) -> usize {
+    let mut p = at;
+    for i in 0..text.len() {
+        p = put(out, p, text[i]);
+    }
+    p
+}
+
+// Spaces before a text of `width` characters.
+fn pad(out: &mut [u8], at: usize, width: usize) -> usize {
+    let mut p = at;
+    for i in width..COLUMN {
+        p = put(out, p, b' ');
+    }
+    p
+}
+
+pub fn put_number(out: &mut [u8], at: usize, n: u64) -> usize {
+    let mut digits = [0u8; 20];
+    let k = io::decimal(n, &mut digits);
+    let p = pad(out, at, k);
+    put_all(out, p, &digits[..k])
+}
+
+// The characters of k digits with a sign.
+fn with_sign(k: usize) -> usize {
+    if k < COLUMN { k + 1 } else { k }
+}
+
+fn put_below(out: &mut [u8], at: usize, n: u64) -> usize {
+    let mut digits = [0u8; 20];
+    let k = io::decimal(n, &mut digits);
+    let p = pad(out, at, with_sign(k));
+    let q = put(out, p, b'-');
+    put_all(out, q, &digits[..k])
+}
+
+fn put_signed(out: &mut [u8], at: usize, below: bool, n: u64) -> usize {
+    if below {
+        put_below(out, at, n)
+    } else {
+        put_number(out, at, n)
+    }
+}
+
+pub fn end_row(out: &mut [u8], at: usize) -> usize {
+    put(out, at, b'\n')
+}
+
+// The refusal's number and two details.
+pub fn put_refusal(out: &mut [u8], at: usize, answer: Answer) -> usize {
+    let n = answer_numbers(answer);
+    let number = n.number;
+    let below = n.below;
+    let first = n.first;
+    let second = n.second;
+    let p = put_number(out, at, number as u64);
+    let q = put_signed(out, p, below, first as u64);
+    let r = put_number(out, q, second as u64);
+    end_row(out, r)
+}
+
+pub enum Input {
+    Read(usize),
+    Failed,
+}
+
+// Bytes of standard input from `at` on; how many, 0 at the end.
+fn read_more(input: &mut [u8], at: usize) -> Input {
+    if at < input.len() {
+        let got = libc::read(0, &mut input[at..]);
+        if got < 0 {
+            return Input::Failed;
+        }
+        let n = io::count(got, &input[..]);
+        if n <= input.len() - at {
+            return Input::Read(n);
+        }
+    }
+    Input::Read(0)
+}
+
+// Standard input, as far as it goes into the buffer.
+pub fn read_input(input: &mut [u8]) -> Input {
+    let mut at = 0;
+    while at < input.len() {
+        match read_more(input, at) {
+            Input::Read(n) => {
+                if n == 0 {
+                    return Input::Read(at);
+                }
+                if input.len() - at < n {
+                    return Input::Read(at);
+                }
+                at = at + n;
+            }
+            Input::Failed => {
+                return Input::Failed;
+            }
+        }
+    }
+    Input::Read(at)
+}
+
+fn wide(x: u8) -> usize
+    ensures { λ r. ⌜ r < 256 ⌝ }
+{
+    x as usize
+}
+
+fn length_of(head: &[u8; 4]) -> usize {
+    wide(head[0]) + wide(head[1]) * 256
+}
+
+// The next n bytes, into the buffer's first; whether they were there.
+fn read_part(data: &mut [u8], n: usize) -> bool {
+    if n <= data.len() {
+        return io::read_full(0, &mut data[..n]) == n;
+    }
+    false
+}
+
+// The next of several inputs: its length, four bytes, low byte first, and its bytes. Failed where it is not there.
+pub fn read_next(data: &mut [u8]) -> Input {
+    let mut head = [0u8; 4];
+    if io::read_full(0, &mut head) < 4 {
+        return Input::Failed;
+    }
+    let n = length_of(&head);
+    if read_part(data, n) {
+        return Input::Read(n);
+    }
+    Input::Failed
+}
