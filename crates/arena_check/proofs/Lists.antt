@@ -3,30 +3,19 @@ use Prim.Native.Nat.{ℕ, zero, suc, _+_, _*_, _≤_, _<_}
 use native.Mathlib.Omega.{arith}
 use native.Mathlib.Numerals.{add-one}
 use mathlib.Core.Bool.{Bool, true, false}
-use mathlib.Core.List.{List, [], _∷_}
+use mathlib.Core.List.{List, _∷_}
 use mathlib.Core.Path.{_≡_, refl, sym, ap, _∙_}
 use lib.Dec.{eqb}
-use lib.ListN.{length, getD, take, drop, length-drop, drop-of-length-le, List·getD-eq-default}
-use lib.Seq.{drop-cons, getD-take, getD-drop, length-take-le, drop-drop}
+use lib.ListN.{length, getD, take, drop, List·getD-eq-default}
+use lib.Seq.{getD-take, getD-drop}
 use borrow.Author.Tests.{lt-ltb, le-ltb, ne-eqb}
 use Rattle.definition.specs.Run.{pick}
 use Rattle.definition.specs.Node.{Row, nil, kind, row, row-of, rows, width}
 use Rattle.definition.specs.Arena.{Arena, node, range, firsts, all-below, all-names, is-name}
-
-pub length-range : (l : List ℕ) (start n : ℕ) → start + n ≤ length l → length (range l start n) ≡ n
-unfolding range
-length-range l start n h = length-take-le n (drop start l) (rw (length-drop start l) (omega arith))
-
-pub range-at : (l : List ℕ) (start n i : ℕ) → i < n → getD (range l start n) i 0 ≡ getD l (start + i) 0
-unfolding range
-range-at l start n i h = getD-take n (drop start l) i 0 h ∙ getD-drop start l i 0
-
-pub range-step : (l : List ℕ) (start n i : ℕ) → start + n ≤ length l → i < n → drop i (range l start n) ≡ getD l (start + i) 0 ∷ drop (suc i) (range l start n)
-range-step l start n i h k =
-    drop-cons (range l start n) i 0 (rw (length-range l start n h) k) ∙ ap (λ (x : ℕ). x ∷ drop (suc i) (range l start n)) (range-at l start n i k)
-
-pub range-end : (l : List ℕ) (start n i : ℕ) → start + n ≤ length l → n ≤ i → drop i (range l start n) ≡ []
-range-end l start n i h k = drop-of-length-le (range l start n) {i = i} (rw (length-range l start n h) k)
+use Rattle.lists.specs.Ranges.{range-step, range-end}
+-- for the crates above
+pub use Rattle.lists.specs.Tables.{rows-at}
+use Rattle.lists.specs.Tables.{length-rows, rows-at}
 
 -- ---- members below a count
 
@@ -62,21 +51,6 @@ kind-three (suc (suc (suc (suc (suc (suc (suc (suc (suc j))))))))) a b s n c f =
   where
     go : (k : ℕ) → 8 < k → eqb (kind (row-of k a b s n c f)) 3 ≡ eqb k 3
     go k l = simp (ne-eqb k 1 (omega arith), ne-eqb k 2 (omega arith), ne-eqb k 3 (omega arith), ne-eqb k 4 (omega arith), ne-eqb k 5 (omega arith), ne-eqb k 6 (omega arith), ne-eqb k 7 (omega arith), ne-eqb k 8 (omega arith))
-
--- node i of a table's rows
-pub rows-at : (n : ℕ) (t : List ℕ) (i : ℕ) → i < n → getD (rows n t) i nil ≡ row (take width (drop (i * width) t))
-unfolding rows
-rows-at zero t i h = absurd (omega arith)
-rows-at (suc n) t zero h = refl
-rows-at (suc n) t (suc i) h =
-    let z : i * 7 + 7 ≡ suc i * 7 = omega arith in
-    let y : 7 + i * 7 ≡ suc i * 7 = omega arith in
-    rows-at n (drop width t) i (omega arith) ∙ ap (λ (l : List ℕ). row (take width l)) (drop-drop (i * 7) 7 t ∙ ap (λ (k : ℕ). drop k t) y)
-
-pub length-rows : (n : ℕ) (t : List ℕ) → length (rows n t) ≡ n
-unfolding rows
-length-rows zero t = refl
-length-rows (suc n) t = ap suc (length-rows n (drop width t))
 
 first-word : (t : List ℕ) (i : ℕ) → getD (take width (drop (i * width) t)) 0 0 ≡ getD t (i * 7) 0
 first-word t i = getD-take 7 (drop (i * 7) t) 0 0 (omega arith) ∙ getD-drop (i * 7) t 0 0 ∙ ap (λ (k : ℕ). getD t k 0) (omega arith)

@@ -6,7 +6,7 @@ use mathlib.Core.Bool.{Bool, true, false, _&&_, and-false}
 use mathlib.Core.List.{List, [], _∷_}
 use mathlib.Core.Option.{Option, none, some}
 use mathlib.Core.Path.{_≡_, refl, sym, ap, _∙_, subst}
-use lib.Dec.{leb, ltb, eqb, T, ltb→lt}
+use lib.Dec.{leb, ltb, eqb, T}
 use lib.ListN.{length, getD, take, drop, length-drop}
 use lib.Seq.{getD-drop, length-take-le, drop-drop, take-take}
 use borrow.Author.Tests.{le-leb, lt-leb, ne-eqb}
@@ -236,6 +236,3 @@ and-out x y t = ap (λ (b : Bool). b && y) t
 
 pub not-so : {A : Type 0} → false ≡ true → A
 not-so e = absurd (subst T (sym e) tt)
-
-pub test-lt : (a b : ℕ) → ltb a b ≡ true → a < b
-test-lt a b e = ltb→lt a b (subst T (sym e) tt)

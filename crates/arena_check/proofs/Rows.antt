@@ -4,11 +4,12 @@ use native.Mathlib.Omega.{arith}
 use mathlib.Core.Bool.{Bool, true, false}
 use mathlib.Core.List.{List, [], _∷_}
 use mathlib.Core.Path.{_≡_, refl, sym, ap, _∙_, subst}
-use lib.Dec.{eqb, eqb→eq, T}
+use lib.Dec.{eqb, T}
 use lib.ListN.{getD}
-use borrow.Author.Tests.{eq-eqb, ne-eqb}
+use borrow.Author.Tests.{eq-eqb, ne-eqb, eqb-true}
 use Rattle.definition.specs.Run.{pick}
 use Rattle.definition.specs.Node.{bool, words, row, row-of, vars, is-row, equal}
+use Rattle.lists.specs.Words.{equal-true, equal-self}
 
 -- two tests that hold together are equal
 pub same-test : (x y : Bool) → (x ≡ true → y ≡ true) → (y ≡ true → x ≡ true) → x ≡ y
@@ -16,36 +17,17 @@ same-test true y f g = sym (f refl)
 same-test false true f g = g refl
 same-test false false f g = refl
 
-pub eqb-is : (a b : ℕ) → eqb a b ≡ true → a ≡ b
-eqb-is a b e = eqb→eq a b (subst T (sym e) tt)
-
-pub equal-same : (l m : List ℕ) → l ≡ m → equal l m ≡ true
-unfolding equal pick
-equal-same l m e = subst (λ (x : List ℕ). equal l x ≡ true) e (self l)
-  where
-    self : (l : List ℕ) → equal l l ≡ true
-    self [] = refl
-    self (a ∷ l) = rw (eq-eqb a a refl) (self l)
-
-pub equal-is : (l m : List ℕ) → equal l m ≡ true → l ≡ m
-unfolding equal pick
-equal-is [] [] e = refl
-equal-is [] (b ∷ m) e = let z : _≡_ {A = Bool} true false = sym e in absurd (subst T z tt)
-equal-is (a ∷ l) [] e = absurd (subst T (sym e) tt)
-equal-is (a ∷ l) (b ∷ m) e = go (eqb a b) refl e (λ q. equal-is l m q)
-  where
-    go : (t : Bool) → eqb a b ≡ t → pick t (equal l m) false ≡ true → (equal l m ≡ true → l ≡ m) → _≡_ {A = List ℕ} (a ∷ l) (b ∷ m)
-    go true q p ih = λ i. eqb-is a b q i ∷ ih p i
-    go false q p ih = absurd (subst T (sym p) tt)
+equal-same : (l m : List ℕ) → l ≡ m → equal l m ≡ true
+equal-same l m e = subst (λ (x : List ℕ). equal l x ≡ true) e (equal-self l)
 
 -- a test that says whether words are their row's
 row-test : (ws : List ℕ) (t : Bool) → (t ≡ true → ws ≡ words (row ws)) → (ws ≡ words (row ws) → t ≡ true) → t ≡ is-row ws
 unfolding is-row
-row-test ws t f g = same-test t (equal ws (words (row ws))) (λ e. equal-same ws _ (f e)) (λ e. g (equal-is ws _ e))
+row-test ws t f g = same-test t (equal ws (words (row ws))) (λ e. equal-same ws _ (f e)) (λ e. g (equal-true ws _ e))
 
 -- every word of a sum that is 0 is 0
 zeros : (a b s n c f : ℕ) → eqb (a + b + s + n + c + f) 0 ≡ true → (a ≡ 0) × (b ≡ 0) × (s ≡ 0) × (n ≡ 0) × (c ≡ 0) × (f ≡ 0)
-zeros a b s n c f e = omega (arith, eqb-is (a + b + s + n + c + f) 0 e)
+zeros a b s n c f e = omega (arith, eqb-true (a + b + s + n + c + f) 0 e)
 
 sum : (a b s n c f : ℕ) → a + b + s + n + c + f ≡ 0 → eqb (a + b + s + n + c + f) 0 ≡ true
 sum a b s n c f e = eq-eqb (a + b + s + n + c + f) 0 e
@@ -116,7 +98,7 @@ module _ (a b s n c : ℕ) where
   pub row-7-present : (f : ℕ) → f ≡ 1 → eqb c 0 ≡ is-row (7 ∷ a ∷ b ∷ s ∷ n ∷ c ∷ f ∷ [])
   unfolding words row row-of pick vars
   row-7-present zero g = absurd (omega arith)
-  row-7-present (suc f) g = row-test (7 ∷ a ∷ b ∷ s ∷ n ∷ c ∷ suc f ∷ []) _ (λ e. λ i. 7 ∷ a ∷ b ∷ s ∷ n ∷ eqb-is c 0 e i ∷ g i ∷ []) (λ e. eq-eqb c 0 (word 5 e))
+  row-7-present (suc f) g = row-test (7 ∷ a ∷ b ∷ s ∷ n ∷ c ∷ suc f ∷ []) _ (λ e. λ i. 7 ∷ a ∷ b ∷ s ∷ n ∷ eqb-true c 0 e i ∷ g i ∷ []) (λ e. eq-eqb c 0 (word 5 e))
 
   pub row-7-not : (f : ℕ) → (f ≡ 0 → ⊥) → (f ≡ 1 → ⊥) → false ≡ is-row (7 ∷ a ∷ b ∷ s ∷ n ∷ c ∷ f ∷ [])
   unfolding words row row-of pick vars
@@ -131,7 +113,7 @@ module _ (a b s n c : ℕ) where
   pub row-8-present : (f : ℕ) → (f ≡ 0 → ⊥) → eqb f 1 ≡ is-row (8 ∷ a ∷ b ∷ s ∷ n ∷ c ∷ f ∷ [])
   unfolding words row row-of pick vars
   row-8-present zero g = absurd (g refl)
-  row-8-present (suc f) g = row-test (8 ∷ a ∷ b ∷ s ∷ n ∷ c ∷ suc f ∷ []) _ (λ e. λ i. 8 ∷ a ∷ b ∷ s ∷ n ∷ c ∷ eqb-is (suc f) 1 e i ∷ []) (λ e. eq-eqb (suc f) 1 (word 6 e))
+  row-8-present (suc f) g = row-test (8 ∷ a ∷ b ∷ s ∷ n ∷ c ∷ suc f ∷ []) _ (λ e. λ i. 8 ∷ a ∷ b ∷ s ∷ n ∷ c ∷ eqb-true (suc f) 1 e i ∷ []) (λ e. eq-eqb (suc f) 1 (word 6 e))
 
 -- an unknown kind
 pub row-not : (k a b s n c f : ℕ) → (k ≡ 0 → ⊥) → (k ≡ 1 → ⊥) → (k ≡ 2 → ⊥) → (k ≡ 3 → ⊥) → (k ≡ 4 → ⊥) → (k ≡ 5 → ⊥) → (k ≡ 6 → ⊥) → (k ≡ 7 → ⊥) → (k ≡ 8 → ⊥) → false ≡ is-row (k ∷ a ∷ b ∷ s ∷ n ∷ c ∷ f ∷ [])

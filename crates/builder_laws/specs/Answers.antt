@@ -5,7 +5,7 @@ use Rattle.definition.specs.Run.{Run, Outcome, ok, refused}
 use Rattle.definition.specs.Build.{Lent, build-done, build-call}
 use Rattle.definition.specs.declared.Answer.the-variants.{Accepted, Refused}
 use Rattle.definition.specs.declared.Refusal.{Refusal}
-use Rattle.graph.specs.Lists.{apart}
+use Rattle.lists.specs.Lists.{apart}
 
 -- what is lent, as the call leaves it
 abbrev pub left-by : Run Lent ℕ → Lent → Lent

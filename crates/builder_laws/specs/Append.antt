@@ -1,44 +1,31 @@
 -- A node is appended to a well-formed arena: what the tables then hold, and that it is well formed.
 use Prim.Native.Nat.{ℕ, zero, suc, _+_, _-_, _*_, _/_, _≤_, _<_}
-use mathlib.Core.Path.{_≡_, refl, ap, sym, _∙_}
+use mathlib.Core.Path.{_≡_, refl, ap, _∙_}
 use mathlib.Core.Bool.{Bool, true, false, _&&_}
 use mathlib.Core.Option.{none}
 use mathlib.Core.List.{List, [], _∷_, _++_}
-use lib.Dec.{ltb, nltb→le}
+use lib.Dec.{ltb}
 use lib.ListN.{length, take, replicate, length-replicate}
 use lib.Seq.{sets, length-sets}
 use native.Mathlib.Omega.{arith}
+use borrow.Author.Tests.{leb-true, ltb-false}
 use Rattle.definition.specs.Run.{pick}
 use Rattle.definition.specs.Node.{Row, nil, words, row, rows, is-row}
-use Rattle.definition.specs.Arena.{Tables, Arena, arena, row-right, node-right, counts-fit, faulty, fault-if, fault, zeroed}
+use Rattle.definition.specs.Arena.{Tables, Arena, arena, row-right, node-right, faulty, fault, zeroed}
 use Rattle.definition.specs.Build.{Lent, lent, held, wrong, words-at, new-if, new-call}
 use Rattle.definition.specs.declared.Answer.the-variants.{Accepted}
 use Rattle.definition.specs.declared.Counts.{Counts}
-use Rattle.graph.specs.Lists.{apart}
-use Rattle.dump_forest.specs.Right.{and-left, and-right, leb-yes, yes-leb, fault-fit}
-use Rattle.load_forest.specs.Call.{row-words-back, is-row-words, nodes-allowed, lowest-none, five}
-use Rattle.load_forest.specs.Right.{yes-and}
-use Rattle.builder_laws.specs.Tables.{take-stored, words-before, words-stored, rows-same, rows-last, faulty-words, words-faulty}
+use Rattle.lists.specs.Lists.{apart}
+use Rattle.lists.specs.Tables.{faulty-words, words-faulty, counts-fit-yes, fault-none, no-fault}
+use Rattle.dump_forest.specs.Right.{and-left, and-right, fault-fit}
+use Rattle.load_forest.specs.Call.{row-words-back, is-row-words, nodes-allowed, lowest-none}
+use Rattle.builder_laws.specs.Tables.{take-stored, words-before, words-stored, rows-same, rows-last}
 use Rattle.builder_laws.specs.Grown.{grown, right-grown}
+use Rattle.states.specs.Right.{yes-and}
 
--- ---- well formed: the counts fit, and every node passes
-
-module _ (T : Tables) (c : Counts) where
-  pub counts-fit-yes : 1 ≤ c .nodes → c .nodes ≤ length (T .nodes) / 7 → c .references ≤ length (T .references) → c .bytes ≤ length (T .bytes) → c .root < c .nodes → counts-fit T c ≡ true
-  unfolding counts-fit
-  counts-fit-yes a n r b o =
-      five _ _ _ _ _ (yes-leb 1 (c .nodes) a) (yes-leb (c .nodes) (length (T .nodes) / 7) n) (yes-leb (c .references) (length (T .references)) r) (yes-leb (c .bytes) (length (T .bytes)) b) (yes-leb (suc (c .root)) (c .nodes) o)
-
-  pub fault-faulty : counts-fit T c ≡ true → fault T c ≡ faulty (arena T c) (c .nodes) 0 (T .nodes)
-  unfolding fault fault-if
-  fault-faulty e = rw e
-
-  -- every node's words pass the test
-  pub fault-words : fault T c ≡ none → (i : ℕ) → i < c .nodes → node-right (arena T c) (words-at (T .nodes) i) ≡ true
-  fault-words e =
-      let f = fault-fit T c e in
-      let z = counts-fit-yes (f .some-node) (f .nodes-fit) (f .references-fit) (f .bytes-fit) (f .root-below) in
-      faulty-words (arena T c) (c .nodes) 0 (T .nodes) (sym (fault-faulty z) ∙ e)
+-- every node's words pass the test
+pub fault-words : (T : Tables) (c : Counts) → fault T c ≡ none → (i : ℕ) → i < c .nodes → node-right (arena T c) (words-at (T .nodes) i) ≡ true
+fault-words T c e = faulty-words (arena T c) (c .nodes) 0 (T .nodes) (no-fault T c e .1)
 
 -- ---- one more node
 
@@ -85,13 +72,13 @@ module _ (L : Lent) (bs ms : List ℕ) (r : Row) (ρ : Room L bs ms) where
     where
       go : (b : Bool) → ltb i (L .counts .nodes) ≡ b → is-row (words-at (M .tables .nodes) i) && row-right G (row (words-at (M .tables .nodes) i)) ≡ true
       go true p =
-          let k = leb-yes (suc i) (L .counts .nodes) p in
+          let k = leb-true (suc i) (L .counts .nodes) p in
           let ws = words-at (L .tables .nodes) i in
           let x : is-row ws && row-right (held L) (row ws) ≡ true = fault-words (L .tables) (L .counts) e i k in
           rw (words-before r (L .tables .nodes) (L .counts .nodes) i k)
           (yes-and _ _ (and-left (is-row ws) (row-right (held L) (row ws)) x) (right-grown (held L) bs ms r (row ws) (and-right (is-row ws) (row-right (held L) (row ws)) x)))
       go false p =
-          let k = nltb→le i (L .counts .nodes) (rw p tt) in
+          let k = ltb-false i (L .counts .nodes) p in
           let z : i ≡ L .counts .nodes = omega arith in
           rw (z, words-stored r (L .tables .nodes) (L .counts .nodes) (omega (arith, ρ .nodes)), row-words-back r) (yes-and _ _ (is-row-words r) h)
 
@@ -103,8 +90,7 @@ module _ (L : Lent) (bs ms : List ℕ) (r : Row) (ρ : Room L bs ms) where
       let p = length-sets (L .tables .references) (L .counts .references) ms in
       let b = length-sets (L .tables .bytes) (L .counts .bytes) bs in
       let z = counts-fit-yes (M .tables) (M .counts) (omega arith) (omega (arith, n, ρ .nodes)) (omega (arith, p, ρ .references)) (omega (arith, b, ρ .bytes)) (omega (arith, f .root-below)) in
-      fault-faulty (M .tables) (M .counts) z
-      ∙ words-faulty (held M) (L .counts .nodes + 1) 0 (M .tables .nodes) (λ i l. rw held-appended (word-right e h i l))
+      fault-none (M .tables) (M .counts) z (words-faulty (held M) (L .counts .nodes + 1) 0 (M .tables .nodes) (λ i l. rw held-appended (word-right e h i l)))
 
 -- ---- new
 
@@ -137,7 +123,7 @@ unfolding zeroed
 zeroed-fault T h =
     let n = length-replicate {A = ℕ} (length (T .nodes)) 0 in
     let z = counts-fit-yes (zeroed-tables T) first-counts (omega arith) (omega (arith, n)) (omega arith) (omega arith) (omega arith) in
-    fault-faulty (zeroed-tables T) first-counts z ∙ one-nil (arena (zeroed-tables T) first-counts) (length (T .nodes)) (omega arith)
+    fault-none (zeroed-tables T) first-counts z (one-nil (arena (zeroed-tables T) first-counts) (length (T .nodes)) (omega arith))
 
 -- what an accepted `new` leaves
 pub record Begins (T : Tables) : Type 0 where

@@ -1,27 +1,30 @@
 -- The builder's laws: an accepted call leaves a well-formed arena, keeps what was there, and its node is the one asked for.
 use Prim.Native.Nat.{ℕ, _*_, _≤_, _<_}
 use mathlib.Core.Path.{_≡_, refl, ap, _∙_}
-use mathlib.Core.Bool.{Bool, true, false, _&&_}
+use mathlib.Core.Bool.{true, _&&_}
 use mathlib.Core.Option.{none, some}
-use mathlib.Core.List.{List, [], _∷_}
+use mathlib.Core.List.{List, []}
 use lib.ListN.{length, take}
 use lib.Seq.{length-sets}
 use native.Mathlib.Omega.{arith}
 use Rattle.definition.specs.Run.{ok}
-use Rattle.definition.specs.Node.{Row, Vars, nil, bool, fixnum, symbol, array, hash, object, string, user, absent, present, words, row, is-row}
-use Rattle.definition.specs.Arena.{Arena, arena, node, range, is-name, all-names, bytes-right, list-right, pairs-right, vars-right, row-right, node-right, fault, find-symbol}
+use Rattle.definition.specs.Node.{Row, symbol, words, row, is-row}
+use Rattle.definition.specs.Arena.{Arena, arena, node, range, row-right, node-right, fault, find-symbol}
 use Rattle.definition.specs.Build.{Lent, held, words-at, exchange-root}
-use Rattle.definition.specs.Graph.{header, vars-links, links}
+use Rattle.definition.specs.Graph.{header, links}
 use Rattle.definition.specs.Load.{State}
-use Rattle.graph.specs.Lists.{At, at-lt}
-use Rattle.graph.specs.View.{arena-of}
-use Rattle.dump_forest.specs.Right.{at-node, fault-fit, fault-rows}
-use Rattle.load_forest.specs.Views.{seen-at-inv}
-use Rattle.load_forest.specs.Symbols.{symbol-of, found}
-use Rattle.builder_laws.specs.Tables.{take-before, words-before, words-faulty}
-use Rattle.builder_laws.specs.Grown.{grown, node-grown, links-grown, header-grown}
-use Rattle.builder_laws.specs.Append.{counts-fit-yes, fault-faulty, fault-words, Room, appended, held-appended, fault-appended}
+use Rattle.lists.specs.Lists.{At, at-lt}
+use Rattle.lists.specs.Tables.{words-faulty, counts-fit-yes, fault-none}
+use Rattle.graph.specs.View.{arena-of, at-node}
+use Rattle.dump_forest.specs.Right.{fault-fit, fault-rows, and-left, and-right}
+use Rattle.builder_laws.specs.Tables.{take-before, words-before}
+use Rattle.builder_laws.specs.Grown.{grown, node-grown, links-grown, header-grown, right-in}
+use Rattle.builder_laws.specs.Append.{fault-words, Room, appended, held-appended, fault-appended}
 use Rattle.builder_laws.specs.Calls.{Builder, move-root, run, Makes, rooted, Did, added, known, moved, did}
+use Rattle.states.specs.States.{seen-at-inv}
+use Rattle.states.specs.Symbols.{symbol-of, found}
+use Rattle.states.specs.Right.{Onward, right-yes, row-onward, yes-and}
+use Rattle.states.specs.Rows.{links-same, header-same}
 
 -- ---- the root moved
 
@@ -30,74 +33,33 @@ module _ (L : Lent) (n : ℕ) where
   R = rooted L n
 
   -- no test but that of the counts, and no link or header, looks at the root
-  names-rooted : (l : List ℕ) → all-names (held R) l ≡ all-names (held L) l
-  unfolding all-names is-name node arena
-  names-rooted [] = refl
-  names-rooted (c ∷ l) = rw (names-rooted l)
+  on-rooted : Onward (held L) (held R)
+  unfolding arena
+  on-rooted = record { count = omega arith; names = λ c x. x; more-bytes = omega arith; more-words = omega arith }
 
-  pairs-rooted : (s k : ℕ) → pairs-right (held R) s k ≡ pairs-right (held L) s k
-  unfolding pairs-right list-right arena
-  pairs-rooted s k = ap (λ (b : Bool). list-right (held L) s (k * 2) && b) (names-rooted _)
-
-  vars-rooted : (v : Vars) → vars-right (held R) v ≡ vars-right (held L) v
-  unfolding vars-right
-  vars-rooted absent = refl
-  vars-rooted (present s k) = pairs-rooted s k
-
-  name-rooted : (c : ℕ) → is-name (held R) c ≡ is-name (held L) c
-  unfolding is-name node arena
-  name-rooted c = refl
-
-  right-rooted : (q : Row) → row-right (held R) q ≡ row-right (held L) q
-  unfolding row-right bytes-right list-right arena
-  right-rooted nil = refl
-  right-rooted (bool b) = refl
-  right-rooted (fixnum w) = refl
-  right-rooted (symbol s l) = refl
-  right-rooted (array s k) = refl
-  right-rooted (hash s k d) = refl
-  right-rooted (object s k c) = rw (name-rooted c, pairs-rooted s k)
-  right-rooted (string s l v) = rw (vars-rooted v)
-  right-rooted (user s l c v) = rw (name-rooted c, vars-rooted v)
-
-  vars-links-rooted : (v : Vars) → vars-links (held R) v ≡ vars-links (held L) v
-  unfolding vars-links arena
-  vars-links-rooted absent = refl
-  vars-links-rooted (present s k) = refl
+  right-rooted : (q : Row) → row-right (held L) q ≡ true → row-right (held R) q ≡ true
+  unfolding arena
+  right-rooted q e = right-yes (held R) q (row-onward (held L) (held R) q on-rooted refl (right-in (held L) q e))
 
   links-rooted : (q : Row) → links (held R) q ≡ links (held L) q
-  unfolding links arena
-  links-rooted nil = refl
-  links-rooted (bool b) = refl
-  links-rooted (fixnum w) = refl
-  links-rooted (symbol s l) = refl
-  links-rooted (array s k) = refl
-  links-rooted (hash s k d) = refl
-  links-rooted (object s k c) = refl
-  links-rooted (string s l v) = vars-links-rooted v
-  links-rooted (user s l c v) = ap (λ (x : List ℕ). c ∷ x) (vars-links-rooted v)
+  unfolding arena
+  links-rooted q = links-same (held L) (held R) q refl
 
   header-rooted : (q : Row) → header (held R) q ≡ header (held L) q
-  unfolding header arena
-  header-rooted nil = refl
-  header-rooted (bool false) = refl
-  header-rooted (bool true) = refl
-  header-rooted (fixnum w) = refl
-  header-rooted (symbol s l) = refl
-  header-rooted (array s k) = refl
-  header-rooted (hash s k d) = refl
-  header-rooted (object s k c) = refl
-  header-rooted (string s l v) = refl
-  header-rooted (user s l c v) = refl
+  unfolding arena
+  header-rooted q = header-same (held L) (held R) q refl
 
   fault-rooted : n < L .counts .nodes → fault (L .tables) (L .counts) ≡ none → fault (R .tables) (R .counts) ≡ none
   unfolding node-right
   fault-rooted h e =
       let f = fault-fit (L .tables) (L .counts) e in
       let z = counts-fit-yes (R .tables) (R .counts) (f .some-node) (f .nodes-fit) (f .references-fit) (f .bytes-fit) h in
-      fault-faulty (R .tables) (R .counts) z
-      ∙ words-faulty (held R) (L .counts .nodes) 0 (L .tables .nodes)
-      (λ i l. let ws = words-at (L .tables .nodes) i in ap (λ (b : Bool). is-row ws && b) (right-rooted (row ws)) ∙ fault-words (L .tables) (L .counts) e i l)
+      fault-none (R .tables) (R .counts) z
+      (words-faulty (held R) (L .counts .nodes) 0 (L .tables .nodes)
+      λ i l.
+      let ws = words-at (L .tables .nodes) i in
+      let x : is-row ws && row-right (held L) (row ws) ≡ true = fault-words (L .tables) (L .counts) e i l in
+      yes-and _ _ (and-left (is-row ws) (row-right (held L) (row ws)) x) (right-rooted (row ws) (and-right (is-row ws) (row-right (held L) (row ws)) x)))
 
 -- ---- what was there
 

@@ -8,17 +8,17 @@ use lib.Dec.{ltb}
 use lib.IntN.{ℤ}
 use lib.ListN.{length}
 use native.Mathlib.Omega.{arith}
+use borrow.Author.Tests.{eqb-true, leb-true, not-false}
 use Rattle.definition.specs.Run.{Run, Outcome, ok, refused, pure, next, _>>=_, look, pick}
 use Rattle.definition.specs.Node.{Row, nil, bool, fixnum, symbol, array, hash, object, string, user, absent}
 use Rattle.definition.specs.Arena.{Tables, Arena, firsts, is-name, all-below, all-names, too-long, fault, row-right, vars-right, find-symbol}
 use Rattle.definition.specs.Build.{Lent, held, wrong, check, check-handles, byte-slice, member-slice, pair-slice, handle-checked, set-root, exchange-root, add, bits, create-nil, create-bool, create-fixnum, add-symbol, create-new-symbol, known-or-new, create-symbol, create-array, default-handle, create-hash, create-object, create-string, create-user-defined}
-use Rattle.graph.specs.Lists.{eqb-yes}
-use Rattle.dump_forest.specs.Right.{leb-yes, Fit, fault-fit}
-use Rattle.load_forest.specs.Call.{or-none, not-none, lowest-none}
-use Rattle.load_forest.specs.Right.{yes-and}
+use Rattle.dump_forest.specs.Right.{Fit, fault-fit}
+use Rattle.load_forest.specs.Call.{or-none, lowest-none}
 use Rattle.builder_laws.specs.Grown.{grown, pick-true, name-grown, bytes-added, list-added, pairs-added, default-added}
 use Rattle.builder_laws.specs.Append.{Room, appended}
 use Rattle.builder_laws.specs.Checks.{after-check, after-handles, after-names, after-add}
+use Rattle.states.specs.Right.{yes-and}
 
 -- ---- the calls
 
@@ -146,7 +146,7 @@ even-pairs T ps e =
     let e₂ = lowest-none 1 _ _ e₁ .1 in
     let e₃ = lowest-none 2 _ _ e₂ .1 in
     let b = lowest-none 8 _ _ e₃ .0 in
-    let z = eqb-yes (length ps % 2) 0 (not-none _ (or-none (too-long (length ps)) _ b .1)) in
+    let z = eqb-true (length ps % 2) 0 (not-false _ (or-none (too-long (length ps)) _ b .1)) in
     omega arith
 
 all-below-parts : (n : ℕ) (l m : List ℕ) → all-below n (l ++ m) ≡ true → (all-below n l ≡ true) × (all-below n m ≡ true)
@@ -160,7 +160,7 @@ all-below-parts n (x ∷ l) m e =
 default-most : (n d : ℕ) → all-below n (default-handle d) ≡ true → d ≤ n
 unfolding all-below default-handle
 default-most n zero e = omega arith
-default-most n (suc d) e = leb-yes (suc d) n (pick-true (ltb d n) true e .0)
+default-most n (suc d) e = leb-true (suc d) n (pick-true (ltb d n) true e .0)
 
 all-below-first : (n c : ℕ) (l : List ℕ) → all-below n (c ∷ l) ≡ true → all-below n l ≡ true
 unfolding all-below
@@ -172,7 +172,7 @@ all-names-first A c l e = pick-true (is-name A c) (all-names A l) e
 
 below-one : (n c : ℕ) → all-below n (c ∷ []) ≡ true → c < n
 unfolding all-below
-below-one n c e = leb-yes (suc c) n (pick-true (ltb c n) true e .0)
+below-one n c e = leb-true (suc c) n (pick-true (ltb c n) true e .0)
 
 bind-assoc : {A B C : Type 0} (m : Run Lent A) (f : A → Run Lent B) (k : B → Run Lent C) (L : Lent) → (m >>= f >>= k) L ≡ (m >>= λ a. f a >>= k) L
 unfolding _>>=_ next

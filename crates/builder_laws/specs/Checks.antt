@@ -7,6 +7,7 @@ use mathlib.Core.List.{List, [], _∷_}
 use lib.Dec.{ltb, leb}
 use lib.ListN.{length}
 use native.Mathlib.Omega.{arith}
+use borrow.Author.Tests.{leb-true}
 use Rattle.definition.specs.Run.{Run, Outcome, ok, refused, pure, refuse, next, _>>=_, look, pick}
 use Rattle.definition.specs.Node.{Row}
 use Rattle.definition.specs.Arena.{is-name, all-below, all-names, allowed, fault, sound}
@@ -14,8 +15,7 @@ use Rattle.definition.specs.Build.{Lent, held, wrong, check, check-handles, che
 use Rattle.definition.specs.declared.Fault.{Fault}
 use Rattle.definition.specs.declared.Refusal.{Refusal}
 use Rattle.definition.specs.declared.Refusal.the-variants.{BadHandle, WrongKind, NoSpace}
-use Rattle.graph.specs.Lists.{apart}
-use Rattle.dump_forest.specs.Right.{leb-yes}
+use Rattle.lists.specs.Lists.{apart}
 use Rattle.builder_laws.specs.Append.{Room, appended}
 
 no-ok : {A C : Type 0} {r : Refusal} {a : A} {M : Lent} → _≡_ {A = Outcome Lent A} (refused r) (ok a M) → C
@@ -68,9 +68,9 @@ after-space bs ms k L M a b r e =
         → next (pick x (pick y (pick z (ok tt L) (refused (NoSpace 1))) (refused (NoSpace 2))) (refused (NoSpace 3))) k ≡ ok a M → Room L bs ms × (k tt L ≡ ok a M)
     go true true true p q s e = (
       record {
-        bytes = omega (arith, leb-yes (length bs) (length (L .tables .bytes) - L .counts .bytes) p);
-        references = omega (arith, leb-yes (length ms) (length (L .tables .references) - L .counts .references) q);
-        nodes = omega (arith, leb-yes (suc (L .counts .nodes)) (length (L .tables .nodes) / 7) s);
+        bytes = omega (arith, leb-true (length bs) (length (L .tables .bytes) - L .counts .bytes) p);
+        references = omega (arith, leb-true (length ms) (length (L .tables .references) - L .counts .references) q);
+        nodes = omega (arith, leb-true (suc (L .counts .nodes)) (length (L .tables .nodes) / 7) s);
       },
       e,
     )

@@ -1,20 +1,15 @@
 -- Stores past the used part of a table: the part before them, the part written, and a table's rows.
 use Prim.Native.Nat.{ℕ, zero, suc, _+_, _*_, _≤_, _<_}
 use mathlib.Core.Path.{_≡_, refl, ap, sym, _∙_}
-use mathlib.Core.Bool.{Bool, true, false}
-use mathlib.Core.Option.{Option, none, some}
 use mathlib.Core.List.{List, [], _∷_, _++_, append-assoc}
 use lib.ListN.{length, set, take, drop, length-append}
-use lib.Seq.{take-set-le, drop-drop, length-take-le, sets, sets-eq, take-at, drop-at}
+use lib.Seq.{take-set-le, length-take-le, sets, sets-eq, take-at, drop-at}
 use native.Mathlib.Omega.{arith}
-use Rattle.definition.specs.Run.{pick}
-use Rattle.definition.specs.Node.{Row, words, flat, row, rows}
-use Rattle.definition.specs.Arena.{Arena, range, node-right, faulty}
+use Rattle.definition.specs.Node.{Row, words, row, rows}
+use Rattle.definition.specs.Arena.{range}
 use Rattle.definition.specs.Build.{words-at}
-use Rattle.definition.specs.declared.Fault.{Fault}
-use Rattle.definition.specs.declared.Fault.the-variants.{Node}
-use Rattle.graph.specs.Lists.{apart}
-use Rattle.load_forest.specs.Call.{length-flat}
+use Rattle.lists.specs.Words.{length-words}
+use Rattle.lists.specs.Tables.{words-next}
 
 -- ---- stores
 
@@ -50,10 +45,6 @@ range-stored vs l i n e h =
 
 -- ---- a node's words
 
-pub length-words : (r : Row) → length (words r) ≡ 7
-unfolding flat
-length-words r = omega (arith, length-flat (r ∷ []), length-append (words r) [])
-
 pub words-before : (r : Row) (t : List ℕ) (n i : ℕ) → i < n → words-at (sets t (n * 7) (words r)) i ≡ words-at t i
 unfolding words-at range
 words-before r t n i h = range-before (words r) t (i * 7) 7 (n * 7) (omega arith)
@@ -61,10 +52,6 @@ words-before r t n i h = range-before (words r) t (i * 7) 7 (n * 7) (omega arith
 pub words-stored : (r : Row) (t : List ℕ) (n : ℕ) → n * 7 + 7 ≤ length t → words-at (sets t (n * 7) (words r)) n ≡ words r
 unfolding words-at range
 words-stored r t n h = range-stored (words r) t (n * 7) 7 (length-words r) h
-
-words-next : (t : List ℕ) (i : ℕ) → words-at (drop 7 t) i ≡ words-at t (suc i)
-unfolding words-at
-words-next t i = let y : 7 + i * 7 ≡ suc i * 7 = omega arith in ap (take 7) (drop-drop (i * 7) 7 t ∙ ap (λ (k : ℕ). drop k t) y)
 
 -- ---- rows
 
@@ -83,25 +70,3 @@ rows-last (suc n) t =
     let z : suc n + 1 ≡ suc (n + 1) = omega arith in
     let k : rows (n + 1) (drop 7 t) ≡ rows n (drop 7 t) ++ (row (words-at t (suc n)) ∷ []) = rows-last n (drop 7 t) ∙ ap (λ (ws : List ℕ). rows n (drop 7 t) ++ (row ws ∷ [])) (words-next t n) in
     ap (λ (m : ℕ). rows m t) z ∙ ap (λ (l : List Row). row (take 7 t) ∷ l) k
-
--- ---- the test of nodes
-
-pick-none : (b : Bool) (o : Option Fault) (f : Fault) → pick b o (some f) ≡ none → (b ≡ true) × (o ≡ none)
-unfolding pick
-pick-none true o f e = (refl, e)
-pick-none false o f e = apart (cc)
-
-pub faulty-words : (A : Arena) (n i : ℕ) (t : List ℕ) → faulty A n i t ≡ none → (k : ℕ) → k < n → node-right A (words-at t k) ≡ true
-unfolding faulty words-at
-faulty-words A zero i t e k h = absurd (omega arith)
-faulty-words A (suc n) i t e zero h = pick-none (node-right A (take 7 t)) (faulty A n (suc i) (drop 7 t)) (Node i) e .0
-faulty-words A (suc n) i t e (suc k) h =
-    let q : faulty A n (suc i) (drop 7 t) ≡ none = pick-none (node-right A (take 7 t)) (faulty A n (suc i) (drop 7 t)) (Node i) e .1 in
-    ap (node-right A) (sym (words-next t k)) ∙ faulty-words A n (suc i) (drop 7 t) q k (omega arith)
-
-pub words-faulty : (A : Arena) (n i : ℕ) (t : List ℕ) → ((k : ℕ) → k < n → node-right A (words-at t k) ≡ true) → faulty A n i t ≡ none
-unfolding faulty words-at pick
-words-faulty A zero i t h = refl
-words-faulty A (suc n) i t h =
-    let q : node-right A (take 7 t) ≡ true = h 0 (omega arith) in
-    rw q (words-faulty A n (suc i) (drop 7 t) (λ k l. ap (node-right A) (words-next t k) ∙ h (suc k) (omega arith)))

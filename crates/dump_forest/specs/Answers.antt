@@ -8,6 +8,7 @@ use mathlib.Core.List.{List, [], _∷_, _++_, append-nil}
 use lib.Dec.{eqb, leb}
 use lib.ListN.{length}
 use native.Mathlib.Decide.{ℕ-discrete}
+use borrow.Author.Tests.{eq-eqb, ne-eqb}
 use Rattle.definition.specs.Run.{Outcome, ok, refused, pure, refuse, next, _>>=_, look, pick}
 use Rattle.definition.specs.Integer.{integer-bytes}
 use Rattle.definition.specs.Kind.{SYMBOL, SYMBOL-LINK, OBJECT-LINK, STRING, USER-DEFINED}
@@ -17,12 +18,12 @@ use Rattle.definition.specs.Graph.{header-of, SameGraph}
 use Rattle.definition.specs.Dump.{Written, Writer, _>>_, write, number-symbol, number-object, number-in, link-or, byte-string-bytes, write-symbol, write-object-or-link, write-elements, write-pairs, write-name, write-instance-variables, write-variables, write-default, hash-byte, write-row, write-level, write-value, dump}
 use Rattle.definition.specs.declared.Refusal.{Refusal}
 use Rattle.definition.specs.declared.Refusal.the-variants.{NoSpace, TooDeep}
-use Rattle.graph.specs.Lists.{At, PW, pw-snoc, yes-eqb, no-eqb}
+use Rattle.lists.specs.Lists.{At, PW, pw-snoc}
 use Rattle.graph.specs.Forest.{Node, leaf, sym, box}
 use Rattle.graph.specs.Describe.{Like, Key}
 use Rattle.graph.specs.Describe as Describe
-use Rattle.graph.specs.View.{see, seen}
-use Rattle.dump_forest.specs.Right.{Right, RowRight, Name, Names, see-at, at-see, at-node}
+use Rattle.graph.specs.View.{see, seen, see-at, at-see, at-node, Name}
+use Rattle.dump_forest.specs.Right.{Right, RowRight, Name, Names}
 use Rattle.dump_forest.specs.Shown.{Shown, nil-shown, false-shown, true-shown, fixnum-shown, symbol-shown, array-shown, hash-shown, default-shown, object-shown, string-shown, string-vars-shown, user-shown, user-vars-shown, shown-at, name-shown}
 use Rattle.dump_forest.specs.Same.{graph-of, same-pairing}
 
@@ -103,10 +104,10 @@ module _ (size : ℕ) (P Q : Arena) (R : ℕ → ℕ → Type 0) (π : Describe.
   same-eqb x y v w r k = go (ℕ-discrete x v) (ℕ-discrete y w)
     where
       go : Dec (x ≡ v) → Dec (y ≡ w) → eqb x v ≡ eqb y w
-      go (yes p) (yes q) = rw (p, q, yes-eqb v, yes-eqb w) refl
+      go (yes p) (yes q) = rw (p, q, eq-eqb v v refl, eq-eqb w w refl) refl
       go (yes p) (no q) = absurd (q (π .left v y w (k .left-node) (rw (← p) r) (k .paired) (k .left-at) (k .left-key)))
       go (no p) (yes q) = absurd (p (π .right x v w (k .right-node) (rw (← q) r) (k .paired) (k .right-at) (k .right-key)))
-      go (no p) (no q) = rw (no-eqb x v p, no-eqb y w q) refl
+      go (no p) (no q) = rw (ne-eqb x v p, ne-eqb y w q) refl
 
   same-number : (l m : List ℕ) → PW R l m → (v w i : ℕ) → Keys v w → number-in l v i ≡ number-in m w i
   unfolding number-in

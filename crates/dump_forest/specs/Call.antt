@@ -10,7 +10,7 @@ use Rattle.definition.specs.Dump.{Written, dump, dump-wrong, dump-call-of, dump
 use Rattle.definition.specs.declared.Answer.the-variants.{Accepted}
 use Rattle.definition.specs.declared.Counts.{Counts}
 use Rattle.definition.specs.declared.Fault.{Fault}
-use Rattle.graph.specs.Lists.{apart}
+use Rattle.lists.specs.Lists.{apart}
 
 module _ (T : Tables) (c : Counts) (scratch output : List ℕ) (limit : ℕ) where
   pub record AcceptedCall : Type 0 where

@@ -14,7 +14,7 @@ use Rattle.definition.specs.Node.{Row, present}
 use Rattle.definition.specs.Arena.{Arena, node, range, name-of}
 use Rattle.definition.specs.Graph.{Header, header-of, default-link}
 use Rattle.definition.specs.Dump.{Writer, _>>_, write, number-symbol, number-object, link-or, byte-string-bytes, write-symbol, write-object-or-link, write-elements, write-pairs, write-name, write-instance-variables, write-variables, write-default, hash-byte, write-row, write-level, write-value, dump}
-use Rattle.graph.specs.Lists.{At, NotIn, Distinct, distinct-snoc}
+use Rattle.lists.specs.Lists.{At, NotIn, Distinct, distinct-snoc}
 use Rattle.graph.specs.Forest.{leaf, sym, box, Num, addO, addS, fresh, F, Mode, values, pairs, value-pairs, name, name-pairs, after, IsValue, Text, tEnd, tEndPairs, tName, tNameLink, tOneName, tOneLink, tClass, tClassLink, tNil, tFalse, tTrue, tFixnum, tSymbol, tSymbolLink, tObjectLink, tArray, tHash, tHashDefault, tObject, tString, tStringVars, tUser, tUserVars}
 use Rattle.graph.specs.Describe.{Dist, no-dist, E, eEnd, eLeaf, eBox, eRef, eSym, eSymref, e-dist}
 use Rattle.graph.specs.View.{seen}

@@ -1,21 +1,27 @@
 -- A well-formed arena: ranges inside, members below the node count, names that are symbols.
 use Prim.Native.Nat.{ℕ, zero, suc, _+_, _*_, _/_, _≤_, _<_}
 use mathlib.Core.Path.{_≡_, refl, ap}
+use mathlib.Core.Path.{sym as psym, _∙_}
 use mathlib.Core.Bool.{Bool, true, false, _&&_}
 use mathlib.Core.Option.{none, some}
-use mathlib.Core.List.{List, [], _∷_, _++_, map}
-use lib.Dec.{ltb, leb, leb→le, le→leb, T}
-use lib.ListN.{length, getD, take, drop, length-drop}
+use mathlib.Core.List.{List, [], _∷_}
+use lib.Dec.{ltb, leb, T}
+use lib.ListN.{length, getD}
 use lib.Seq.{length-take-le}
 use native.Mathlib.Omega.{arith}
+use borrow.Author.Tests.{eqb-true, leb-true}
 use Rattle.definition.specs.Run.{pick}
 use Rattle.definition.specs.Node.{Row, Vars, nil, bool, fixnum, symbol, array, hash, object, string, user, absent, present, width, kind, row, rows, is-row}
-use Rattle.definition.specs.Arena.{Tables, Arena, arena, node, range, firsts, all-below, is-name, all-names, bytes-right, list-right, pairs-right, vars-right, row-right, node-right, counts-fit, faulty, fault-if, fault}
+use Rattle.definition.specs.Arena.{Tables, Arena, arena, node, range, firsts, all-below, is-name, all-names, bytes-right, list-right, pairs-right, vars-right, row-right, node-right, counts-fit, fault}
 use Rattle.definition.specs.Graph.{links, vars-links, default-link}
 use Rattle.definition.specs.declared.Counts.{Counts}
-use Rattle.graph.specs.Lists.{At, at-lt, lt-at, eqb-yes, apart, Below}
-use Rattle.graph.specs.Forest.{Node}
-use Rattle.graph.specs.View.{see, seen}
+use Rattle.lists.specs.Lists.{At, at-lt, apart, Below, below-join, below-first, getD-at}
+use Rattle.lists.specs.Tables.{length-rows, rows-at, faulty-words, no-fault}
+use Rattle.graph.specs.View.{at-node}
+-- for the crates above
+pub use Rattle.lists.specs.Ranges.{length-range}
+pub use Rattle.graph.specs.View.{at-node, node-at, Name}
+use Rattle.definition.specs.Build.{words-at}
 
 -- ---- tests that hold
 
@@ -34,54 +40,7 @@ and-five true true false d e h = apart (cc)
 and-five true false c d e h = apart (cc)
 and-five false b c d e h = apart (cc)
 
-pub leb-yes : (m n : ℕ) → leb m n ≡ true → m ≤ n
-leb-yes m n e = leb→le m n (rw e tt)
-
-pub yes-leb : (m n : ℕ) → m ≤ n → leb m n ≡ true
-yes-leb m n h = go (leb m n) (le→leb m n h)
-  where
-    go : (b : Bool) → T b → b ≡ true
-    go true t = refl
-    go false t = absurd t
-
 -- ---- nodes and ranges
-
-pub node-at : (A : Arena) (i : ℕ) (r : Row) → At (A .nodes) i r → node A i ≡ r
-unfolding node
-node-at A i r e = go (A .nodes) i e
-  where
-    go : (l : List Row) (k : ℕ) → At l k r → getD l k nil ≡ r
-    go [] k a = apart (cc)
-    go (x ∷ l) zero a = cc
-    go (x ∷ l) (suc k) a = go l k a
-
-pub at-node : (A : Arena) (i : ℕ) → i < length (A .nodes) → At (A .nodes) i (node A i)
-at-node A i h = let (r, e) = lt-at (A .nodes) i h in rw (node-at A i r e) e
-
-pub at-map : {B C : Type 0} (f : B → C) (l : List B) (k : ℕ) (x : B) → At l k x → At (map f l) k (f x)
-at-map f [] k x e = apart (cc)
-at-map f (y ∷ l) zero x e = let z : y ≡ x = cc in rw z
-at-map f (y ∷ l) (suc k) x e = at-map f l k x e
-
-pub map-at : {B C : Type 0} (f : B → C) (l : List B) (k : ℕ) (y : C) → At (map f l) k y → (x : B) × At l k x × (f x ≡ y)
-map-at f [] k y e = apart (cc)
-map-at f (z ∷ l) zero y e = (z, refl, cc)
-map-at f (z ∷ l) (suc k) y e = map-at f l k y e
-
-pub see-at : (A : Arena) (i : ℕ) (r : Row) → At (A .nodes) i r → At (seen A) i (see A r)
-unfolding seen
-see-at A i r e = at-map (see A) (A .nodes) i r e
-
--- what is seen at a place is the node there
-pub at-see : (A : Arena) (i : ℕ) (n : Node) → At (seen A) i n → (see A (node A i) ≡ n) × (i < length (A .nodes))
-unfolding seen
-at-see A i n e =
-    let (r, a, q) = map-at (see A) (A .nodes) i n e in
-    (rw (node-at A i r a) q, at-lt (A .nodes) i r a)
-
-pub length-range : (l : List ℕ) (s n : ℕ) → s + n ≤ length l → length (range l s n) ≡ n
-unfolding range
-length-range l s n h = length-take-le n (drop s l) (rw (length-drop s l) (omega arith))
 
 -- ---- well formed, as propositions
 
@@ -91,9 +50,6 @@ BytesIn A s n = s + n ≤ length (A .bytes)
 pub record ListIn (A : Arena) (s n : ℕ) : Type 0 where
   pub inside : s + n ≤ length (A .references)
   pub below : Below (length (A .nodes)) (range (A .references) s n)
-
-abbrev pub Name : Arena → ℕ → Type 0
-Name A c = (s : ℕ) × (l : ℕ) × At (A .nodes) c (symbol s l)
 
 abbrev pub Names : Arena → List ℕ → Type 0
 Names A l = (k c : ℕ) → At (firsts l) k c → Name A c
@@ -129,19 +85,19 @@ Fixnums A = (i w : ℕ) → At (A .nodes) i (fixnum w) → w < 4294967296
 -- ---- from the tests
 
 module _ (A : Arena) where
-  below-of : (n : ℕ) (l : List ℕ) → all-below n l ≡ true → Below n l
+  pub below-of : (n : ℕ) (l : List ℕ) → all-below n l ≡ true → Below n l
   unfolding all-below pick
   below-of n [] e k v a = apart (cc)
   below-of n (m ∷ l) e k v a = go (ltb m n) refl e (below-of n l) k v a
     where
       go : (b : Bool) → ltb m n ≡ b → pick b (all-below n l) false ≡ true → (all-below n l ≡ true → Below n l) → Below n (m ∷ l)
-      go true h e f zero v a = let z : m ≡ v = cc in rw (← z) (leb-yes (suc m) n h)
+      go true h e f zero v a = let z : m ≡ v = cc in rw (← z) (leb-true (suc m) n h)
       go true h e f (suc k) v a = f e k v a
       go false h e f k v a = apart (cc)
 
-  name-of-test : (c : ℕ) → is-name A c ≡ true → Name A c
+  pub name-of-test : (c : ℕ) → is-name A c ≡ true → Name A c
   unfolding is-name kind node
-  name-of-test c e = go (A .nodes) c (eqb-yes (kind (getD (A .nodes) c nil)) 3 e)
+  name-of-test c e = go (A .nodes) c (eqb-true (kind (getD (A .nodes) c nil)) 3 e)
     where
       one : (r : Row) → kind r ≡ 3 → (s : ℕ) × (l : ℕ) × (r ≡ symbol s l)
       one nil e = absurd (omega arith)
@@ -159,7 +115,7 @@ module _ (A : Arena) where
       go (x ∷ l) zero e = let (s, n, q) = one x e in (s, n, ap some q)
       go (x ∷ l) (suc k) e = go l k e
 
-  names-of : (l : List ℕ) → all-names A l ≡ true → (k c : ℕ) → At l k c → Name A c
+  pub names-of : (l : List ℕ) → all-names A l ≡ true → (k c : ℕ) → At l k c → Name A c
   unfolding all-names pick
   names-of [] e k c a = apart (cc)
   names-of (m ∷ l) e k c a = go (is-name A m) refl e (names-of l) k c a
@@ -174,7 +130,7 @@ module _ (A : Arena) where
   list-of s n e =
       let p : Bool = leb (s + n) (length (A .references)) in
       let q : Bool = all-below (length (A .nodes)) (range (A .references) s n) in
-      record { inside = leb-yes _ _ (and-left p q e); below = below-of (length (A .nodes)) (range (A .references) s n) (and-right p q e) }
+      record { inside = leb-true _ _ (and-left p q e); below = below-of (length (A .nodes)) (range (A .references) s n) (and-right p q e) }
 
   pairs-of : (s n : ℕ) → pairs-right A s n ≡ true → PairsIn A s n
   unfolding pairs-right
@@ -194,12 +150,12 @@ module _ (A : Arena) where
   right-of nil e = tt
   right-of (bool b) e = tt
   right-of (fixnum w) e = tt
-  right-of (symbol s l) e = leb-yes _ _ e
+  right-of (symbol s l) e = leb-true _ _ e
   right-of (array s n) e = list-of s n e
   right-of (hash s n d) e =
       let p = list-right A s (n * 2) in
       let q : Bool = leb d (length (A .nodes)) in
-      (list-of s (n * 2) (and-left p q e), leb-yes _ _ (and-right p q e))
+      (list-of s (n * 2) (and-left p q e), leb-true _ _ (and-right p q e))
   right-of (object s n c) e =
       let p = is-name A c in
       let q = pairs-right A s n in
@@ -207,31 +163,12 @@ module _ (A : Arena) where
   right-of (string s l v) e =
       let p = bytes-right A s l in
       let q = vars-right A v in
-      (leb-yes _ _ (and-left p q e), vars-of v (and-right p q e))
+      (leb-true _ _ (and-left p q e), vars-of v (and-right p q e))
   right-of (user s l c v) e =
       let p = bytes-right A s l in
       let q = is-name A c in
       let h = and-left (p && q) (vars-right A v) e in
-      (leb-yes _ _ (and-left p q h), name-of-test c (and-right p q h), vars-of v (and-right (p && q) (vars-right A v) e))
-
-  faulty-none : (n i : ℕ) (table : List ℕ) → faulty A n i table ≡ none → (k : ℕ) (r : Row) → At (rows n table) k r → row-right A r ≡ true
-  unfolding faulty rows pick node-right
-  faulty-none zero i table e k r a = apart (cc)
-  faulty-none (suc n) i table e k r a =
-      go (is-row (take width table) && row-right A (row (take width table))) refl e (faulty-none n (suc i) (drop width table)) k r a
-    where
-      go : (b : Bool) → (is-row (take width table) && row-right A (row (take width table))) ≡ b
-          → pick b (faulty A n (suc i) (drop width table)) (some (Rattle.definition.specs.declared.Fault.the-variants.Node i)) ≡ none
-          → (faulty A n (suc i) (drop width table) ≡ none → (k : ℕ) (r : Row) → At (rows n (drop width table)) k r → row-right A r ≡ true)
-          → (k : ℕ) (r : Row) → At (rows (suc n) table) k r → row-right A r ≡ true
-      go true h e f zero r a = let z : row (take width table) ≡ r = cc in rw (← z) (and-right (is-row (take width table)) (row-right A (row (take width table))) h)
-      go true h e f (suc k) r a = f e k r a
-      go false h e f k r a = apart (cc)
-
-pub length-rows : (n : ℕ) (table : List ℕ) → length (rows n table) ≡ n
-unfolding rows
-length-rows zero table = refl
-length-rows (suc n) table = ap suc (length-rows n (drop width table))
+      (leb-true _ _ (and-left p q h), name-of-test c (and-right p q h), vars-of v (and-right (p && q) (vars-right A v) e))
 
 -- what the counts of a well-formed arena say
 pub record Fit (T : Tables) (c : Counts) : Type 0 where
@@ -249,34 +186,31 @@ module _ (T : Tables) (c : Counts) where
   unfolding counts-fit arena
   fit-of e =
       let (e₁, e₂, e₃, e₄, e₅) = and-five (leb 1 (c .nodes)) (leb (c .nodes) (length (T .nodes) / width)) (leb (c .references) (length (T .references))) (leb (c .bytes) (length (T .bytes))) (ltb (c .root) (c .nodes)) e in
-      let r = leb-yes _ _ e₃ in
-      let b = leb-yes _ _ e₄ in
+      let r = leb-true _ _ e₃ in
+      let b = leb-true _ _ e₄ in
       record {
-        some-node = leb-yes _ _ e₁;
-        nodes-fit = leb-yes _ _ e₂;
+        some-node = leb-true _ _ e₁;
+        nodes-fit = leb-true _ _ e₂;
         references-fit = r;
         bytes-fit = b;
-        root-below = leb-yes _ _ e₅;
+        root-below = leb-true _ _ e₅;
         nodes = length-rows (c .nodes) (T .nodes);
         references = length-take-le (c .references) (T .references) r;
         bytes = length-take-le (c .bytes) (T .bytes) b;
       }
 
-  no-fault : fault T c ≡ none → (counts-fit T c ≡ true) × (faulty (arena T c) (c .nodes) 0 (T .nodes) ≡ none)
-  unfolding fault fault-if
-  no-fault e = go (counts-fit T c) refl e
-    where
-      go : (b : Bool) → counts-fit T c ≡ b → fault-if b T c ≡ none → (counts-fit T c ≡ true) × (faulty (arena T c) (c .nodes) 0 (T .nodes) ≡ none)
-      go true h e = (h, e)
-      go false h e = apart (cc)
-
   pub fault-fit : fault T c ≡ none → Fit T c
-  fault-fit e = fit-of (no-fault e .0)
+  fault-fit e = fit-of (no-fault T c e .0)
 
   -- every row passes the test of its kind
   pub fault-rows : fault T c ≡ none → (i : ℕ) (r : Row) → At (arena T c .nodes) i r → row-right (arena T c) r ≡ true
-  unfolding arena
-  fault-rows e i r a = faulty-none (arena T c) (c .nodes) 0 (T .nodes) (no-fault e .1) i r a
+  unfolding arena node-right words-at
+  fault-rows e i r a =
+      let A = arena T c in
+      let ws = words-at (T .nodes) i in
+      let h : i < c .nodes = rw (length-rows (c .nodes) (T .nodes)) at (at-lt (rows (c .nodes) (T .nodes)) i r a) in
+      let q : row ws ≡ r = psym (rows-at (c .nodes) (T .nodes) i h) ∙ getD-at (rows (c .nodes) (T .nodes)) i nil r a in
+      rw (← q) (and-right (is-row ws) (row-right A (row ws)) (faulty-words A (c .nodes) 0 (T .nodes) (no-fault T c e .1) i h))
 
   pub fault-right : fault T c ≡ none → Right (arena T c)
   unfolding arena
@@ -288,15 +222,6 @@ module _ (T : Tables) (c : Counts) where
       }
 
 -- ---- links
-
-pub below-join : (n : ℕ) (l m : List ℕ) → Below n l → Below n m → Below n (l ++ m)
-below-join n [] m b c k v e = c k v e
-below-join n (x ∷ l) m b c zero v e = b zero v e
-below-join n (x ∷ l) m b c (suc k) v e = below-join n l m (λ j u a. b (suc j) u a) c k v e
-
-pub below-first : (n v : ℕ) (l : List ℕ) → v < n → Below n l → Below n (v ∷ l)
-below-first n v l h b zero u e = let z : v ≡ u = cc in omega arith
-below-first n v l h b (suc k) u e = b k u e
 
 pub name-below : (A : Arena) (c : ℕ) → Name A c → c < length (A .nodes)
 name-below A c (s, l, e) = at-lt (A .nodes) c (symbol s l) e

@@ -10,12 +10,12 @@ use native.Mathlib.Omega.{arith}
 use Rattle.definition.specs.Node.{Row, nil, bool, fixnum, symbol, array, hash, object, string, user, kind}
 use Rattle.definition.specs.Arena.{Arena, node}
 use Rattle.definition.specs.Graph.{Header, header-of, header, links, Reachable, root, link, Paired, none, one, Pairing, SameGraph}
-use Rattle.graph.specs.Lists.{At, PW}
+use Rattle.lists.specs.Lists.{At, PW}
 use Rattle.graph.specs.Forest.{Node, leaf, sym, box, F}
 use Rattle.graph.specs.Describe
 use Rattle.graph.specs.Describe.{Key, Like, Says, carried}
-use Rattle.graph.specs.View.{see, seen}
-use Rattle.dump_forest.specs.Right.{Right, at-node, see-at, at-see, node-links-below}
+use Rattle.graph.specs.View.{see, seen, at-node, see-at, at-see}
+use Rattle.dump_forest.specs.Right.{Right, node-links-below}
 
 -- ---- an equivalence
 

@@ -6,10 +6,9 @@ use mathlib.Core.List.{List, [], _∷_, _++_}
 use Rattle.definition.specs.Node.{Row, nil, bool, fixnum, symbol, array, hash, object, string, user, absent, present}
 use Rattle.definition.specs.Arena.{Arena, node, range, name-of}
 use Rattle.definition.specs.Graph.{header-of, header, links, vars-links, vars-count, vars-present, default-link, default-present}
-use Rattle.graph.specs.Lists.{At}
+use Rattle.lists.specs.Lists.{At}
 use Rattle.graph.specs.Forest.{Node, leaf, sym, box}
-use Rattle.graph.specs.View.{see, seen}
-use Rattle.dump_forest.specs.Right.{at-see}
+use Rattle.graph.specs.View.{see, seen, at-see}
 
 pub data Shown (A : Arena) : Row → Node → Type 0 where
   nil-shown : Shown A nil (leaf 0 0)

@@ -14,11 +14,12 @@ use Rattle.definition.specs.Node.{Row, nil, bool, fixnum, symbol, array, hash, 
 use Rattle.definition.specs.Arena.{Arena, node, range, name-of, firsts}
 use Rattle.definition.specs.Graph.{Header, header-of, header, links, vars-links, vars-count, vars-present, default-link, default-present}
 use Rattle.definition.specs.Dump.{Written, Writer, _>>_, write, number-symbol, number-object, number-in, link-or, byte-string-bytes, write-symbol, write-object-or-link, write-elements, write-pairs, write-name, write-instance-variables, write-variables, write-default, hash-byte, write-row, write-level, write-value, dump}
-use Rattle.graph.specs.Lists.{At, NotIn, apart, Below}
+use Rattle.lists.specs.Lists.{At, NotIn, apart, Below, below-join}
+use Rattle.lists.specs.Ranges.{length-range}
 use Rattle.graph.specs.Forest.{Node, leaf, sym, box, Num, fresh, F, fEnd, fLeaf, fBox, fRef, trees, Mode, values, pairs, value-pairs, after, IsValue, Text, tEnd, tEndPairs, tNil, tFalse, tTrue, tFixnum, tObjectLink, tArray, tHash, tHashDefault, tObject, tString, tStringVars, tUser, tUserVars}
 use Rattle.graph.specs.Describe.{E, eEnd, eLeaf, eBox, eRef, eSym, eSymref, e-len}
-use Rattle.graph.specs.View.{see, seen}
-use Rattle.dump_forest.specs.Right.{Right, RowRight, Name, Names, ListIn, PairsIn, Fixnums, node-at, at-node, see-at, length-range, below-join, default-below}
+use Rattle.graph.specs.View.{see, seen, node-at, at-node, see-at, Name}
+use Rattle.dump_forest.specs.Right.{Right, RowRight, Name, Names, ListIn, PairsIn, Fixnums, default-below}
 use Rattle.dump_forest.specs.Writers.{num, put, ok-inj, un-then, pure-inv, Wrote, wrote-nothing, wrote-then, write-inv, un-write, number-some, number-none, Item, new, again, item-bytes, item, item-name, item-one, item-class, item-value, join-default}
 
 module _ (size : ℕ) (t : List Node) where

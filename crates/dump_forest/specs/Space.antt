@@ -6,7 +6,7 @@ use mathlib.Core.List.{List, _++_}
 use lib.ListN.{length}
 use native.Mathlib.Omega.{arith}
 use Rattle.definition.specs.Graph.{Header}
-use Rattle.graph.specs.Lists.{At}
+use Rattle.lists.specs.Lists.{At}
 use Rattle.graph.specs.Sums.{sumL, total-snoc, weight, weigh}
 use Rattle.graph.specs.Forest.{Node, sym, box, Num, addO, addS, F, fBox, fSym, list-words, refsOf, bytesOf, node-words, node-bytes}
 use Rattle.graph.specs.Describe.{E, eEnd, eLeaf, eBox, eRef, eSym, eSymref}

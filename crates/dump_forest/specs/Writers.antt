@@ -9,6 +9,7 @@ use mathlib.Core.List.{List, [], _∷_, _++_, append-assoc, append-nil}
 use lib.Dec.{leb, eqb}
 use lib.ListN.{length, length-append}
 use native.Mathlib.Omega.{arith}
+use borrow.Author.Tests.{eqb-true, eqb-false, eq-eqb, ne-eqb, leb-true, le-leb}
 use Rattle.definition.specs.Run.{Outcome, ok, refused, pure, next, _>>=_, pick}
 use Rattle.definition.specs.Integer.{integer-bytes}
 use Rattle.definition.specs.Kind.{SYMBOL, SYMBOL-LINK}
@@ -16,9 +17,8 @@ use Rattle.definition.specs.Dump.{Written, Writer, _>>_, write, number-in, byte
 use Rattle.definition.specs.Arena.{Arena}
 use Rattle.definition.specs.Graph.{default-link}
 use Rattle.definition.specs.declared.Refusal.the-variants.{NoSpace}
-use Rattle.graph.specs.Lists.{At, NotIn, Distinct, eqb-yes, eqb-no, yes-eqb, no-eqb, apart}
+use Rattle.lists.specs.Lists.{At, NotIn, Distinct, apart}
 use Rattle.graph.specs.Forest.{Num, F, fEnd, fSym, fSymref, Mode, pairs, value-pairs, name, name-pairs, after, IsValue, Text, tName, tNameLink, tOneName, tOneLink, tClass, tClassLink, tSymbol, tSymbolLink}
-use Rattle.dump_forest.specs.Right.{leb-yes, yes-leb}
 
 -- what is numbered when s is written
 abbrev pub num : Written → Num
@@ -73,12 +73,12 @@ write-inv size bs s s′ e = go (leb (length bs) (size - length (s .bytes))) ref
   where
     go : (b : Bool) → leb (length bs) (size - length (s .bytes)) ≡ b → _≡_ {A = Outcome Written (Unit {0})} (pick b (ok tt (put bs s)) (refused (NoSpace 6))) (ok tt s′)
         → (put bs s ≡ s′) × Wrote size (s .bytes) (s .bytes ++ bs) bs
-    go true h e = (ok-inj _ _ e, record { is = refl; fits = λ f. rw (length-append (s .bytes) bs) (omega (arith, leb-yes (length bs) (size - length (s .bytes)) h)) })
+    go true h e = (ok-inj _ _ e, record { is = refl; fits = λ f. rw (length-append (s .bytes) bs) (omega (arith, leb-true (length bs) (size - length (s .bytes)) h)) })
     go false h e = apart (cc)
 
 pub write-ok : (size : ℕ) (bs : List ℕ) (s : Written) → length (s .bytes) + length bs ≤ size → write size bs s ≡ ok tt (put bs s)
 unfolding write pick
-write-ok size bs s h = rw (yes-leb (length bs) (size - length (s .bytes)) (omega arith))
+write-ok size bs s h = rw (le-leb (length bs) (size - length (s .bytes)) (omega arith))
 
 -- bytes, then a writer
 pub un-write : (size : ℕ) (bs : List ℕ) (n : Writer) (s s′ : Written) → (write size bs >> n) s ≡ ok tt s′
@@ -97,7 +97,7 @@ number-some (x ∷ l) h i k e = go (eqb x h) refl e (number-some l h (suc i) k)
   where
     go : (b : Bool) → eqb x h ≡ b → pick b (some i) (number-in l h (suc i)) ≡ some k → (number-in l h (suc i) ≡ some k → (j : ℕ) × (k ≡ suc i + j) × At l j h)
         → (j : ℕ) × (k ≡ i + j) × At (x ∷ l) j h
-    go true p e f = let z : i ≡ k = cc in (0, omega arith, ap some (eqb-yes x h p))
+    go true p e f = let z : i ≡ k = cc in (0, omega arith, ap some (eqb-true x h p))
     go false p e f = let (j, z, a) = f e in (suc j, omega arith, a)
 
 pub number-none : (l : List ℕ) (h i : ℕ) → number-in l h i ≡ none → NotIn h l
@@ -107,13 +107,13 @@ number-none (x ∷ l) h i e k a = go (eqb x h) refl e (number-none l h (suc i)) 
   where
     go : (b : Bool) → eqb x h ≡ b → pick b (some i) (number-in l h (suc i)) ≡ none → (number-in l h (suc i) ≡ none → NotIn h l) → NotIn h (x ∷ l)
     go true p e f k a = apart (cc)
-    go false p e f zero a = eqb-no x h p (cc)
+    go false p e f zero a = eqb-false x h p (cc)
     go false p e f (suc k) a = f e k a
 
 pub notin-number : (l : List ℕ) (h i : ℕ) → NotIn h l → number-in l h i ≡ none
 unfolding number-in pick
 notin-number [] h i n = refl
-notin-number (x ∷ l) h i n = rw (no-eqb x h (λ q. n 0 (ap some q))) (notin-number l h (suc i) (λ k a. n (suc k) a))
+notin-number (x ∷ l) h i n = rw (ne-eqb x h (λ q. n 0 (ap some q))) (notin-number l h (suc i) (λ k a. n (suc k) a))
 
 pub at-number : (l : List ℕ) (h i k : ℕ) → Distinct l → At l k h → number-in l h i ≡ some (i + k)
 unfolding number-in pick
@@ -121,11 +121,11 @@ at-number [] h i k d a = apart (cc)
 at-number (x ∷ l) h i zero d a =
     let z : x ≡ h = cc in
     let q : i + 0 ≡ i = omega arith in
-    rw (z, yes-eqb h, q)
+    rw (z, eq-eqb h h refl, q)
 at-number (x ∷ l) h i (suc k) d a =
     let ne : x ≢ h = λ q. omega (arith, d 0 (suc k) h (ap some q) a) in
     let q : i + suc k ≡ suc i + k = omega arith in
-    rw (no-eqb x h ne, q) (at-number l h (suc i) k (λ j j′ v p p′. omega (arith, d (suc j) (suc j′) v p p′)) a)
+    rw (ne-eqb x h ne, q) (at-number l h (suc i) k (λ j j′ v p p′. omega (arith, d (suc j) (suc j′) v p p′)) a)
 
 -- ---- a symbol as it is written: new with its name, or a link
 

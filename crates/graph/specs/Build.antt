@@ -1,5 +1,5 @@
 -- Building: what an accepted load does to nodes and lists, forest by forest.
-use Prim.Native.Nat.{ℕ, zero, suc, _+_, _≤_, _<_}
+use Prim.Native.Nat.{ℕ, suc, _+_, _≤_, _<_}
 use mathlib.Core.Path.{_≡_, refl, ap, subst}
 use mathlib.Core.Path.{sym as psym, _∙_}
 use mathlib.Core.Bool.{Bool}
@@ -10,7 +10,7 @@ use lib.ListN.{length, set, length-set}
 use native.Mathlib.Omega.{arith}
 use native.Mathlib.Decide.{ℕ-discrete}
 use Rattle.definition.specs.Graph.{Header}
-use Rattle.graph.specs.Lists.{At, NotIn, at-snoc, at-snoc-inv, at-app, at-lt, lt-at, len-snoc, at-set-same, at-set-other, at-set-inv, apart, Below, below-up, below-snoc}
+use Rattle.lists.specs.Lists.{At, NotIn, at-snoc, at-snoc-inv, at-app, at-lt, lt-at, len-snoc, at-set-same, at-set-other, at-set-inv, apart, Below, below-up, below-snoc}
 use Rattle.graph.specs.Sums.{sumTo, sumTo-suc, sumL, sumL-app, total, total-snoc, total-set, total-set-most, weight, weigh}
 use Rattle.graph.specs.Forest.{Node, leaf, sym, box, Num, addO, addS, F, fEnd, fLeaf, fBox, fRef, fSym, fSymref, fIv}
 use Rattle.graph.specs.Describe.{E, eEnd, eLeaf, eBox, eRef, eSym, eSymref}
@@ -351,14 +351,8 @@ kept {s = s} {s′ = s′} (bIv {s₁ = s₁} {s₂ = s₂} {v = v} {h = h₀} {
 abbrev IsBox : List Node → ℕ → Type 0
 IsBox l v = (h : Header) × (ms : List ℕ) × At l v (box h ms)
 
-abbrev IsSym : List Node → ℕ → Type 0
-IsSym l v = (b : List ℕ) × At l v (sym b)
-
 box-kept : (l m : List Node) (v : ℕ) → Kept l m → IsBox l v → IsBox m v
 box-kept l m v k (h, ms, e) = let (n, e′, (h′, ms′, q)) = k v (box h ms) e in (h′, ms′, e′ ∙ ap some q)
-
-sym-kept : (l m : List Node) (v : ℕ) → Kept l m → IsSym l v → IsSym m v
-sym-kept l m v k (b, e) = let (n, e′, q) = k v (sym b) e in (b, e′ ∙ ap some q)
 
 box-set : (l : List Node) (i v : ℕ) (h : Header) (ms : List ℕ) → IsBox l v → IsBox (set l i (box h ms)) v
 box-set l i v h ms (h₀, ms₀, e) = go (ℕ-discrete v i)

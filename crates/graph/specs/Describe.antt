@@ -1,17 +1,17 @@
 -- Describing: what an accepted dump says of its arena; one forest, one graph; the same graph, the same forest.
-use Prim.Native.Nat.{ℕ, zero, suc, _+_, _≤_, _<_, zero-le, suc-le-suc}
-use mathlib.Core.Path.{_≡_, refl, ap, subst}
-use mathlib.Core.Path.{sym as psym, _∙_}
-use mathlib.Core.Bool.{Bool, true, false}
-use mathlib.Core.Logic.{_⊎_, inl, inr, _≢_}
-use mathlib.Core.Option.{Option, none, some}
+use Prim.Native.Nat.{ℕ, suc, _+_, _≤_, _<_, zero-le}
+use mathlib.Core.Path.{_≡_, refl, ap}
+use mathlib.Core.Path.{_∙_}
+use mathlib.Core.Bool.{Bool}
+use mathlib.Core.Logic.{_⊎_, inl, inr}
+use mathlib.Core.Option.{some}
 use mathlib.Core.List.{List, [], _∷_, _++_}
-use lib.ListN.{length, getElem?}
+use lib.ListN.{length}
 use native.Mathlib.Omega.{arith}
 use native.Mathlib.Decide.{decLe}
 use Rattle.definition.specs.Graph.{Header}
-use Rattle.graph.specs.Lists.{At, NotIn, Distinct, distinct-snoc, PW, pw-snoc, pw-at, pw-at′, pw-len, at-snoc, at-snoc-inv, at-app, at-lt, len-snoc, apart}
-use Rattle.graph.specs.Forest.{Node, leaf, sym, box, Num, addO, addS, fresh, F, fEnd, fLeaf, fBox, fRef, fSym, fSymref, fIv, trees, boxesOf, symsOf}
+use Rattle.lists.specs.Lists.{At, NotIn, Distinct, distinct-snoc, PW, pw-snoc, pw-at, pw-at′, at-snoc, at-snoc-inv, at-app, at-lt, len-snoc, apart}
+use Rattle.graph.specs.Forest.{Node, leaf, sym, box, Num, addO, addS, fresh, F, fEnd, fLeaf, fBox, fRef, fSym, fSymref, trees, boxesOf, symsOf}
 
 pub record Dist (σ : Num) : Type 0 where
   pub dob : Distinct (σ .objs)

@@ -10,7 +10,8 @@ use lib.Dec.{eqb}
 use lib.ListN.{length, getElem?, set}
 use native.Mathlib.Omega.{arith}
 use native.Mathlib.Decide.{ℕ-discrete}
-use Rattle.graph.specs.Lists.{At, NotIn, Distinct, Below, yes-eqb, no-eqb, apart}
+use borrow.Author.Tests.{eq-eqb, ne-eqb}
+use Rattle.lists.specs.Lists.{At, NotIn, Distinct, Below, apart}
 
 abbrev pub sumTo : (ℕ → ℕ) → ℕ → ℕ
 sumTo w zero = 0
@@ -66,11 +67,11 @@ less w x y = pickn (eqb x y) (w y)
 
 less-same : (w : ℕ → ℕ) (x : ℕ) → less w x x ≡ 0
 unfolding less pickn
-less-same w x = rw (yes-eqb x)
+less-same w x = rw (eq-eqb x x refl)
 
 less-other : (w : ℕ → ℕ) (x y : ℕ) → x ≢ y → less w x y ≡ w y
 unfolding less pickn
-less-other w x y n = rw (no-eqb x y n)
+less-other w x y n = rw (ne-eqb x y n)
 
 sumL-less : (w : ℕ → ℕ) (x : ℕ) (l : List ℕ) → NotIn x l → sumL w l ≡ sumL (less w x) l
 sumL-less w x [] n = refl

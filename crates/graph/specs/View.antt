@@ -1,11 +1,14 @@
 -- An arena's rows as nodes of a graph.
-use Prim.Native.Nat.{ℕ}
+use Prim.Native.Nat.{ℕ, _<_}
+use mathlib.Core.Path.{_≡_}
 use mathlib.Core.Bool.{true, false}
-use mathlib.Core.List.{List, [], _∷_, map}
+use mathlib.Core.List.{List, map}
+use lib.ListN.{length}
 use Rattle.definition.specs.Node.{Row, nil, bool, fixnum, symbol, array, hash, object, string, user}
-use Rattle.definition.specs.Arena.{Arena, range}
+use Rattle.definition.specs.Arena.{Arena, node, range}
 use Rattle.definition.specs.Graph.{header, links}
 use Rattle.definition.specs.Load.{State}
+use Rattle.lists.specs.Lists.{At, at-lt, getD-at, at-getD, map-at, map-at-inv}
 use Rattle.graph.specs.Forest.{Node, leaf, sym, box}
 use Rattle.graph.specs.Build.{St}
 
@@ -31,3 +34,28 @@ arena-of s h = record { nodes = s .nodes; references = s .references; bytes = s 
 
 unfoldable pub state-seen : State → St
 state-seen s = record { nodes = seen (arena-of s 0); objs = s .objects; syms = s .symbols }
+
+-- ---- the node at a place
+
+pub node-at : (A : Arena) (i : ℕ) (r : Row) → At (A .nodes) i r → node A i ≡ r
+unfolding node
+node-at A i r e = getD-at (A .nodes) i nil r e
+
+pub at-node : (A : Arena) (i : ℕ) → i < length (A .nodes) → At (A .nodes) i (node A i)
+unfolding node
+at-node A i h = at-getD (A .nodes) i nil h
+
+pub see-at : (A : Arena) (i : ℕ) (r : Row) → At (A .nodes) i r → At (seen A) i (see A r)
+unfolding seen
+see-at A i r e = map-at (see A) (A .nodes) i r e
+
+-- what is seen at a place is the node there
+pub at-see : (A : Arena) (i : ℕ) (n : Node) → At (seen A) i n → (see A (node A i) ≡ n) × (i < length (A .nodes))
+unfolding seen
+at-see A i n e =
+    let (r, a, q) = map-at-inv (see A) (A .nodes) i n e in
+    (rw (node-at A i r a) q, at-lt (A .nodes) i r a)
+
+-- node c is a symbol
+abbrev pub Name : Arena → ℕ → Type 0
+Name A c = (s : ℕ) × (l : ℕ) × At (A .nodes) c (symbol s l)

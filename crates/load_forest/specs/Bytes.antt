@@ -4,35 +4,32 @@ use mathlib.Core.Path.{_≡_, refl, ap}
 use mathlib.Core.Path.{sym as psym, _∙_}
 use mathlib.Core.Bool.{Bool, true, false}
 use mathlib.Core.Logic.{_⊎_, inl, inr, _≢_}
-use mathlib.Core.List.{List, [], _∷_, _++_}
-use lib.Dec.{leb, eqb, nleb→lt}
-use lib.ListN.{length, getD, drop, length-drop}
-use lib.Seq.{length-take-le}
+use mathlib.Core.List.{List, [], _∷_}
+use lib.Dec.{leb, eqb}
+use lib.ListN.{length, getD}
 use native.Mathlib.Omega.{arith}
 use native.Mathlib.Nat.{mod-lt, pow-suc, mul-assoc}
 use native.Mathlib.Bridge.{le-by-compare, IsLe}
+use borrow.Author.Tests.{leb-true, leb-false}
 use Rattle.definition.specs.Run.{ok, pick, pure, _>>=_}
 use Rattle.definition.specs.Integer.{Form, value as form-value, data-bytes, form, little}
 use Rattle.definition.specs.Node.{Row, nil, fixnum, symbol}
 use Rattle.definition.specs.Arena.{range}
 use Rattle.definition.specs.Load as L
 use Rattle.definition.specs.Load.{State, Room, at-set, begin, load}
-use Rattle.graph.specs.Lists.{At, at-snoc-inv, at-set-inv, apart}
-use Rattle.load_forest.specs.Views.{with-node, with-symbol, with-object-node, with-bytes, with-word, with-row, range-at, list-length}
-use Rattle.load_forest.specs.Trace.{Mode, Part, Plain, plain-nil, plain-bool, plain-fixnum, Listed, is-array, is-hash, Varied, varied-string, varied-user, with-room, Trace, reading, reading-after, plain, known, new, symbol-link, object-link, list, hash-default, object-pairs, string-bytes, user-bytes, variables, no-elements, element, no-pairs, pair}
-use Rattle.load_forest.specs.Readers.{load-traced, read-byte-then, read-bytes-then, at-getD, most-of}
+use Rattle.lists.specs.Lists.{At, at-snoc-inv, at-set-inv, apart, at-getD, Below, below-join}
+use Rattle.lists.specs.Ranges.{range-at, length-range-in}
+use Rattle.load_forest.specs.Trace.{Mode, Part, Plain, plain-nil, plain-bool, plain-fixnum, Trace, reading, reading-after, plain, known, new, symbol-link, object-link, list, hash-default, object-pairs, string-bytes, user-bytes, variables, no-elements, element, no-pairs, pair}
+use Rattle.load_forest.specs.Readers.{load-traced, read-byte-then, read-bytes-then}
+use Rattle.states.specs.States.{with-node, with-symbol, with-object-node, with-bytes, with-word, with-row, with-room}
+use Rattle.states.specs.Rows.{list-length, Listed, is-array, is-hash, Varied, varied-string, varied-user}
 
 -- every entry is a byte
 abbrev pub AreBytes : List ℕ → Type 0
-AreBytes l = (k v : ℕ) → At l k v → v < 256
+AreBytes l = Below 256 l
 
 pub part-bytes : (input b : List ℕ) → AreBytes input → Part input b → AreBytes b
 part-bytes input b h (i, n, e) k v a = h (i + k) v (range-at input n i k v (rw e at a))
-
-bytes-app : (l m : List ℕ) → AreBytes l → AreBytes m → AreBytes (l ++ m)
-bytes-app [] m h g k v a = g k v a
-bytes-app (x ∷ l) m h g zero v a = h 0 v a
-bytes-app (x ∷ l) m h g (suc k) v a = bytes-app l m (λ j u b. h (suc j) u b) g k v a
 
 -- ---- the integer
 
@@ -73,21 +70,14 @@ unfolding pick
 choose true f g h k = h refl
 choose false f g h k = k refl
 
-more : (n m : ℕ) → leb n m ≡ false → m < n
-more n m e = nleb→lt n m (rw e tt)
-
 form-fits : (b : ℕ) → b < 256 → Fits (form b)
 unfolding form Fits
 form-fits b h =
     choose (eqb b 0) _ _ (λ e. omega arith)
-    (λ e₀. choose (leb b 4) _ _ (λ e. few-fit b (most-of b 4 e))
+    (λ e₀. choose (leb b 4) _ _ (λ e. few-fit b (leb-true b 4 e))
     (λ e₁. choose (leb b 127) _ _ (λ e. omega arith)
     (λ e₂. choose (leb b 251) _ _ (λ e. mod-lt (2 ^ 32 + b - 251) (omega arith))
-    (λ e₃. let l = more b 251 e₃ in ones-fit (b - 252) b (omega arith) (omega arith)))))
-
-pub length-range : (l : List ℕ) (a n : ℕ) → n ≤ length l - a → length (range l a n) ≡ n
-unfolding range
-length-range l a n h = length-take-le n (drop a l) (rw (length-drop a l) h)
+    (λ e₃. let l = leb-false b 251 e₃ in ones-fit (b - 252) b (omega arith) (omega arith)))))
 
 form-below : (input : List ℕ) → AreBytes input → (f : Form) → Fits f → (s t : State) (w : ℕ) → L.read-form input f s ≡ ok w t → w < 4294967296
 unfolding L.read-form _>>=_ pure Fits
@@ -96,14 +86,14 @@ form-below input h (data-bytes n above) g s t w e =
     read-bytes-then input n s _ w t e λ l e₁.
     let bs = range input (s .at) n in
     let z : little bs above ≡ w = cc in
-    let q : little bs above < (above + 1) * 256 ^ n = rw (length-range input (s .at) n l) at (little-below bs above (part-bytes input bs h (s .at, n, refl))) in
+    let q : little bs above < (above + 1) * 256 ^ n = rw (length-range-in input (s .at) n l) at (little-below bs above (part-bytes input bs h (s .at, n, refl))) in
     omega arith
 
 pub integer-below : (input : List ℕ) → AreBytes input → (s t : State) (w : ℕ) → L.read-integer input s ≡ ok w t → w < 4294967296
 unfolding L.read-integer _>>=_
 integer-below input h s t w e =
     read-byte-then input s _ w t e λ l e₁.
-    form-below input h (form (getD input (s .at) 0)) (form-fits _ (h (s .at) (getD input (s .at) 0) (at-getD input (s .at) l))) (at-set (s .at + 1) s) t w e₁
+    form-below input h (form (getD input (s .at) 0)) (form-fits _ (h (s .at) (getD input (s .at) 0) (at-getD input (s .at) 0 l))) (at-set (s .at + 1) s) t w e₁
 
 -- ---- the arena
 
@@ -115,7 +105,7 @@ small-same : (s t : State) → t .nodes ≡ s .nodes → t .bytes ≡ s .bytes �
 small-same s t n b x = record { fixnums = λ i w a. x .fixnums i w (rw n at a); bytes = λ k v a. x .bytes k v (rw b at a) }
 
 small-bytes : (b : List ℕ) (s : State) → AreBytes b → Small s → Small (with-bytes b s)
-small-bytes b s h x = record { fixnums = x .fixnums; bytes = bytes-app (s .bytes) b (x .bytes) h }
+small-bytes b s h x = record { fixnums = x .fixnums; bytes = below-join 256 (s .bytes) b (x .bytes) h }
 
 small-node : (r : Row) (s : State) → ((w : ℕ) → r ≡ fixnum w → w < 4294967296) → Small s → Small (with-node r s)
 small-node r s h x = record { fixnums = λ i w a. go i w (at-snoc-inv (s .nodes) r i (fixnum w) a); bytes = x .bytes }

@@ -1,28 +1,29 @@
 -- A call of load that was accepted: its answer, and what the tables left hold.
-use Prim.Native.Nat.{ℕ, zero, suc, _+_, _-_, _*_, _/_, _%_, _≤_, _<_}
+use Prim.Native.Nat.{ℕ, zero, suc, _+_, _-_, _/_, _%_, _≤_, _<_}
 use mathlib.Core.Path.{_≡_, refl, ap}
 use mathlib.Core.Path.{_∙_}
-use mathlib.Core.Bool.{Bool, true, false, not, _&&_, _||_}
+use mathlib.Core.Bool.{Bool, true, false, not, _||_}
 use mathlib.Core.Logic.{_≢_}
 use mathlib.Core.Option.{none}
 use mathlib.Core.List.{List, [], _∷_, _++_, append-assoc}
-use lib.Dec.{ltb, nltb→le}
 use lib.ListN.{length, take, drop, replicate, length-append, length-replicate}
-use lib.Seq.{take-append-seam}
+use lib.Seq.{take-append-seam, take-at, drop-at}
 use native.Mathlib.Omega.{arith}
+use borrow.Author.Tests.{eqb-true, eqb-false, ltb-false, not-false}
 use Rattle.definition.specs.Run.{Outcome, ok, refused, pick}
 use Rattle.definition.specs.Node.{Row, nil, bool, fixnum, symbol, array, hash, object, string, user, absent, present, width, words, flat, vars, row-of, row, rows, is-row}
-use Rattle.definition.specs.Arena.{Tables, Arena, arena, too-long, bad-nodes, lowest, padded, zeroed, row-right, node-right, counts-fit, faulty, fault-if, fault}
+use Rattle.definition.specs.Arena.{Tables, Arena, arena, too-long, bad-nodes, lowest, padded, zeroed, row-right, node-right, counts-fit, faulty, fault}
 use Rattle.definition.specs.Load.{State, Room, Lists, lists, room-of, load, load-wrong, LoadCall, counts, load-done, load-if, load-call, at-set}
 use Rattle.definition.specs.declared.Answer.the-variants.{Accepted, Refused}
 use Rattle.definition.specs.declared.Counts.{Counts}
 use Rattle.definition.specs.declared.Refusal.{Refusal}
-use Rattle.graph.specs.Lists.{At, apart, eqb-yes, eqb-no}
+use Rattle.lists.specs.Lists.{At, apart}
+use Rattle.lists.specs.Words.{equal-self, length-words, length-flat}
+use Rattle.lists.specs.Tables.{counts-fit-yes, fault-none}
 use Rattle.graph.specs.View.{arena-of}
 use Rattle.load_forest.specs.Trace.{Mode, Trace, reading, reading-after, plain, known, new, symbol-link, object-link, list, hash-default, object-pairs, string-bytes, user-bytes, variables, no-elements, element, no-pairs, pair}
-use Rattle.load_forest.specs.Symbols.{yes-equal}
 use Rattle.load_forest.specs.Readers.{load-traced}
-use Rattle.load_forest.specs.Right.{LoadRight, load-right, yes-leb, yes-ltb}
+use Rattle.load_forest.specs.Right.{LoadRight, load-right}
 use Rattle.load_forest.specs.Space.{Within, load-within}
 
 -- ---- a row's words say that row
@@ -43,53 +44,14 @@ row-words-back (user s l c absent) = refl
 row-words-back (user s l c (present p n)) = refl
 
 take-words : (r : Row) (x : List ℕ) → take width (words r ++ x) ≡ words r
-unfolding words
-take-words nil x = refl
-take-words (bool true) x = refl
-take-words (bool false) x = refl
-take-words (fixnum w) x = refl
-take-words (symbol s l) x = refl
-take-words (array s n) x = refl
-take-words (hash s n d) x = refl
-take-words (object s n c) x = refl
-take-words (string s l absent) x = refl
-take-words (string s l (present p n)) x = refl
-take-words (user s l c absent) x = refl
-take-words (user s l c (present p n)) x = refl
+take-words r x = take-at (words r) x 7 (length-words r)
 
 drop-words : (r : Row) (x : List ℕ) → drop width (words r ++ x) ≡ x
-unfolding words
-drop-words nil x = refl
-drop-words (bool true) x = refl
-drop-words (bool false) x = refl
-drop-words (fixnum w) x = refl
-drop-words (symbol s l) x = refl
-drop-words (array s n) x = refl
-drop-words (hash s n d) x = refl
-drop-words (object s n c) x = refl
-drop-words (string s l absent) x = refl
-drop-words (string s l (present p n)) x = refl
-drop-words (user s l c absent) x = refl
-drop-words (user s l c (present p n)) x = refl
-
-length-words : (r : Row) → length (words r) ≡ width
-unfolding words
-length-words nil = refl
-length-words (bool true) = refl
-length-words (bool false) = refl
-length-words (fixnum w) = refl
-length-words (symbol s l) = refl
-length-words (array s n) = refl
-length-words (hash s n d) = refl
-length-words (object s n c) = refl
-length-words (string s l absent) = refl
-length-words (string s l (present p n)) = refl
-length-words (user s l c absent) = refl
-length-words (user s l c (present p n)) = refl
+drop-words r x = drop-at (words r) x 7 (length-words r)
 
 pub is-row-words : (r : Row) → is-row (words r) ≡ true
 unfolding is-row
-is-row-words r = rw (row-words-back r) (yes-equal (words r))
+is-row-words r = rw (row-words-back r) (equal-self (words r))
 
 -- the rows laid out, and whatever comes after them
 pub rows-flat : (rs : List Row) (x : List ℕ) → rows (length rs) (flat rs ++ x) ≡ rs
@@ -97,11 +59,6 @@ unfolding rows flat
 rows-flat [] x = refl
 rows-flat (r ∷ rs) x =
     rw (append-assoc (words r) (flat rs) x, take-words r (flat rs ++ x), drop-words r (flat rs ++ x), row-words-back r, rows-flat rs x)
-
-pub length-flat : (rs : List Row) → length (flat rs) ≡ length rs * 7
-unfolding flat
-length-flat [] = refl
-length-flat (r ∷ rs) = omega (arith, length-append (words r) (flat rs), length-words r, length-flat rs)
 
 -- the test of nodes, over rows laid out
 faulty-none : (A : Arena) (rs : List Row) (i : ℕ) (x : List ℕ) → ((k : ℕ) (r : Row) → At rs k r → row-right A r ≡ true) → faulty A (length rs) i (flat rs ++ x) ≡ none
@@ -168,13 +125,6 @@ pub or-none : (a b : Bool) → a || b ≡ false → (a ≡ false) × (b ≡ fals
 or-none false b e = (refl, e)
 or-none true b e = apart (cc)
 
-pub not-none : (a : Bool) → not a ≡ false → a ≡ true
-not-none true e = refl
-not-none false e = apart (cc)
-
-most-none : (n m : ℕ) → ltb n m ≡ false → m ≤ n
-most-none n m e = nltb→le n m (rw e tt)
-
 pub lowest-none : (k : ℕ) (b : Bool) (ts : List (ℕ × Bool)) → lowest ((suc k, b) ∷ ts) ≡ 0 → (b ≡ false) × (lowest ts ≡ 0)
 unfolding lowest pick
 lowest-none k false ts e = (refl, e)
@@ -194,15 +144,15 @@ pub record Allowed (input : List ℕ) (T : Lists) (limit : ℕ) : Type 0 where
 
 pub short : (n : ℕ) → too-long n ≡ false → n ≤ 2147483647
 unfolding too-long
-short n e = most-none 2147483647 n e
+short n e = ltb-false 2147483647 n e
 
 pub nodes-allowed : (n : ℕ) → bad-nodes n ≡ false → (n ≤ 2147483647) × (1 ≤ n / 7) × (n % 7 ≡ 0)
 unfolding bad-nodes
 nodes-allowed n e =
     let (x, y) = or-none _ _ e in
     let (u, v) = or-none _ _ x in
-    let z : n % 7 ≡ 0 = eqb-yes (n % 7) 0 (not-none _ y) in
-    let w : n ≢ 0 = eqb-no n 0 v in
+    let z : n % 7 ≡ 0 = eqb-true (n % 7) 0 (not-false _ y) in
+    let w : n ≢ 0 = eqb-false n 0 v in
     (short n u, omega (arith, w), z)
 
 pub load-allowed : (input : List ℕ) (T : Lists) (limit : ℕ) → load-wrong input T limit ≡ 0 → Allowed input T limit
@@ -224,7 +174,7 @@ load-allowed input T limit e =
       bytes-most = short _ b₃;
       symbols-most = short _ b₄;
       objects-most = short _ b₅;
-      limit-most = most-none 128 limit b₇;
+      limit-most = ltb-false 128 limit b₇;
       input-most = short _ b₈;
     }
 
@@ -319,36 +269,22 @@ load-lengths input T limit h s w e =
       bytes-length = length-padded (T .bytes) (s .bytes) b;
     }
 
-pub five : (a b c d e : Bool) → a ≡ true → b ≡ true → c ≡ true → d ≡ true → e ≡ true → a && b && c && d && e ≡ true
-five a b c d e p q r s t = rw (p, q, r, s, t)
-
 counts-left-fit : (input : List ℕ) (T : Lists) (limit h : ℕ) (s : State) → load-wrong input T limit ≡ 0 → load input (room-of T) limit ≡ ok h s → counts-fit (tables-left T s) (counts-left s h) ≡ true
-unfolding counts-fit
 counts-left-fit input T limit h s w e =
     let a = load-allowed input T limit w in
     let (n, r, b) = room-within T s (load-within input (room-of T) limit h s (some-nodes T (a .nodes-some)) e) in
     let l = load-lengths input T limit h s w e in
     let o : h < length (s .nodes) = load-right input (room-of T) limit h s e .root-below in
-    five _ _ _ _ _
-    (yes-leb 1 (length (s .nodes)) (omega arith))
-    (rw (l .nodes-length) (yes-leb (length (s .nodes)) (length (T .nodes) / 7) n))
-    (rw (l .references-length) (yes-leb (length (s .references)) (length (T .references)) r))
-    (rw (l .bytes-length) (yes-leb (length (s .bytes)) (length (T .bytes)) b))
-    (yes-ltb h (length (s .nodes)) o)
+    counts-fit-yes (tables-left T s) (counts-left s h) (omega arith) (rw (l .nodes-length) n) (rw (l .references-length) r) (rw (l .bytes-length) b) o
 
 faulty-left : (T : Lists) (s : State) (h : ℕ) → LoadRight (arena-of s h) → faulty (arena (tables-left T s) (counts-left s h)) (length (s .nodes)) 0 (padded (T .nodes) (flat (s .nodes))) ≡ none
 unfolding padded
 faulty-left T s h x = rw (arena-left T s h) (faulty-none (arena-of s h) (s .nodes) 0 _ (x .rows-right))
 
-fault-if-true : (b : Bool) (T : Tables) (c : Counts) → b ≡ true → faulty (arena T c) (c .nodes) 0 (T .nodes) ≡ none → fault-if b T c ≡ none
-unfolding fault-if
-fault-if-true b T c p q = rw p q
-
 -- and they are well formed
 pub load-well-formed : (input : List ℕ) (T : Lists) (limit h : ℕ) (s : State) → load-wrong input T limit ≡ 0 → load input (room-of T) limit ≡ ok h s → fault (tables-left T s) (counts-left s h) ≡ none
-unfolding fault
 load-well-formed input T limit h s w e =
-    fault-if-true (counts-fit (tables-left T s) (counts-left s h)) (tables-left T s) (counts-left s h) (counts-left-fit input T limit h s w e) (faulty-left T s h (load-right input (room-of T) limit h s e))
+    fault-none (tables-left T s) (counts-left s h) (counts-left-fit input T limit h s w e) (faulty-left T s h (load-right input (room-of T) limit h s e))
 
 -- ---- the same of the call itself
 

@@ -1,19 +1,19 @@
 -- What a trace leaves alone, that ranges stay inside, and that the words reserved for members hold them.
 use Prim.Native.Nat.{ℕ, suc, _+_, _*_, _≤_}
-use mathlib.Core.Path.{_≡_, refl, subst}
+use mathlib.Core.Path.{_≡_, subst}
 use mathlib.Core.Path.{sym as psym}
-use mathlib.Core.Logic.{inl, inr}
+use mathlib.Core.Logic.{inl}
 use mathlib.Core.List.{List, [], _∷_}
 use lib.ListN.{length, set, replicate, length-append, length-set, length-replicate}
 use native.Mathlib.Omega.{arith}
-use Rattle.definition.specs.Node.{Row, nil, symbol, hash, object, string, user, absent}
+use Rattle.definition.specs.Node.{Row, nil, hash, object, string, user, absent}
 use Rattle.definition.specs.Arena.{range}
-use Rattle.definition.specs.Run.{ok}
-use Rattle.definition.specs.Load.{State, Room, at-set, read-value, read-symbol-like}
-use Rattle.graph.specs.Lists.{At}
-use Rattle.load_forest.specs.Views.{bytes-start, bytes-length, list-start, list-length, vars-start, vars-length, Inside, Ranged, Free, Above, Frame, with-node, with-symbol, with-object-node, with-bytes, with-word, with-row, ranged-up, ranged-node, ranged-object-node, ranged-row, ranged-bytes, ranged-words, ranged-word, inside-nil, inside-bool, inside-fixnum, frame-refl, frame-trans, frame-below, frame-at-set, frame-symbol, frame-bytes, frame-words, frame-word, frame-node, frame-object-node, frame-row, free-new, free-part, range-none, range-written}
-use Rattle.load_forest.specs.Trace.{Mode, value, name, elements, pairs, One, Plain, plain-nil, plain-bool, plain-fixnum, Listed, is-array, is-hash, Varied, varied-string, varied-user, with-room, Trace, reading, reading-after, plain, known, new, symbol-link, object-link, list, hash-default, object-pairs, string-bytes, user-bytes, variables, no-elements, element, no-pairs, pair}
-use Rattle.load_forest.specs.Readers.{value-traced, name-traced}
+use Rattle.definition.specs.Load.{State, Room, at-set}
+use Rattle.lists.specs.Lists.{At}
+use Rattle.lists.specs.Ranges.{range-none}
+use Rattle.load_forest.specs.Trace.{Mode, value, name, elements, pairs, One, Plain, plain-nil, plain-bool, plain-fixnum, Trace, reading, reading-after, plain, known, new, symbol-link, object-link, list, hash-default, object-pairs, string-bytes, user-bytes, variables, no-elements, element, no-pairs, pair}
+use Rattle.states.specs.Rows.{list-length, Listed, Varied}
+use Rattle.states.specs.States.{ranged-stored, frame-stored, Inside, Ranged, Free, Above, Frame, with-node, with-symbol, with-object-node, with-bytes, with-word, with-row, ranged-node, ranged-row, ranged-words, ranged-word, inside-nil, inside-bool, inside-fixnum, frame-refl, frame-trans, frame-below, frame-at-set, frame-symbol, frame-words, frame-word, frame-node, frame-row, free-new, free-part, range-written, with-room, inside-string, inside-user, inside-listed, inside-hash, inside-object, inside-varied, opened-ranged, above-nil, above-string, above-user, above-listed, above-hash, above-object, above-varied, with-new-symbol, ranged-new-symbol, above-bool, above-fixnum, frame-new-symbol, frame-opened}
 
 -- the word from which on a read may write, where n words are used so far
 abbrev pub from : Mode → ℕ → ℕ
@@ -74,79 +74,14 @@ inside-plain s r (plain-bool b) = inside-bool b s
 inside-plain s r (plain-fixnum w u t e) = inside-fixnum w s
 
 above-plain : {input : List ℕ} (p : ℕ) (r : Row) → Plain input r → Above p r
-unfolding list-start list-length
-above-plain p r plain-nil = inl refl
-above-plain p r (plain-bool b) = inl refl
-above-plain p r (plain-fixnum w u t e) = inl refl
-
-above-nil : (p : ℕ) → Above p nil
-unfolding list-start list-length
-above-nil p = inl refl
-
-above-symbol : (p a l : ℕ) → Above p (symbol a l)
-unfolding list-start list-length
-above-symbol p a l = inl refl
-
-above-string : (p a l : ℕ) → Above p (string a l absent)
-unfolding list-start list-length vars-start vars-length
-above-string p a l = inl refl
-
-above-user : (p a l c : ℕ) → Above p (user a l c absent)
-unfolding list-start list-length vars-start vars-length
-above-user p a l c = inl refl
-
-inside-symbol : (s : State) (a l : ℕ) → a + l ≤ length (s .bytes) → Inside s (symbol a l)
-unfolding bytes-start bytes-length list-start list-length
-inside-symbol s a l h = record { bytes-inside = h; list-inside = omega arith }
-
-inside-string : (s : State) (a l : ℕ) → a + l ≤ length (s .bytes) → Inside s (string a l absent)
-unfolding bytes-start bytes-length list-start list-length vars-start vars-length
-inside-string s a l h = record { bytes-inside = h; list-inside = omega arith }
-
-inside-user : (s : State) (a l c : ℕ) → a + l ≤ length (s .bytes) → Inside s (user a l c absent)
-unfolding bytes-start bytes-length list-start list-length vars-start vars-length
-inside-user s a l c h = record { bytes-inside = h; list-inside = omega arith }
-
-inside-listed : {p : ℕ} (s : State) (r : Row) → Listed p r → p + list-length r ≤ length (s .references) → Inside s r
-unfolding bytes-start bytes-length list-start list-length
-inside-listed s r (is-array n) h = record { bytes-inside = omega arith; list-inside = h }
-inside-listed s r (is-hash n) h = record { bytes-inside = omega arith; list-inside = h }
-
-above-listed : {p : ℕ} (q : ℕ) (r : Row) → q ≤ p → Listed p r → Above q r
-unfolding list-start
-above-listed q r h (is-array n) = inr h
-above-listed q r h (is-hash n) = inr h
-
-inside-hash : (s : State) (p n d : ℕ) → p + n * 2 ≤ length (s .references) → Inside s (hash p n d)
-unfolding bytes-start bytes-length list-start list-length
-inside-hash s p n d h = record { bytes-inside = omega arith; list-inside = h }
-
-above-hash : (q p n d : ℕ) → q ≤ p → Above q (hash p n d)
-unfolding list-start
-above-hash q p n d h = inr h
-
-inside-object : (s : State) (p n c : ℕ) → p + n * 2 ≤ length (s .references) → Inside s (object p n c)
-unfolding bytes-start bytes-length list-start list-length
-inside-object s p n c h = record { bytes-inside = omega arith; list-inside = h }
-
-above-object : (q p n c : ℕ) → q ≤ p → Above q (object p n c)
-unfolding list-start
-above-object q p n c h = inr h
-
-inside-varied : {p n : ℕ} (s : State) (r r′ : Row) → Varied p n r r′ → p + n * 2 ≤ length (s .references) → Inside s r → Inside s r′
-unfolding bytes-start bytes-length list-start list-length vars-start vars-length
-inside-varied s r r′ varied-string h x = record { bytes-inside = x .bytes-inside; list-inside = h }
-inside-varied s r r′ varied-user h x = record { bytes-inside = x .bytes-inside; list-inside = h }
-
-above-varied : {p n : ℕ} (q : ℕ) (r r′ : Row) → q ≤ p → Varied p n r r′ → Above q r′
-unfolding list-start vars-start
-above-varied q r r′ h varied-string = inr h
-above-varied q r r′ h varied-user = inr h
+above-plain p r plain-nil = above-nil p
+above-plain p r (plain-bool b) = above-bool p b
+above-plain p r (plain-fixnum w u t e) = above-fixnum p w
 
 -- ---- the steps
 
 pub ready-reading : (m : Mode) (s : State) (k : ℕ) → Ready m s → Ready m (at-set k s)
-ready-reading m s k h = record { ranged = ranged-up s (at-set k s) refl (omega arith) (omega arith) (h .ranged); fits = h .fits; free = h .free }
+ready-reading m s k h = record { ranged = h .ranged; fits = h .fits; free = h .free }
 
 left-reading : (m : Mode) (s t : State) (vs : List ℕ) (k : ℕ) → Left m (at-set k s) vs t → Left m s vs t
 left-reading m s t vs k h = record { ranged = h .ranged; frame = frame-trans (frame-at-set (from m (length (s .references))) k s) (h .frame); words = h .words }
@@ -159,7 +94,7 @@ words-at-set (pairs n i) t vs k h = h
 
 left-reading-after : (m : Mode) (s t : State) (vs : List ℕ) (k : ℕ) → Left m s vs t → Left m s vs (at-set k t)
 left-reading-after m s t vs k h = record {
-  ranged = ranged-up t (at-set k t) refl (omega arith) (omega arith) (h .ranged);
+  ranged = h .ranged;
   frame = frame-trans (h .frame) (frame-at-set (from m (length (s .references))) k t);
   words = words-at-set m t vs k (h .words);
 }
@@ -175,32 +110,24 @@ one-words (pairs n i) o t vs = absurd o
 
 left-known : (m : Mode) → One m → (s : State) (h : ℕ) (vs : List ℕ) → Ready m s → Left m s vs (with-symbol h s)
 left-known m o s h vs x = record {
-  ranged = ranged-up s (with-symbol h s) refl (omega arith) (omega arith) (x .ranged);
+  ranged = x .ranged;
   frame = frame-symbol _ h s;
   words = one-words m o (with-symbol h s) vs;
 }
 
-left-new : (m : Mode) → One m → (s : State) (h : ℕ) (b vs : List ℕ) → Ready m s → Left m s vs (with-symbol h (with-node (symbol (length (s .bytes)) (length b)) (with-bytes b s)))
-left-new m o s h b vs x =
-    let r = symbol (length (s .bytes)) (length b) in
-    let p = from m (length (s .references)) in
-    let in₁ : Inside (with-bytes b s) r = inside-symbol (with-bytes b s) (length (s .bytes)) (length b) (omega (arith, length-append (s .bytes) b)) in
-    let t = with-node r (with-bytes b s) in
-    record {
-      ranged = ranged-up t (with-symbol h t) refl (omega arith) (omega arith) (ranged-node r (with-bytes b s) in₁ (ranged-bytes b s (x .ranged)));
-      frame = frame-trans (frame-bytes p b s) (frame-trans (frame-node p r (with-bytes b s) (above-symbol p _ _)) (frame-symbol p h t));
-      words = one-words m o (with-symbol h t) vs;
-    }
+left-new : (m : Mode) → One m → (s : State) (b vs : List ℕ) → Ready m s → Left m s vs (with-new-symbol b s)
+left-new m o s b vs x = record {
+  ranged = ranged-new-symbol b s (x .ranged);
+  frame = frame-new-symbol _ b s;
+  words = one-words m o (with-new-symbol b s) vs;
+}
 
 left-same : (m : Mode) → One m → (s : State) (vs : List ℕ) → Ready m s → Left m s vs s
 left-same m o s vs x = record { ranged = x .ranged; frame = frame-refl _ s; words = one-words m o s vs }
 
 -- a node opened as nil, and words reserved
-pub opened-ranged : (s : State) → Ranged s → Ranged (with-object-node nil s)
-opened-ranged s h = ranged-object-node nil s (inside-nil s) h
-
 opened-frame : (n : ℕ) (s : State) → Frame (length (s .references)) s (with-room n (with-object-node nil s))
-opened-frame n s = frame-trans (frame-object-node _ nil s (above-nil _)) (frame-words _ (replicate n 0) (with-object-node nil s))
+opened-frame n s = frame-trans (frame-opened _ s) (frame-words _ (replicate n 0) (with-object-node nil s))
 
 pub ready-opened : (n : ℕ) (s : State) → Ranged s → Ready (elements n (length (s .references))) (with-room n (with-object-node nil s))
 ready-opened n s h = ready-elements n (with-object-node nil s) (opened-ranged s h)
@@ -243,7 +170,7 @@ left-object : (s t u : State) (n c : ℕ) (ns ms vs : List ℕ) (h : ℕ) → Re
 left-object s t u n c ns ms vs h x y z =
     let p = length (s .references) in
     let g : p ≤ length (t .references) = y .frame .references-grow in
-    let f : Frame p s u = frame-trans (frame-trans (frame-object-node p nil s (above-nil p)) (y .frame)) (paired-frame p n t u ms g z) in
+    let f : Frame p s u = frame-trans (frame-trans (frame-opened p s) (y .frame)) (paired-frame p n t u ms g z) in
     let r = object (length (t .references)) n c in
     record {
       ranged = ranged-row h r u (inside-object u (length (t .references)) n c (paired-fits n t u ms z)) (z .ranged);
@@ -252,24 +179,18 @@ left-object s t u n c ns ms vs h x y z =
     }
 
 left-string : (s : State) (b vs : List ℕ) → Ready value s → Left value s vs (with-object-node (string (length (s .bytes)) (length b) absent) (with-bytes b s))
-left-string s b vs x =
-    let r = string (length (s .bytes)) (length b) absent in
-    let p = length (s .references) in
-    record {
-      ranged = ranged-object-node r (with-bytes b s) (inside-string (with-bytes b s) (length (s .bytes)) (length b) (omega (arith, length-append (s .bytes) b))) (ranged-bytes b s (x .ranged));
-      frame = frame-trans (frame-bytes p b s) (frame-object-node p r (with-bytes b s) (above-string p _ _));
-      words = tt;
-    }
+left-string s b vs x = record {
+  ranged = ranged-stored _ b s (inside-string (with-bytes b s) (length (s .bytes)) (length b) (omega (arith, length-append (s .bytes) b))) (x .ranged);
+  frame = frame-stored _ _ b s (above-string _ (length (s .bytes)) (length b));
+  words = tt;
+}
 
 left-user : (s t : State) (c : ℕ) (b ns vs : List ℕ) → Left name s ns t → Left value s vs (with-object-node (user (length (t .bytes)) (length b) c absent) (with-bytes b t))
-left-user s t c b ns vs y =
-    let r = user (length (t .bytes)) (length b) c absent in
-    let p = length (s .references) in
-    record {
-      ranged = ranged-object-node r (with-bytes b t) (inside-user (with-bytes b t) (length (t .bytes)) (length b) c (omega (arith, length-append (t .bytes) b))) (ranged-bytes b t (y .ranged));
-      frame = frame-trans (y .frame) (frame-trans (frame-bytes p b t) (frame-object-node p r (with-bytes b t) (above-user p _ _ c)));
-      words = tt;
-    }
+left-user s t c b ns vs y = record {
+  ranged = ranged-stored _ b t (inside-user (with-bytes b t) (length (t .bytes)) (length b) c (omega (arith, length-append (t .bytes) b))) (y .ranged);
+  frame = frame-trans (y .frame) (frame-stored _ _ b t (above-user _ (length (t .bytes)) (length b) c));
+  words = tt;
+}
 
 left-variables : (s t u : State) (n h : ℕ) (r r′ : Row) (hs ms vs : List ℕ) → Left value s hs t → Left (pairs n (length (t .references))) (with-room (n * 2) t) ms u
     → At (u .nodes) h r → Varied (length (t .references)) n r r′ → Left value s vs (with-row h r′ u)
@@ -346,7 +267,7 @@ left {m = m} {s = s} {t = t} {vs = vs} (reading k a b x) h = left-reading m s t 
 left {m = m} {s = s} {vs = vs} (reading-after {t = t} k a b x) h = left-reading-after m s t vs k (left x h)
 left {s = s} {vs = vs} (plain r p l) h = left-plain s r vs p h
 left {m = m} {s = s} {vs = vs} (known b v o a l) h = left-known m o s v vs h
-left {m = m} {s = s} {vs = vs} (new b o n p l₁ l₂ l₃) h = left-new m o s (length (s .nodes)) b vs h
+left {m = m} {s = s} {vs = vs} (new b o n p l₁ l₂ l₃) h = left-new m o s b vs h
 left {m = m} {s = s} {vs = vs} (symbol-link i v o a) h = left-same m o s vs h
 left {m = m} {s = s} {vs = vs} (object-link i v a) h = left-same value tt s vs h
 left {s = s} {vs = vs} (list {t = t} {ms = ms} r q l₁ l₂ l₃ x) h = left-list s t r ms vs (length (s .nodes)) q h (left x (ready-opened (list-length r) s (h .ranged)))
@@ -370,10 +291,3 @@ left {s = s} (pair {t = t} {u = u} {w = w} {n = n} {i = i} {c = c} {v = v} {vs =
     let a = left x (ready-name s (h .ranged)) in
     let b = left y (ready-value (with-word i c t) (ready-after-name n i c s t (c ∷ []) h a .ranged)) in
     left-pair n i c v s t u w (c ∷ []) (v ∷ []) vs h a b (left z (ready-after-value n i c v s t u (c ∷ []) (v ∷ []) h a b))
-
--- an accepted read of a value or of a name
-pub value-left : (input : List ℕ) (room : Room) (limit levels : ℕ) (s t : State) (v : ℕ) → Ranged s → read-value input room limit levels s ≡ ok v t → Left value s (v ∷ []) t
-value-left input room limit levels s t v h e = left (value-traced input room limit levels s t v e) (ready-value s h)
-
-pub name-left : (input : List ℕ) (room : Room) (s t : State) (v : ℕ) → Ranged s → read-symbol-like input room s ≡ ok v t → Left name s (v ∷ []) t
-name-left input room s t v h e = left (name-traced input room s t v e) (ready-name s h)

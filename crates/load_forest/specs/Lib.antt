@@ -1,7 +1,5 @@
 -- What an accepted load did.
-pub mod Views
 pub mod Trace
-pub mod Symbols
 pub mod Readers
 pub mod Frames
 pub mod Sound

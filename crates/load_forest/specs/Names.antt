@@ -1,19 +1,14 @@
 -- A loaded arena has no two symbols of one name.
 use Prim.Native.Nat.{ℕ, zero, suc}
-use mathlib.Core.Path.{_≡_, refl}
+use mathlib.Core.Path.{_≡_}
 use mathlib.Core.List.{List}
 use Rattle.definition.specs.Run.{ok}
 use Rattle.definition.specs.Load.{State, Room, begin, load}
-use Rattle.graph.specs.Lists.{apart}
+use Rattle.lists.specs.Lists.{apart}
 use Rattle.graph.specs.Build.{Names, names}
 use Rattle.graph.specs.View.{see, seen, arena-of, state-seen}
-use Rattle.load_forest.specs.Views.{see-same, map-ext}
 use Rattle.load_forest.specs.Sound.{load-sound}
-
--- the root is no part of what is seen
-pub seen-root : (s : State) (h : ℕ) → seen (arena-of s h) ≡ state-seen s .nodes
-unfolding seen state-seen
-seen-root s h = map-ext (see (arena-of s h)) (see (arena-of s 0)) (s .nodes) (λ i r e. see-same (arena-of s 0) (arena-of s h) r refl refl)
+use Rattle.states.specs.States.{seen-root}
 
 -- at the beginning there is only nil
 begin-names : Names (state-seen begin .nodes)

@@ -5,9 +5,10 @@ use mathlib.Core.Path.{sym as psym, _∙_}
 use mathlib.Core.Bool.{Bool, true, false}
 use mathlib.Core.Option.{Option, none, some}
 use mathlib.Core.List.{List, [], _∷_}
-use lib.Dec.{ltb, leb, eqb, ltb→lt, leb→le}
+use lib.Dec.{eqb}
 use lib.ListN.{length, getD}
 use native.Mathlib.Omega.{arith}
+use borrow.Author.Tests.{ltb-true, leb-true}
 use Rattle.definition.specs.declared.Refusal.{Refusal}
 use Rattle.definition.specs.Run.{Outcome, ok, refused, pure, refuse, next, _>>=_, look, pick}
 use Rattle.definition.specs.Integer.{Form, value as form-value, data-bytes, form}
@@ -15,10 +16,11 @@ use Rattle.definition.specs.Node.{Row, nil, bool, fixnum, symbol, array, hash, 
 use Rattle.definition.specs.Arena.{range, find-symbol}
 use Rattle.definition.specs.Load as L
 use Rattle.definition.specs.Load.{State, Room, Reader, at-set, begin}
-use Rattle.graph.specs.Lists.{At, apart}
-use Rattle.load_forest.specs.Views.{list-length, with-node, with-object, with-symbol, with-object-node, with-bytes, with-word, with-row}
-use Rattle.load_forest.specs.Trace.{Mode, value, name, elements, pairs, One, Part, Plain, plain-nil, plain-bool, plain-fixnum, is-array, is-hash, Varied, varied-string, varied-user, with-room, Trace, reading, reading-after, plain, known, new, symbol-link, object-link, list, hash-default, object-pairs, string-bytes, user-bytes, variables, no-elements, element, no-pairs, pair}
-use Rattle.load_forest.specs.Symbols.{found, missed}
+use Rattle.lists.specs.Lists.{At, apart, at-getD}
+use Rattle.load_forest.specs.Trace.{Mode, value, name, elements, pairs, One, Part, Plain, plain-nil, plain-bool, plain-fixnum, Trace, reading, reading-after, plain, known, new, symbol-link, object-link, list, hash-default, object-pairs, string-bytes, user-bytes, variables, no-elements, element, no-pairs, pair}
+use Rattle.states.specs.Rows.{list-length, is-array, is-hash, Varied, varied-string, varied-user}
+use Rattle.states.specs.States.{with-node, with-object, with-symbol, with-object-node, with-bytes, with-word, with-row, with-room}
+use Rattle.states.specs.Symbols.{found, missed}
 
 -- ---- taking work apart
 
@@ -35,12 +37,6 @@ ok-state e = cc
 
 ok-result : {A : Type 0} {a b : A} {s t : State} → ok a s ≡ ok b t → a ≡ b
 ok-result e = cc
-
-below-of : (n m : ℕ) → ltb n m ≡ true → n < m
-below-of n m e = ltb→lt n m (rw e tt)
-
-pub most-of : (n m : ℕ) → leb n m ≡ true → n ≤ m
-most-of n m e = leb→le n m (rw e tt)
 
 -- a test that did not refuse
 picked : {A B G : Type 0} (x : Bool) (a : A) (u : State) (r : Refusal) (k : A → Reader B) (b : B) (t : State) → next (pick x (ok a u) (refused r)) k ≡ ok b t → (x ≡ true → k a u ≡ ok b t → G) → G
@@ -65,27 +61,27 @@ last o b t e = rw e
 pub add-node-then : {B G : Type 0} (room : Room) (r : Row) (s : State) (k : ℕ → Reader B) (b : B) (t : State) → next (L.add-node room r s) k ≡ ok b t
     → (length (s .nodes) < room .nodes → k (length (s .nodes)) (with-node r s) ≡ ok b t → G) → G
 unfolding L.add-node
-add-node-then room r s k b t e g = picked _ _ _ _ k b t e λ x y. g (below-of _ _ x) y
+add-node-then room r s k b t e g = picked _ _ _ _ k b t e λ x y. g (ltb-true _ _ x) y
 
 pub reserve-then : {B G : Type 0} (room : Room) (n : ℕ) (s : State) (k : ℕ → Reader B) (b : B) (t : State) → next (L.reserve room n s) k ≡ ok b t
     → (n ≤ room .references - length (s .references) → k (length (s .references)) (with-room n s) ≡ ok b t → G) → G
 unfolding L.reserve
-reserve-then room n s k b t e g = picked _ _ _ _ k b t e λ x y. g (most-of _ _ x) y
+reserve-then room n s k b t e g = picked _ _ _ _ k b t e λ x y. g (leb-true _ _ x) y
 
 pub add-bytes-then : {B G : Type 0} (room : Room) (bs : List ℕ) (s : State) (k : ℕ → Reader B) (b : B) (t : State) → next (L.add-bytes room bs s) k ≡ ok b t
     → (length bs ≤ room .bytes - length (s .bytes) → k (length (s .bytes)) (with-bytes bs s) ≡ ok b t → G) → G
 unfolding L.add-bytes
-add-bytes-then room bs s k b t e g = picked _ _ _ _ k b t e λ x y. g (most-of _ _ x) y
+add-bytes-then room bs s k b t e g = picked _ _ _ _ k b t e λ x y. g (leb-true _ _ x) y
 
 pub add-symbol-then : {B G : Type 0} (room : Room) (h : ℕ) (s : State) (k : ℕ → Reader B) (b : B) (t : State) → next (L.add-symbol room h s) k ≡ ok b t
     → (length (s .symbols) < room .symbols → k h (with-symbol h s) ≡ ok b t → G) → G
 unfolding L.add-symbol
-add-symbol-then room h s k b t e g = picked _ _ _ _ k b t e λ x y. g (below-of _ _ x) y
+add-symbol-then room h s k b t e g = picked _ _ _ _ k b t e λ x y. g (ltb-true _ _ x) y
 
 pub add-object-then : {B G : Type 0} (room : Room) (h : ℕ) (s : State) (k : ℕ → Reader B) (b : B) (t : State) → next (L.add-object room h s) k ≡ ok b t
     → (length (s .objects) < room .objects → k h (with-object h s) ≡ ok b t → G) → G
 unfolding L.add-object
-add-object-then room h s k b t e g = picked _ _ _ _ k b t e λ x y. g (below-of _ _ x) y
+add-object-then room h s k b t e g = picked _ _ _ _ k b t e λ x y. g (ltb-true _ _ x) y
 
 pub add-object-node-then : {B G : Type 0} (room : Room) (r : Row) (s : State) (k : ℕ → Reader B) (b : B) (t : State) → next (L.add-object-node room r s) k ≡ ok b t
     → (length (s .nodes) < room .nodes → length (s .objects) < room .objects → k (length (s .nodes)) (with-object-node r s) ≡ ok b t → G) → G
@@ -99,12 +95,12 @@ add-object-node-then room r s k b t e g =
 pub read-byte-then : {B G : Type 0} (input : List ℕ) (s : State) (k : ℕ → Reader B) (b : B) (t : State) → next (L.read-byte input s) k ≡ ok b t
     → (s .at < length input → k (getD input (s .at) 0) (at-set (s .at + 1) s) ≡ ok b t → G) → G
 unfolding L.read-byte
-read-byte-then input s k b t e g = picked _ _ _ _ k b t e λ x y. g (below-of _ _ x) y
+read-byte-then input s k b t e g = picked _ _ _ _ k b t e λ x y. g (ltb-true _ _ x) y
 
 pub read-bytes-then : {B G : Type 0} (input : List ℕ) (n : ℕ) (s : State) (k : List ℕ → Reader B) (b : B) (t : State) → next (L.read-bytes input n s) k ≡ ok b t
     → (n ≤ length input - s .at → k (range input (s .at) n) (at-set (s .at + n) s) ≡ ok b t → G) → G
 unfolding L.read-bytes
-read-bytes-then input n s k b t e g = picked _ _ _ _ k b t e λ x y. g (most-of _ _ x) y
+read-bytes-then input n s k b t e g = picked _ _ _ _ k b t e λ x y. g (leb-true _ _ x) y
 
 -- ---- reading the input moves on in it and does nothing else
 
@@ -171,11 +167,6 @@ counted-then input room each rest s b t e g =
 
 -- ---- symbols and links
 
-pub at-getD : (l : List ℕ) (i : ℕ) → i < length l → At l i (getD l i 0)
-at-getD [] i h = absurd (omega arith)
-at-getD (x ∷ l) zero h = refl
-at-getD (x ∷ l) (suc i) h = at-getD l i (omega arith)
-
 module _ (input : List ℕ) (room : Room) where
   TraceOf : Mode → State → Outcome State ℕ → Type 0
   TraceOf m s (ok v t) = Trace input room m s (v ∷ []) t
@@ -215,7 +206,7 @@ module _ (input : List ℕ) (room : Room) where
 
   entry-then : {G : Type 0} (l : List ℕ) (i : ℕ) (r : Refusal) (s t : State) (v : ℕ) → L.entry l i r s ≡ ok v t → (At l i (getD l i 0) → ok (getD l i 0) s ≡ ok v t → G) → G
   unfolding L.entry pure
-  entry-then l i r s t v e g = picked _ _ s _ pure v t (last _ _ _ e) λ x y. g (at-getD l i (below-of _ _ x)) y
+  entry-then l i r s t v e g = picked _ _ s _ pure v t (last _ _ _ e) λ x y. g (at-getD l i 0 (ltb-true _ _ x)) y
 
   symbol-link-traced : (m : Mode) → One m → (s t : State) (v : ℕ) → L.read-symbol-link input s ≡ ok v t → Trace input room m s (v ∷ []) t
   unfolding L.read-symbol-link look _>>=_

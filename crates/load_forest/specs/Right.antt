@@ -2,49 +2,37 @@
 use Prim.Native.Nat.{ℕ, zero, suc, _+_, _*_, _≤_, _<_}
 use mathlib.Core.Path.{_≡_, refl, ap, subst}
 use mathlib.Core.Path.{_∙_}
-use mathlib.Core.Bool.{Bool, true, false, _&&_}
+use mathlib.Core.Bool.{true}
 use mathlib.Core.Logic.{_⊎_, inl, inr, _≢_}
 use mathlib.Core.Option.{some}
-use mathlib.Core.List.{List, [], _∷_, _++_, append-nil}
-use lib.Dec.{T, leb, ltb, le→leb, lt→ltb}
-use lib.ListN.{length, getD, replicate, length-set, length-append}
+use mathlib.Core.List.{List, [], _∷_, append-nil}
+use lib.ListN.{length, replicate, length-set, length-append}
 use native.Mathlib.Omega.{arith}
-use Rattle.definition.specs.Run.{ok, pick}
-use Rattle.definition.specs.Node.{Row, Vars, nil, bool, fixnum, symbol, array, hash, object, string, user, absent, present, kind}
-use Rattle.definition.specs.Arena.{Arena, node, range, firsts, all-below, is-name, all-names, bytes-right, list-right, pairs-right, vars-right, row-right}
+use Rattle.definition.specs.Run.{ok}
+use Rattle.definition.specs.Node.{Row, nil, bool, fixnum, symbol, hash, object, string, user, absent}
+use Rattle.definition.specs.Arena.{Arena, node, range, firsts, row-right}
 use Rattle.definition.specs.Graph.{links, vars-links, default-link}
 use Rattle.definition.specs.Load.{State, Room, at-set, begin, load}
-use Rattle.graph.specs.Lists.{At, at-lt, at-app, at-snoc, at-snoc-inv, at-set-same, at-set-other, at-set-inv, len-snoc, apart, Below, below-up, below-snoc}
+use Rattle.lists.specs.Lists.{At, at-lt, at-app, at-snoc, at-snoc-inv, at-set-same, at-set-other, at-set-inv, len-snoc, apart, Below, below-up, below-snoc, below-first, below-join, no-at, below-one}
+use Rattle.lists.specs.Ranges.{range-more}
 use Rattle.graph.specs.Forest.{sym}
-use Rattle.graph.specs.View.{arena-of, state-seen}
-use Rattle.load_forest.specs.Views.{bytes-start, bytes-length, list-start, list-length, vars-start, vars-length, row-words, Inside, Ranged, Free, with-node, with-object, with-symbol, with-object-node, with-bytes, with-words, with-word, with-row, inside-up, seen-at-inv, frame-range, free-part, inside-nil, vars-links-same, words-more, words-but}
-use Rattle.load_forest.specs.Trace.{Mode, value, name, elements, pairs, One, Plain, plain-nil, plain-bool, plain-fixnum, Listed, is-array, is-hash, Varied, varied-string, varied-user, Trace, reading, reading-after, plain, known, new, symbol-link, object-link, list, hash-default, object-pairs, string-bytes, user-bytes, variables, no-elements, element, no-pairs, pair, with-room}
-use Rattle.load_forest.specs.Symbols.{symbol-of}
+use Rattle.graph.specs.View.{arena-of, state-seen, Name}
+use Rattle.states.specs.States.{keeps-refl, keeps-trans, with-node, with-object, with-symbol, with-object-node, with-bytes, with-words, with-word, with-row, with-room, with-new-symbol}
+use Rattle.load_forest.specs.Trace.{Mode, value, name, elements, pairs, One, Plain, plain-nil, plain-bool, plain-fixnum, Trace, reading, reading-after, plain, known, new, symbol-link, object-link, list, hash-default, object-pairs, string-bytes, user-bytes, variables, no-elements, element, no-pairs, pair}
 use Rattle.load_forest.specs.Readers.{load-traced}
-use Rattle.load_forest.specs.Frames.{Ready, left, ready-reading, ready-value, ready-name, ready-pairs, ready-opened, ready-next, ready-after-name, ready-after-value, opened-ranged}
-use Rattle.load_forest.specs.Sound.{begin-ranged}
-use Rattle.load_forest.specs.Kept.{Kept, kept, kept-trans, kept-refl}
-
--- the names of a row: an object's or a user-defined node's, and the first of each pair
-unfoldable pub row-names : Arena → Row → List ℕ
-row-names A nil = []
-row-names A (bool b) = []
-row-names A (fixnum w) = []
-row-names A (symbol s l) = []
-row-names A (array s n) = []
-row-names A (hash s n d) = []
-row-names A (object s n c) = c ∷ firsts (range (A .references) s (n * 2))
-row-names A (string s l v) = firsts (vars-links A v)
-row-names A (user s l c v) = c ∷ firsts (vars-links A v)
+use Rattle.load_forest.specs.Frames.{Ready, left, ready-reading, ready-value, ready-name, ready-pairs, ready-opened, ready-next, ready-after-name, ready-after-value}
+use Rattle.load_forest.specs.Kept.{Kept, kept}
+use Rattle.states.specs.Rows.{bytes-start, bytes-length, list-start, list-length, row-words, Listed, is-array, is-hash, Varied, varied-string, varied-user}
+use Rattle.states.specs.States.{Inside, Ranged, Free, with-node, with-object, with-symbol, with-object-node, with-bytes, with-words, with-word, with-row, inside-up, seen-at-inv, frame-range, free-part, inside-nil, words-but, with-room, opened-ranged, begin-ranged}
+use Rattle.states.specs.Symbols.{symbol-of}
+use Rattle.states.specs.Right.{row-names, RightIn, Onward, right-yes, row-onward, names-first}
 
 -- node c is a symbol
 abbrev pub IsName : State → ℕ → Type 0
-IsName s c = (a : ℕ) × (l : ℕ) × At (s .nodes) c (symbol a l)
+IsName s c = Name (arena-of s 0) c
 
-pub record RowRight (s : State) (r : Row) : Type 0 where
-  pub inside : Inside s r
-  pub below : Below (length (s .nodes)) (links (arena-of s 0) r)
-  pub names : (k c : ℕ) → At (row-names (arena-of s 0) r) k c → IsName s c
+abbrev pub RowRight : State → Row → Type 0
+RowRight s r = RightIn (arena-of s 0) r
 
 pub record Right (s : State) : Type 0 where
   pub rows : (i : ℕ) (r : Row) → At (s .nodes) i r → RowRight s r
@@ -59,45 +47,13 @@ name-kept c κ (a, l, e) = (a, l, κ .stands c (symbol a l) tt e)
 
 -- ---- a row is right in a later state, where its words are the same
 
-links-same : (A B : Arena) (r : Row) → row-words B r ≡ row-words A r → links B r ≡ links A r
-unfolding links list-start list-length
-links-same A B nil e = refl
-links-same A B (bool b) e = refl
-links-same A B (fixnum w) e = refl
-links-same A B (symbol s l) e = refl
-links-same A B (array s n) e = e
-links-same A B (hash s n d) e = ap (λ (l : List ℕ). l ++ default-link d) e
-links-same A B (object s n c) e = ap (λ (l : List ℕ). c ∷ l) e
-links-same A B (string s l v) e = vars-links-same A B v e
-links-same A B (user s l c v) e = ap (λ (x : List ℕ). c ∷ x) (vars-links-same A B v e)
+abbrev On : State → State → Type 0
+On s t = Onward (arena-of s 0) (arena-of t 0)
 
-names-same : (A B : Arena) (r : Row) → row-words B r ≡ row-words A r → row-names B r ≡ row-names A r
-unfolding row-names list-start list-length
-names-same A B nil e = refl
-names-same A B (bool b) e = refl
-names-same A B (fixnum w) e = refl
-names-same A B (symbol s l) e = refl
-names-same A B (array s n) e = refl
-names-same A B (hash s n d) e = refl
-names-same A B (object s n c) e = ap (λ (l : List ℕ). c ∷ firsts l) e
-names-same A B (string s l v) e = ap firsts (vars-links-same A B v e)
-names-same A B (user s l c v) e = ap (λ (x : List ℕ). c ∷ firsts x) (vars-links-same A B v e)
+row-on : (s t : State) (r : Row) → On s t → row-words (arena-of t 0) r ≡ row-words (arena-of s 0) r → RowRight s r → RowRight t r
+row-on s t r o e h = row-onward (arena-of s 0) (arena-of t 0) r o e h
 
--- from s to t nodes are only added, names stay names, and bytes and words are only added
-record Onward (s t : State) : Type 0 where
-  count : length (s .nodes) ≤ length (t .nodes)
-  names : (c : ℕ) → IsName s c → IsName t c
-  more-bytes : length (s .bytes) ≤ length (t .bytes)
-  more-words : length (s .references) ≤ length (t .references)
-
-row-on : (s t : State) (r : Row) → Onward s t → row-words (arena-of t 0) r ≡ row-words (arena-of s 0) r → RowRight s r → RowRight t r
-row-on s t r o e h = record {
-  inside = inside-up s t r (o .more-bytes) (o .more-words) (h .inside);
-  below = λ k v a. omega (arith, o .count, h .below k v (rw (links-same (arena-of s 0) (arena-of t 0) r e) at a));
-  names = λ k c a. o .names c (h .names k c (rw (names-same (arena-of s 0) (arena-of t 0) r e) at a));
-}
-
-lists-on : (s t : State) → Onward s t → t .objects ≡ s .objects → t .symbols ≡ s .symbols → ((i : ℕ) (r : Row) → At (t .nodes) i r → RowRight t r) → Right s → Right t
+lists-on : (s t : State) → On s t → t .objects ≡ s .objects → t .symbols ≡ s .symbols → ((i : ℕ) (r : Row) → At (t .nodes) i r → RowRight t r) → Right s → Right t
 lists-on s t o p q h x = record {
   rows = h;
   objects = λ k v a. omega (arith, o .count, x .objects k v (rw p at a));
@@ -105,11 +61,11 @@ lists-on s t o p q h x = record {
 }
 
 -- the same rows, whose words are the same
-right-on : (s t : State) → Onward s t → t .nodes ≡ s .nodes → t .objects ≡ s .objects → t .symbols ≡ s .symbols
+right-on : (s t : State) → On s t → t .nodes ≡ s .nodes → t .objects ≡ s .objects → t .symbols ≡ s .symbols
     → ((i : ℕ) (r : Row) → At (s .nodes) i r → row-words (arena-of t 0) r ≡ row-words (arena-of s 0) r) → Right s → Right t
 right-on s t o n p q w x = lists-on s t o p q (λ i r a. let b : At (s .nodes) i r = rw n at a in row-on s t r o (w i r b) (x .rows i r b)) x
 
-on-same : (s t : State) → t .nodes ≡ s .nodes → length (s .bytes) ≤ length (t .bytes) → length (s .references) ≤ length (t .references) → Onward s t
+on-same : (s t : State) → t .nodes ≡ s .nodes → length (s .bytes) ≤ length (t .bytes) → length (s .references) ≤ length (t .references) → On s t
 on-same s t n b w = record { count = rw n (omega arith); names = λ c (a, l, e). (a, l, rw n e); more-bytes = b; more-words = w }
 
 right-at-set : (k : ℕ) (s : State) → Right s → Right (at-set k s)
@@ -121,7 +77,7 @@ right-bytes b s x = right-on s (with-bytes b s) (on-same s (with-bytes b s) refl
 right-words : (ws : List ℕ) (s : State) → Right s → Right (with-words ws s)
 right-words ws s x =
     right-on s (with-words ws s) (on-same s (with-words ws s) refl (omega arith) (omega (arith, length-append (s .references) ws))) refl refl refl
-    (λ i r a. words-more ws s r (x .rows i r a .inside)) x
+    (λ i r a. range-more (s .references) ws _ _ (x .rows i r a .inside .list-inside)) x
 
 right-word : (i v : ℕ) (s : State) → Free i 1 s → Right s → Right (with-word i v s)
 right-word i v s f x =
@@ -151,7 +107,7 @@ right-object h s l x =
       symbols = x .symbols;
     }
 
-on-node : (r : Row) (s : State) → Onward s (with-node r s)
+on-node : (r : Row) (s : State) → On s (with-node r s)
 on-node r s = record {
   count = omega (arith, len-snoc (s .nodes) r);
   names = λ c (a, l, e). (a, l, at-app (s .nodes) (r ∷ []) c (symbol a l) e);
@@ -170,7 +126,7 @@ right-object-node : (r : Row) (s : State) → RowRight s r → Right s → Right
 right-object-node r s h x = right-object (length (s .nodes)) (with-node r s) (omega (arith, len-snoc (s .nodes) r)) (right-node r s h x)
 
 -- a row that is no symbol is filled
-on-row : (h : ℕ) (r q : Row) (s : State) → At (s .nodes) h q → ((a l : ℕ) → q ≡ symbol a l → ⊥) → Onward s (with-row h r s)
+on-row : (h : ℕ) (r q : Row) (s : State) → At (s .nodes) h q → ((a l : ℕ) → q ≡ symbol a l → ⊥) → On s (with-row h r s)
 on-row h r q s e n = record {
   count = omega (arith, length-set (s .nodes) h r);
   names = λ c (a, l, x). (a, l, at-set-other (s .nodes) h c r (symbol a l) (λ z. absurd (other c a l x z)) x);
@@ -201,31 +157,12 @@ record Given (m : Mode) (t : State) (vs : List ℕ) : Type 0 where
   below : Below (length (t .nodes)) vs
   named : (k c : ℕ) → At (names-of m vs) k c → IsName t c
 
-no-at : {A : Type 0} {C : Type 0} (k : ℕ) (x : A) → At [] k x → C
-no-at k x e = apart (cc)
-
-below-more : (n v : ℕ) (l : List ℕ) → v < n → Below n l → Below n (v ∷ l)
-below-more n v l h b zero u e = let z : v ≡ u = cc in omega arith
-below-more n v l h b (suc k) u e = b k u e
-
-below-one : (n v : ℕ) → v < n → Below n (v ∷ [])
-below-one n v h = below-more n v [] h (λ k u e. no-at k u e)
-
-below-app : (n : ℕ) (l m : List ℕ) → Below n l → Below n m → Below n (l ++ m)
-below-app n [] m b c k u e = c k u e
-below-app n (x ∷ l) m b c zero u e = b 0 u e
-below-app n (x ∷ l) m b c (suc k) u e = below-app n l m (λ j w a. b (suc j) w a) c k u e
-
 given-value : (t : State) (v : ℕ) → v < length (t .nodes) → Given value t (v ∷ [])
 given-value t v h = record { below = below-one _ v h; named = λ k c a. no-at k c a }
 
 given-name : (m : Mode) → One m → (t : State) (v : ℕ) → IsName t v → Given m t (v ∷ [])
 given-name value o t v n = given-value t v (name-below t v n)
-given-name name o t v n = record { below = below-one _ v (name-below t v n); named = λ k c a. one k c a }
-  where
-    one : (k c : ℕ) → At (v ∷ []) k c → IsName t c
-    one zero c a = let z : v ≡ c = cc in rw (← z) n
-    one (suc k) c a = no-at k c a
+given-name name o t v n = record { below = below-one _ v (name-below t v n); named = names-first (arena-of t 0) v [] n (λ k c a. no-at k c a) }
 given-name (elements n i) o t v x = absurd o
 given-name (pairs n i) o t v x = absurd o
 
@@ -268,11 +205,7 @@ string-right s a l i = bare s (string a l absent) i refl refl
 
 user-right : (s : State) (a l c : ℕ) → Inside s (user a l c absent) → IsName s c → RowRight s (user a l c absent)
 unfolding links row-names vars-links firsts
-user-right s a l c i n = record { inside = i; below = below-one _ c (name-below s c n); names = one }
-  where
-    one : (k d : ℕ) → At (c ∷ []) k d → IsName s d
-    one zero d a = let z : c ≡ d = cc in rw (← z) n
-    one (suc k) d a = no-at k d a
+user-right s a l c i n = record { inside = i; below = below-one _ c (name-below s c n); names = names-first (arena-of s 0) c [] n (λ k d a. no-at k d a) }
 
 listed-right : {p : ℕ} (s : State) (r : Row) (ms : List ℕ) → Listed p r → Inside s r → range (s .references) p (list-length r) ≡ ms → Below (length (s .nodes)) ms → RowRight s r
 unfolding links row-names list-length default-link
@@ -285,23 +218,18 @@ listed-right {p = p} s r ms (is-hash n) i e b = record {
 
 hash-right : (s : State) (p n d : ℕ) (ms : List ℕ) → Inside s (hash p n (d + 1)) → range (s .references) p (n * 2) ≡ ms → Below (length (s .nodes)) ms → d < length (s .nodes) → RowRight s (hash p n (d + 1))
 unfolding links row-names default-link
-hash-right s p n d ms i e b h = record { inside = i; below = below-app _ (range (s .references) p (n * 2)) (default-link (d + 1)) (λ k v a. b k v (rw e at a)) last; names = λ k v a. no-at k v a }
+hash-right s p n d ms i e b h = record { inside = i; below = below-join _ (range (s .references) p (n * 2)) (default-link (d + 1)) (λ k v a. b k v (rw e at a)) last; names = λ k v a. no-at k v a }
   where
     last : Below (length (s .nodes)) (default-link (d + 1))
     last = let z : d + 1 ≡ suc d = omega arith in rw z (below-one _ d h)
-
--- the names among a name and pairs
-named-more : (s : State) (c : ℕ) (ns : List ℕ) → IsName s c → ((k d : ℕ) → At ns k d → IsName s d) → (k d : ℕ) → At (c ∷ ns) k d → IsName s d
-named-more s c ns n h zero d a = let z : c ≡ d = cc in rw (← z) n
-named-more s c ns n h (suc k) d a = h k d a
 
 object-right : (s : State) (p n c : ℕ) (ms : List ℕ) → Inside s (object p n c) → range (s .references) p (n * 2) ≡ ms → IsName s c → Below (length (s .nodes)) ms
     → ((k d : ℕ) → At (firsts ms) k d → IsName s d) → RowRight s (object p n c)
 unfolding links row-names
 object-right s p n c ms i e x b h = record {
   inside = i;
-  below = below-more _ c (range (s .references) p (n * 2)) (name-below s c x) (λ k v a. b k v (rw e at a));
-  names = named-more s c (firsts (range (s .references) p (n * 2))) x (λ k d a. h k d (subst (λ (l : List ℕ). At (firsts l) k d) e a));
+  below = below-first _ c (range (s .references) p (n * 2)) (name-below s c x) (λ k v a. b k v (rw e at a));
+  names = names-first (arena-of s 0) c (firsts (range (s .references) p (n * 2))) x (λ k d a. h k d (subst (λ (l : List ℕ). At (firsts l) k d) e a));
 }
 
 varied-right : {p n : ℕ} (s : State) (r r′ : Row) (ms : List ℕ) → Varied p n r r′ → Inside s r′ → range (s .references) p (n * 2) ≡ ms → RowRight s r → Below (length (s .nodes)) ms
@@ -314,8 +242,8 @@ varied-right s r r′ ms varied-string i e x b h = record {
 }
 varied-right {p = p} {n = n} s r r′ ms (varied-user {c = c}) i e x b h = record {
   inside = i;
-  below = below-more _ c (range (s .references) p (n * 2)) (x .below 0 c refl) (λ k v a. b k v (rw e at a));
-  names = named-more s c (firsts (range (s .references) p (n * 2))) (x .names 0 c refl) (λ k d a. h k d (subst (λ (l : List ℕ). At (firsts l) k d) e a));
+  below = below-first _ c (range (s .references) p (n * 2)) (x .below 0 c refl) (λ k v a. b k v (rw e at a));
+  names = names-first (arena-of s 0) c (firsts (range (s .references) p (n * 2))) (x .names 0 c refl) (λ k d a. h k d (subst (λ (l : List ℕ). At (firsts l) k d) e a));
 }
 
 varied-no-symbol : {p n : ℕ} (r r′ : Row) → Varied p n r r′ → (a l : ℕ) → r ≡ symbol a l → ⊥
@@ -352,7 +280,7 @@ done-known m o s b h a x =
     record { right = right-symbol h s n x; given = given-name m o (with-symbol h s) h n }
 
 done-new : (m : Mode) → One m → (s : State) (b : List ℕ) → Right s
-    → Done m (with-symbol (length (s .nodes)) (with-node (symbol (length (s .bytes)) (length b)) (with-bytes b s))) (length (s .nodes) ∷ [])
+    → Done m (with-new-symbol b s) (length (s .nodes) ∷ [])
 unfolding bytes-start bytes-length list-start list-length
 done-new m o s b x =
     let r = symbol (length (s .bytes)) (length b) in
@@ -391,7 +319,7 @@ done-hash-default : (s t u : State) (n d : ℕ) (ms : List ℕ) → Kept (with-o
     → range (u .references) (length (s .references)) (n * 2) ≡ ms → Below (length (t .nodes)) ms → Done value u (d ∷ [])
     → Done value (with-row (length (s .nodes)) (hash (length (s .references)) n (d + 1)) u) (length (s .nodes) ∷ [])
 done-hash-default s t u n d ms κ λ′ g e b x =
-    let κ′ = kept-trans κ λ′ in
+    let κ′ = keeps-trans κ λ′ in
     let r = hash (length (s .references)) n (d + 1) in
     filled-right s u r κ′
     (hash-right u (length (s .references)) n d ms (filled-inside (length (s .nodes)) r u (opened-at s u κ′) g) e (below-up _ _ ms (λ′ .grows) b) (x .given .below 0 d refl)) (x .right)
@@ -400,7 +328,7 @@ done-object : (s t u : State) (n c p : ℕ) (ms : List ℕ) → Kept (with-objec
     → range (u .references) p (n * 2) ≡ ms → Given name t (c ∷ []) → Done (pairs n p) u ms
     → Done value (with-row (length (s .nodes)) (object p n c) u) (length (s .nodes) ∷ [])
 done-object s t u n c p ms κ λ′ g e y x =
-    let κ′ = kept-trans κ λ′ in
+    let κ′ = keeps-trans κ λ′ in
     let r = object p n c in
     filled-right s u r κ′
     (object-right u p n c ms (filled-inside (length (s .nodes)) r u (opened-at s u κ′) g) e (name-kept c λ′ (y .named 0 c refl)) (x .given .below) (x .given .named)) (x .right)
@@ -434,7 +362,7 @@ done-variables u h r r′ ms a q g e x =
 done-element : (t u : State) (n i v : ℕ) (vs : List ℕ) → Kept (with-word i v t) u → Given value t (v ∷ []) → Done (elements n (suc i)) u vs → Done (elements (suc n) i) u (v ∷ vs)
 done-element t u n i v vs κ g x = record {
   right = x .right;
-  given = record { below = below-more _ v vs (omega (arith, κ .grows, g .below 0 v refl)) (x .given .below); named = λ k c a. no-at k c a };
+  given = record { below = below-first _ v vs (omega (arith, κ .grows, g .below 0 v refl)) (x .given .below); named = λ k c a. no-at k c a };
 }
 
 done-pair : (t u w : State) (n i c v : ℕ) (vs : List ℕ) → Kept (with-word i c t) u → Kept (with-word (suc i) v u) w → Given name t (c ∷ []) → Given value u (v ∷ []) → Done (pairs n (suc (suc i))) w vs
@@ -447,8 +375,8 @@ done-pair t u w n i c v vs κ₁ κ₂ g₁ g₂ x =
     record {
       right = x .right;
       given = record {
-        below = below-more _ c (v ∷ vs) (name-below w c m₃) (below-more _ v vs (omega (arith, κ₂ .grows, g₂ .below 0 v refl)) (x .given .below));
-        named = named-more w c (firsts vs) m₃ (x .given .named);
+        below = below-first _ c (v ∷ vs) (name-below w c m₃) (below-first _ v vs (omega (arith, κ₂ .grows, g₂ .below 0 v refl)) (x .given .below));
+        named = names-first (arena-of w 0) c (firsts vs) m₃ (x .given .named);
       };
     }
 
@@ -466,14 +394,14 @@ right-of {m = m} {s = s} (symbol-link i v o a) h d = record { right = d; given =
 right-of {s = s} (object-link i v a) h d = record { right = d; given = given-value s v (d .objects i v a) }
 right-of {s = s} (list {t = t} {ms = ms} r q l₁ l₂ l₃ x) h d =
     let o = ready-opened (list-length r) s (h .ranged) in
-    let κ = kept-trans (kept-refl (with-object-node nil s) (with-room (list-length r) (with-object-node nil s)) refl) (kept x) in
+    let κ = keeps-trans (keeps-refl (with-object-node nil s) (with-room (list-length r) (with-object-node nil s)) refl) (kept x) in
     done-list s t r ms q κ (left (list {ms = ms} r q l₁ l₂ l₃ x) h .ranged) (left x o .words) (right-of x o (right-words (replicate (list-length r) 0) (with-object-node nil s) (opened-right s d)))
 right-of {s = s} (hash-default {t = t} {u = u} {ms = ms} {d = v} n l₁ l₂ l₃ x y) h d =
     let o = ready-opened (n * 2) s (h .ranged) in
     let z = left x o in
     let w = ready-value t (z .ranged) in
     let e = frame-range (length (s .references)) (n * 2) (left y w .frame) (omega (arith, o .fits, z .frame .references-grow)) (omega (arith, o .fits, z .frame .references-grow)) ∙ z .words in
-    let κ = kept-trans (kept-refl (with-object-node nil s) (with-room (n * 2) (with-object-node nil s)) refl) (kept x) in
+    let κ = keeps-trans (keeps-refl (with-object-node nil s) (with-room (n * 2) (with-object-node nil s)) refl) (kept x) in
     let d₁ = right-of x o (right-words (replicate (n * 2) 0) (with-object-node nil s) (opened-right s d)) in
     done-hash-default s t u n v ms κ (kept y) (left (hash-default {ms = ms} n l₁ l₂ l₃ x y) h .ranged) e (d₁ .given .below) (right-of y w (d₁ .right))
 right-of {s = s} (object-pairs {t = t} {u = u} {ms = ms} {c = c} n l₁ l₂ x l₃ y) h d =
@@ -481,7 +409,7 @@ right-of {s = s} (object-pairs {t = t} {u = u} {ms = ms} {c = c} n l₁ l₂ x l
     let p = ready-pairs n t (left x o .ranged) in
     let d₁ = right-of x o (opened-right s d) in
     let d₂ = right-of y p (right-words (replicate (n * 2) 0) t (d₁ .right)) in
-    done-object s t u n c (length (t .references)) ms (kept x) (kept-trans (kept-refl t (with-room (n * 2) t) refl) (kept y)) (left (object-pairs {ms = ms} n l₁ l₂ x l₃ y) h .ranged) (left y p .words) (d₁ .given) d₂
+    done-object s t u n c (length (t .references)) ms (kept x) (keeps-trans (keeps-refl t (with-room (n * 2) t) refl) (kept y)) (left (object-pairs {ms = ms} n l₁ l₂ x l₃ y) h .ranged) (left y p .words) (d₁ .given) d₂
 right-of {room = room} {s = s} (string-bytes b p l₁ l₂ l₃) h d = done-string s b _ _ (left {room = room} (string-bytes b p l₁ l₂ l₃) h .ranged) d
 right-of {s = s} (user-bytes {t = t} {c = c} b x p l₁ l₂ l₃) h d =
     done-user t b _ _ c (left (user-bytes b x p l₁ l₂ l₃) h .ranged) (right-of x (ready-name s (h .ranged)) d)
@@ -509,103 +437,6 @@ right-of {s = s} (pair {t = t} {u = u} {w = w} {n = n} {i = i} {c = c} {v = v} {
     let f₂ = free-part (suc i) (suc (n * 2)) (suc i) 1 u (omega arith) (omega arith) (b .frame .stays-free (suc i) (suc (n * 2)) (r .fits) (r .free)) in
     done-pair t u w n i c v vs (kept y) (kept z) (d₁ .given) (d₂ .given) (right-of z (ready-after-value n i c v s t u (c ∷ []) (v ∷ []) h a b) (right-word (suc i) v u f₂ (d₂ .right)))
 
--- ---- the definition's test of a row
-
-holds : (b : Bool) → T b → b ≡ true
-holds true t = refl
-holds false t = absurd t
-
-pub yes-leb : (n m : ℕ) → n ≤ m → leb n m ≡ true
-yes-leb n m h = holds (leb n m) (le→leb n m h)
-
-pub yes-ltb : (n m : ℕ) → n < m → ltb n m ≡ true
-yes-ltb n m h = holds (ltb n m) (lt→ltb n m h)
-
-pub yes-and : (a b : Bool) → a ≡ true → b ≡ true → a && b ≡ true
-yes-and a b p q = rw (p, q)
-
-all-below-yes : (n : ℕ) (l : List ℕ) → Below n l → all-below n l ≡ true
-unfolding all-below pick
-all-below-yes n [] b = refl
-all-below-yes n (m ∷ l) b = rw (yes-ltb m n (b 0 m refl)) (all-below-yes n l (λ k v e. b (suc k) v e))
-
-at-node : (A : Arena) (i : ℕ) (r : Row) → At (A .nodes) i r → node A i ≡ r
-unfolding node
-at-node A i r e = go (A .nodes) i e
-  where
-    go : (l : List Row) (i : ℕ) → At l i r → getD l i nil ≡ r
-    go [] i e = apart (cc)
-    go (x ∷ l) zero e = cc
-    go (x ∷ l) (suc i) e = go l i e
-
--- node c of an arena is a symbol
-abbrev pub IsSymbol : Arena → ℕ → Type 0
-IsSymbol A c = (a : ℕ) × (l : ℕ) × At (A .nodes) c (symbol a l)
-
-is-name-yes : (A : Arena) (c : ℕ) → IsSymbol A c → is-name A c ≡ true
-unfolding is-name kind
-is-name-yes A c (a, l, e) = rw (at-node A c (symbol a l) e)
-
-all-names-yes : (A : Arena) (l : List ℕ) → ((k c : ℕ) → At l k c → IsSymbol A c) → all-names A l ≡ true
-unfolding all-names pick
-all-names-yes A [] h = refl
-all-names-yes A (m ∷ l) h = rw (is-name-yes A m (h 0 m refl)) (all-names-yes A l (λ k c e. h (suc k) c e))
-
--- the facts of a row, in an arena
-pub record Facts (A : Arena) (r : Row) : Type 0 where
-  pub bytes-inside : bytes-start r + bytes-length r ≤ length (A .bytes)
-  pub list-inside : list-start r + list-length r ≤ length (A .references)
-  pub links-below : Below (length (A .nodes)) (links A r)
-  pub names : (k c : ℕ) → At (row-names A r) k c → IsSymbol A c
-
-below-left : (n : ℕ) (l m : List ℕ) → Below n (l ++ m) → Below n l
-below-left n l m b k v e = b k v (at-app l m k v e)
-
-list-right-yes : (A : Arena) (p n : ℕ) → p + n ≤ length (A .references) → Below (length (A .nodes)) (range (A .references) p n) → list-right A p n ≡ true
-unfolding list-right
-list-right-yes A p n h b = yes-and _ _ (yes-leb _ _ h) (all-below-yes _ _ b)
-
-pairs-right-yes : (A : Arena) (p n : ℕ) → p + n * 2 ≤ length (A .references) → Below (length (A .nodes)) (range (A .references) p (n * 2))
-    → ((k c : ℕ) → At (firsts (range (A .references) p (n * 2))) k c → IsSymbol A c) → pairs-right A p n ≡ true
-unfolding pairs-right
-pairs-right-yes A p n h b m = yes-and _ _ (list-right-yes A p (n * 2) h b) (all-names-yes A _ m)
-
-vars-right-yes : (A : Arena) (v : Vars) → vars-start v + vars-length v ≤ length (A .references) → Below (length (A .nodes)) (vars-links A v)
-    → ((k c : ℕ) → At (firsts (vars-links A v)) k c → IsSymbol A c) → vars-right A v ≡ true
-unfolding vars-right vars-links vars-start vars-length
-vars-right-yes A absent h b m = refl
-vars-right-yes A (present p n) h b m = pairs-right-yes A p n h b m
-
-default-most : (A : Arena) (d : ℕ) → Below (length (A .nodes)) (default-link d) → d ≤ length (A .nodes)
-unfolding default-link
-default-most A zero b = omega arith
-default-most A (suc d) b = b 0 d refl
-
-above-left : (n : ℕ) (l m : List ℕ) → Below n (l ++ m) → Below n m
-above-left n [] m b k v e = b k v e
-above-left n (x ∷ l) m b k v e = above-left n l m (λ j w a. b (suc j) w a) k v e
-
--- a hash's default
-pub default-below : (A : Arena) (p n d : ℕ) → Facts A (hash p n d) → d ≤ length (A .nodes)
-unfolding links
-default-below A p n d f = default-most A d (above-left _ (range (A .references) p (n * 2)) (default-link d) (f .links-below))
-
-pub row-right-yes : (A : Arena) (r : Row) → Facts A r → row-right A r ≡ true
-unfolding row-right bytes-right links row-names bytes-start bytes-length list-start list-length
-row-right-yes A nil f = refl
-row-right-yes A (bool b) f = refl
-row-right-yes A (fixnum w) f = refl
-row-right-yes A (symbol s l) f = yes-leb _ _ (f .bytes-inside)
-row-right-yes A (array s n) f = list-right-yes A s n (f .list-inside) (f .links-below)
-row-right-yes A (hash s n d) f =
-    yes-and _ _ (list-right-yes A s (n * 2) (f .list-inside) (below-left _ (range (A .references) s (n * 2)) (default-link d) (f .links-below))) (yes-leb _ _ (default-below A s n d f))
-row-right-yes A (object s n c) f =
-    yes-and _ _ (is-name-yes A c (f .names 0 c refl)) (pairs-right-yes A s n (f .list-inside) (λ k v e. f .links-below (suc k) v e) (λ k v e. f .names (suc k) v e))
-row-right-yes A (string s l v) f = yes-and _ _ (yes-leb _ _ (f .bytes-inside)) (vars-right-yes A v (f .list-inside) (f .links-below) (f .names))
-row-right-yes A (user s l c v) f =
-    yes-and _ _ (yes-and _ _ (yes-leb _ _ (f .bytes-inside)) (is-name-yes A c (f .names 0 c refl)))
-    (vars-right-yes A v (f .list-inside) (λ k w e. f .links-below (suc k) w e) (λ k w e. f .names (suc k) w e))
-
 -- ---- an accepted load
 
 begin-right : Right begin
@@ -620,28 +451,16 @@ load-right-state input room limit h s e =
     let d = right-of (load-traced input room limit s h e) (ready-value begin begin-ranged) begin-right in
     (d .right, d .given .below 0 h refl)
 
--- a well-formed arena, as facts of its rows
+-- a well-formed arena
 pub record LoadRight (A : Arena) : Type 0 where
   pub root-below : A .root < length (A .nodes)
-  pub facts : (i : ℕ) (r : Row) → At (A .nodes) i r → Facts A r
-  pub default-most : (i p n d : ℕ) → At (A .nodes) i (hash p n d) → d ≤ length (A .nodes)
   pub rows-right : (i : ℕ) (r : Row) → At (A .nodes) i r → row-right A r ≡ true
 
-row-facts : (s : State) (h : ℕ) (r : Row) → RowRight s r → Facts (arena-of s h) r
-row-facts s h r x = record {
-  bytes-inside = x .inside .bytes-inside;
-  list-inside = x .inside .list-inside;
-  links-below = λ k v a. x .below k v (rw (links-same (arena-of s 0) (arena-of s h) r refl) at a);
-  names = λ k c a. x .names k c (rw (names-same (arena-of s 0) (arena-of s h) r refl) at a);
-}
+-- the root does not matter
+on-root : (s : State) (h : ℕ) → Onward (arena-of s 0) (arena-of s h)
+on-root s h = record { count = omega arith; names = λ c n. n; more-bytes = omega arith; more-words = omega arith }
 
 pub load-right : (input : List ℕ) (room : Room) (limit h : ℕ) (s : State) → load input room limit ≡ ok h s → LoadRight (arena-of s h)
 load-right input room limit h s e =
     let (x, l) = load-right-state input room limit h s e in
-    let f : (i : ℕ) (r : Row) → At (s .nodes) i r → Facts (arena-of s h) r = λ i r a. row-facts s h r (x .rows i r a) in
-    record {
-      root-below = l;
-      facts = f;
-      default-most = λ i p n d a. default-below (arena-of s h) p n d (f i (hash p n d) a);
-      rows-right = λ i r a. row-right-yes (arena-of s h) r (f i r a);
-    }
+    record { root-below = l; rows-right = λ i r a. right-yes (arena-of s h) r (row-onward (arena-of s 0) (arena-of s h) r (on-root s h) refl (x .rows i r a)) }

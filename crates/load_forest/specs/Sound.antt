@@ -1,27 +1,29 @@
 -- An accepted load built a forest.
-use Prim.Native.Nat.{ℕ, zero, suc, _+_, _*_}
+use Prim.Native.Nat.{ℕ, suc, _+_, _*_}
 use mathlib.Core.Path.{_≡_, refl, ap, subst}
 use mathlib.Core.Path.{sym as psym, _∙_}
 use mathlib.Core.Bool.{true, false}
 use mathlib.Core.Logic.{inl}
 use mathlib.Core.Option.{some}
 use mathlib.Core.List.{List, [], _∷_, _++_, append-nil, append-assoc}
-use lib.ListN.{length, replicate}
+use lib.ListN.{length}
 use lib.Seq.{set-append-seam}
 use native.Mathlib.Omega.{arith}
 use Rattle.definition.specs.Run.{ok}
-use Rattle.definition.specs.Node.{Row, nil, symbol, hash, object, string, user, absent}
+use Rattle.definition.specs.Node.{Row, nil, hash, object, string, user, absent}
 use Rattle.definition.specs.Arena.{Arena, range}
 use Rattle.definition.specs.Graph.{Header, header, header-of, links, vars-links}
 use Rattle.definition.specs.Load.{State, Room, begin, load}
-use Rattle.graph.specs.Lists.{At, NotIn, apart}
+use Rattle.lists.specs.Lists.{At, NotIn}
+use Rattle.lists.specs.Ranges.{range-last}
 use Rattle.graph.specs.Forest.{Node, leaf, sym, box, F, fEnd, fLeaf, fBox, fRef, fSym, fSymref, fIv}
 use Rattle.graph.specs.Build.{St, push, pushO, addSym, put, B, bEnd, bLeaf, bBox, bRef, bKnown, bNew, bSymref, bIv}
 use Rattle.graph.specs.View.{see, arena-of, state-seen}
-use Rattle.load_forest.specs.Views.{list-length, row-seen, Ranged, with-node, with-symbol, with-object-node, with-bytes, with-word, with-row, st-eq, length-seen, seen-at, objs-seen, syms-seen, seen-at-set, seen-symbol, seen-node, seen-object-node, seen-row, seen-bytes, seen-words, seen-word, range-end, frame-range, free-part, see-array, see-hash, see-hash-default, see-object, see-string, see-string-variables, see-user, see-user-variables, see-symbol, inside-nil}
-use Rattle.load_forest.specs.Trace.{Mode, value, name, elements, pairs, Plain, plain-nil, plain-bool, plain-fixnum, Listed, is-array, is-hash, Varied, varied-string, varied-user, with-room, Trace, reading, reading-after, plain, known, new, symbol-link, object-link, list, hash-default, object-pairs, string-bytes, user-bytes, variables, no-elements, element, no-pairs, pair}
+use Rattle.load_forest.specs.Trace.{Mode, value, name, elements, pairs, Plain, plain-nil, plain-bool, plain-fixnum, Trace, reading, reading-after, plain, known, new, symbol-link, object-link, list, hash-default, object-pairs, string-bytes, user-bytes, variables, no-elements, element, no-pairs, pair}
 use Rattle.load_forest.specs.Readers.{load-traced}
-use Rattle.load_forest.specs.Frames.{Ready, Left, left, ready-reading, ready-value, ready-name, ready-pairs, ready-opened, ready-next, ready-after-name, ready-after-value, opened-ranged}
+use Rattle.load_forest.specs.Frames.{Ready, Left, left, ready-reading, ready-value, ready-name, ready-pairs, ready-opened, ready-next, ready-after-name, ready-after-value}
+use Rattle.states.specs.Rows.{list-length, see-array, see-hash, see-hash-default, see-object, see-string, see-string-variables, see-user, see-user-variables, Listed, is-array, is-hash, Varied, varied-string, varied-user}
+use Rattle.states.specs.States.{row-seen, Ranged, with-node, with-symbol, with-object-node, with-bytes, with-word, with-row, st-eq, length-seen, seen-at, objs-seen, syms-seen, seen-at-set, seen-symbol, seen-node, seen-row, seen-word, frame-range, free-part, with-room, opened-ranged, opened-seen, room-seen, new-symbol-seen, bytes-node-seen, begin-ranged, with-new-symbol}
 
 -- from σ to τ trees were read that give vs: what stands before the trees to come
 pub record Head (σ : St) (vs : List ℕ) (τ : St) : Type 0 where
@@ -103,32 +105,9 @@ sound-plain s r p =
 sound-known : (b : List ℕ) (h : ℕ) (s : State) → At (state-seen s .nodes) h (sym b) → Head (state-seen s) (h ∷ []) (state-seen (with-symbol h s))
 sound-known b h s a = moved refl (psym (seen-symbol h s)) (head-known b h (state-seen s) a)
 
--- a symbol with its bytes, just added
-new-symbol-seen : (b : List ℕ) (s : State) → Ranged s
-    → state-seen (with-symbol (length (s .nodes)) (with-node (symbol (length (s .bytes)) (length b)) (with-bytes b s))) ≡ addSym (length (state-seen s .nodes)) (push (sym b) (state-seen s))
-new-symbol-seen b s h =
-    let r = symbol (length (s .bytes)) (length b) in
-    seen-symbol (length (s .nodes)) (with-node r (with-bytes b s))
-    ∙ ap (addSym (length (s .nodes)))
-    (seen-node r (with-bytes b s)
-    ∙ ap (λ (x : Node). push x (state-seen (with-bytes b s))) (see-symbol (arena-of (with-bytes b s) 0) (length (s .bytes)) (length b) b (range-end (s .bytes) b))
-    ∙ ap (push (sym b)) (seen-bytes b s h))
-    ∙ ap (λ (n : ℕ). addSym n (push (sym b) (state-seen s))) (psym (length-seen s))
-
 sound-new : (b : List ℕ) (s : State) → Ranged s → NotIn (sym b) (state-seen s .nodes)
-    → Head (state-seen s) (length (s .nodes) ∷ []) (state-seen (with-symbol (length (s .nodes)) (with-node (symbol (length (s .bytes)) (length b)) (with-bytes b s))))
+    → Head (state-seen s) (length (s .nodes) ∷ []) (state-seen (with-new-symbol b s))
 sound-new b s h n = numbered s (moved refl (psym (new-symbol-seen b s h)) (head-new b (state-seen s) n))
-
--- opened: the node is nil and on the object list, and n words are reserved
-nil-seen : (s : State) → row-seen s nil ≡ leaf 0 0
-unfolding see
-nil-seen s = refl
-
-pub opened-seen : (s : State) → state-seen (with-object-node nil s) ≡ pushO (leaf 0 0) (state-seen s)
-opened-seen s = seen-object-node nil s ∙ ap (λ (x : Node). pushO x (state-seen s)) (nil-seen s)
-
-pub room-seen : (n : ℕ) (s : State) → Ranged s → state-seen (with-room n s) ≡ state-seen s
-room-seen n s h = seen-words (replicate n 0) s h
 
 -- a box opened at s₁ and filled at t
 sound-box : (s s₁ s₂ t : State) (r : Row) (hd : Header) (us ms : List ℕ) → Head (state-seen s) us (state-seen s₁) → state-seen s₂ ≡ pushO (leaf 0 0) (state-seen s₁)
@@ -166,20 +145,17 @@ sound-object s t u n c ms h e y z =
     sound-box s s (with-object-node nil s) u (object (length (t .references)) n c) (header-of 6 0 [] n false) [] (c ∷ ms) (head-none (state-seen s)) (opened-seen s)
     (head-append y (moved (room-seen (n * 2) t h) refl z)) (see-object (arena-of u 0) (length (t .references)) n c ms e)
 
--- a node with its bytes, added whole
-bytes-node-seen : (b : List ℕ) (t : State) (r : Row) (x : Node) → Ranged t → row-seen (with-bytes b t) r ≡ x → state-seen (with-object-node r (with-bytes b t)) ≡ pushO x (state-seen t)
-bytes-node-seen b t r x h q = seen-object-node r (with-bytes b t) ∙ ap (λ (y : Node). pushO y (state-seen (with-bytes b t))) q ∙ ap (pushO x) (seen-bytes b t h)
+-- a box with its bytes, added whole
+sound-stored : (s t : State) (b us : List ℕ) (r : Row) (hd : Header) → Ranged t → Head (state-seen s) us (state-seen t) → row-seen (with-bytes b t) r ≡ box hd us
+    → Head (state-seen s) (length (t .nodes) ∷ []) (state-seen (with-object-node r (with-bytes b t)))
+sound-stored s t b us r hd h x e = numbered t (moved refl (psym (bytes-node-seen b t r _ h e)) (head-whole hd x))
 
 sound-string : (s : State) (b : List ℕ) → Ranged s → Head (state-seen s) (length (s .nodes) ∷ []) (state-seen (with-object-node (string (length (s .bytes)) (length b) absent) (with-bytes b s)))
-sound-string s b h =
-    let e = see-string (arena-of (with-bytes b s) 0) (length (s .bytes)) (length b) b (range-end (s .bytes) b) in
-    numbered s (moved refl (psym (bytes-node-seen b s _ _ h e)) (head-whole (header-of 7 0 b 0 false) (head-none (state-seen s))))
+sound-string s b h = sound-stored s s b [] _ _ h (head-none (state-seen s)) (see-string (arena-of (with-bytes b s) 0) (length (s .bytes)) (length b) b (range-last (s .bytes) b))
 
 sound-user : (s t : State) (c : ℕ) (b : List ℕ) → Ranged t → Head (state-seen s) (c ∷ []) (state-seen t)
     → Head (state-seen s) (length (t .nodes) ∷ []) (state-seen (with-object-node (user (length (t .bytes)) (length b) c absent) (with-bytes b t)))
-sound-user s t c b h x =
-    let e = see-user (arena-of (with-bytes b t) 0) (length (t .bytes)) (length b) c b (range-end (t .bytes) b) in
-    numbered t (moved refl (psym (bytes-node-seen b t _ _ h e)) (head-whole (header-of 8 0 b 0 false) x))
+sound-user s t c b h x = sound-stored s t b (c ∷ []) _ _ h x (see-user (arena-of (with-bytes b t) 0) (length (t .bytes)) (length b) c b (range-last (t .bytes) b))
 
 -- a row and the same row with other variables
 varied-seen : {p n : ℕ} (A : Arena) (r r′ : Row) (ms : List ℕ) → Varied p n r r′ → range (A .references) p (n * 2) ≡ ms
@@ -258,14 +234,6 @@ sound {s = s} (pair {t = t} {u = u} {w = w} {n = n} {i = i} {c = c} {v = v} {vs 
     let b = left y p in
     sound-pair s t u w n i c v vs h a b (sound x o) (sound y p) (sound z (ready-after-value n i c v s t u (c ∷ []) (v ∷ []) h a b))
 
--- at the beginning
-pub begin-ranged : Ranged begin
-begin-ranged zero r e = let q : nil ≡ r = cc in rw (← q) (inside-nil begin)
-begin-ranged (suc i) r e = apart (cc)
-
 -- an accepted load built a forest with one tree, from the nil node on
 pub load-sound : (input : List ℕ) (room : Room) (limit h : ℕ) (s : State) → load input room limit ≡ ok h s → (f : F) × B (Unit {0}) f (state-seen begin) (h ∷ []) (state-seen s)
 load-sound input room limit h s e = whole (sound (load-traced input room limit s h e) (ready-value begin begin-ranged))
-
-pub load-ranged : (input : List ℕ) (room : Room) (limit h : ℕ) (s : State) → load input room limit ≡ ok h s → Ranged s
-load-ranged input room limit h s e = left (load-traced input room limit s h e) (ready-value begin begin-ranged) .ranged

@@ -7,24 +7,26 @@ use mathlib.Core.Logic.{_⊎_, inl, inr, _≢_}
 use mathlib.Core.Option.{Option, none, some}
 use mathlib.Core.List.{List, [], _∷_, _++_, map}
 use lib.Dec.{eqb}
-use lib.ListN.{length, getElem?, take, drop, replicate, length-set, length-append, length-replicate}
+use lib.ListN.{length, getElem?, replicate, length-set, length-append, length-replicate, length-take}
 use native.Mathlib.Omega.{arith}
 use native.Mathlib.Decide.{ℕ-discrete}
+use borrow.Author.Tests.{eq-eqb, ne-eqb}
 use Rattle.definition.specs.Run.{ok, pick}
 use Rattle.definition.specs.Node.{Row, Vars, nil, bool, fixnum, symbol, array, hash, object, string, user, absent, present}
 use Rattle.definition.specs.Arena.{Arena, range}
 use Rattle.definition.specs.Graph.{Header, header, vars-count}
 use Rattle.definition.specs.Load.{State, Room, at-set, begin, load}
-use Rattle.graph.specs.Lists.{At, len-snoc, yes-eqb, no-eqb, apart}
+use Rattle.lists.specs.Lists.{At, len-snoc, apart}
 use Rattle.graph.specs.Sums.{sumTo, total, total-snoc, total-set, total-set-most}
 use Rattle.graph.specs.Forest.{Node, leaf, sym, box, node-words, node-bytes, node-box, node-sym}
 use Rattle.graph.specs.Build.{Zero, paid, boxed, lf, Φ}
 use Rattle.graph.specs.View.{see, seen, arena-of, state-seen}
-use Rattle.load_forest.specs.Views.{bytes-length, list-length, vars-length, row-seen, with-node, with-symbol, with-object-node, with-bytes, with-word, with-row, length-seen, syms-seen, seen-at}
-use Rattle.load_forest.specs.Trace.{Mode, Plain, plain-nil, plain-bool, plain-fixnum, Listed, is-array, is-hash, Varied, varied-string, varied-user, with-room, Trace, reading, reading-after, plain, known, new, symbol-link, object-link, list, hash-default, object-pairs, string-bytes, user-bytes, variables, no-elements, element, no-pairs, pair}
+use Rattle.load_forest.specs.Trace.{Mode, Plain, plain-nil, plain-bool, plain-fixnum, Trace, reading, reading-after, plain, known, new, symbol-link, object-link, list, hash-default, object-pairs, string-bytes, user-bytes, variables, no-elements, element, no-pairs, pair}
 use Rattle.load_forest.specs.Readers.{load-traced}
 use Rattle.load_forest.specs.Sound.{load-sound}
 use Rattle.load_forest.specs.Right.{IsName, load-right-state}
+use Rattle.states.specs.Rows.{bytes-length, list-length, vars-length, Listed, is-array, is-hash, Varied, varied-string, varied-user}
+use Rattle.states.specs.States.{row-seen, with-node, with-symbol, with-object-node, with-bytes, with-word, with-row, length-seen, syms-seen, seen-at, with-room}
 
 -- ---- within the room
 
@@ -303,66 +305,23 @@ unfolding vars-count vars-length
 vars-words absent = omega arith
 vars-words (present p n) = omega arith
 
-see-words : (A : Arena) (r : Row) → node-words (see A r) ≤ list-length r
-unfolding see header list-length pick
-see-words A nil = omega arith
-see-words A (bool true) = omega arith
-see-words A (bool false) = omega arith
-see-words A (fixnum w) = omega arith
-see-words A (symbol s l) = omega arith
-see-words A (array s n) = omega arith
-see-words A (hash s n d) = omega arith
-see-words A (object s n c) = omega arith
-see-words A (string s l v) = vars-words v
-see-words A (user s l c v) = vars-words v
-
 range-most : (l : List ℕ) (a n : ℕ) → length (range l a n) ≤ n
 unfolding range
-range-most l a n = go n (drop a l)
-  where
-    go : (n : ℕ) (l : List ℕ) → length (take n l) ≤ n
-    go zero l = omega arith
-    go (suc n) [] = omega arith
-    go (suc n) (x ∷ l) = omega (arith, go n l)
+range-most l a n = simp length-take (omega arith)
 
-see-bytes : (A : Arena) (r : Row) → node-bytes (see A r) ≤ bytes-length r
-unfolding see header bytes-length
-see-bytes A nil = omega arith
-see-bytes A (bool true) = omega arith
-see-bytes A (bool false) = omega arith
-see-bytes A (fixnum w) = omega arith
-see-bytes A (symbol s l) = range-most (A .bytes) s l
-see-bytes A (array s n) = omega arith
-see-bytes A (hash s n d) = omega arith
-see-bytes A (object s n c) = omega arith
-see-bytes A (string s l v) = range-most (A .bytes) s l
-see-bytes A (user s l c v) = range-most (A .bytes) s l
-
-see-box : (A : Arena) (r : Row) → node-box (see A r) ≤ is-box r
-unfolding see is-box
-see-box A nil = omega arith
-see-box A (bool true) = omega arith
-see-box A (bool false) = omega arith
-see-box A (fixnum w) = omega arith
-see-box A (symbol s l) = omega arith
-see-box A (array s n) = omega arith
-see-box A (hash s n d) = omega arith
-see-box A (object s n c) = omega arith
-see-box A (string s l v) = omega arith
-see-box A (user s l c v) = omega arith
-
-see-sym : (A : Arena) (r : Row) → node-sym (see A r) ≤ is-symbol r
-unfolding see is-symbol
-see-sym A nil = omega arith
-see-sym A (bool true) = omega arith
-see-sym A (bool false) = omega arith
-see-sym A (fixnum w) = omega arith
-see-sym A (symbol s l) = omega arith
-see-sym A (array s n) = omega arith
-see-sym A (hash s n d) = omega arith
-see-sym A (object s n c) = omega arith
-see-sym A (string s l v) = omega arith
-see-sym A (user s l c v) = omega arith
+-- the node seen of a row weighs no more than the row
+see-most : (A : Arena) (r : Row) → (node-words (see A r) ≤ list-length r) × (node-bytes (see A r) ≤ bytes-length r) × (node-box (see A r) ≤ is-box r) × (node-sym (see A r) ≤ is-symbol r)
+unfolding see header list-length bytes-length is-box is-symbol pick
+see-most A nil = omega arith
+see-most A (bool true) = omega arith
+see-most A (bool false) = omega arith
+see-most A (fixnum w) = omega arith
+see-most A (symbol s l) = omega (arith, range-most (A .bytes) s l)
+see-most A (array s n) = omega arith
+see-most A (hash s n d) = omega arith
+see-most A (object s n c) = omega arith
+see-most A (string s l v) = omega (arith, vars-words v, range-most (A .bytes) s l)
+see-most A (user s l c v) = omega (arith, vars-words v, range-most (A .bytes) s l)
 
 total-map : {A C : Type 0} (w : C → ℕ) (u : A → ℕ) (f : A → C) → ((x : A) → w (f x) ≤ u x) → (l : List A) → total w (map f l) ≤ total u l
 total-map w u f h [] = omega arith
@@ -384,10 +343,10 @@ unfolding list-length bytes-length is-box is-symbol
 load-holds input room limit h s e =
     let c = covered (load-traced input room limit s h e) in
     record {
-      words = omega (arith, c .words, seen-total node-words list-length s see-words);
-      bytes = omega (arith, c .bytes, seen-total node-bytes bytes-length s see-bytes);
-      boxes = omega (arith, c .boxes, seen-total node-box is-box s see-box);
-      names = omega (arith, c .names, seen-total node-sym is-symbol s see-sym);
+      words = omega (arith, c .words, seen-total node-words list-length s (λ A r. see-most A r .0));
+      bytes = omega (arith, c .bytes, seen-total node-bytes bytes-length s (λ A r. see-most A r .1));
+      boxes = omega (arith, c .boxes, seen-total node-box is-box s (λ A r. see-most A r .2));
+      names = omega (arith, c .names, seen-total node-sym is-symbol s (λ A r. see-most A r .3));
     }
 
 pub lf-most : (P : List Node) (v : ℕ) → lf P v ≤ 1
@@ -455,11 +414,11 @@ only v u = pick (eqb v u) 1 0
 
 pub only-there : (v : ℕ) → only v v ≡ 1
 unfolding pick
-only-there v = rw (yes-eqb v)
+only-there v = rw (eq-eqb v v refl)
 
 only-other : (v u : ℕ) → v ≢ u → only v u ≡ 0
 unfolding pick
-only-other v u n = rw (no-eqb v u n)
+only-other v u n = rw (ne-eqb v u n)
 
 sum-only : (v n : ℕ) → sumTo (only v) n ≤ 1
 sum-only v n = go n .0

@@ -3,15 +3,16 @@ use Prim.Native.Nat.{ℕ, suc, _+_, _-_, _*_, _≤_, _<_}
 use mathlib.Core.Path.{_≡_}
 use mathlib.Core.Bool.{Bool}
 use mathlib.Core.List.{List, [], _∷_}
-use lib.ListN.{length, replicate}
+use lib.ListN.{length}
 use Rattle.definition.specs.Run.{ok}
-use Rattle.definition.specs.Node.{Row, Vars, nil, bool, fixnum, symbol, array, hash, object, string, user, absent, present}
+use Rattle.definition.specs.Node.{Row, nil, bool, fixnum, symbol, hash, object, string, user, absent}
 use Rattle.definition.specs.Arena.{range}
 use Rattle.definition.specs.Load.{State, Room, at-set, read-integer}
-use Rattle.graph.specs.Lists.{At, NotIn}
+use Rattle.lists.specs.Lists.{At, NotIn}
 use Rattle.graph.specs.Forest.{sym}
 use Rattle.graph.specs.View.{state-seen}
-use Rattle.load_forest.specs.Views.{list-length, with-node, with-symbol, with-object-node, with-bytes, with-words, with-word, with-row}
+use Rattle.states.specs.Rows.{list-length, Listed, Varied}
+use Rattle.states.specs.States.{with-node, with-symbol, with-object-node, with-bytes, with-word, with-row, with-room, with-new-symbol}
 
 -- what is read: a value; a name; n values or n pairs of name and value, written from a word on
 pub data Mode : Type 0 where
@@ -37,20 +38,6 @@ pub data Plain (input : List ℕ) : Row → Type 0 where
   plain-bool : (b : Bool) → Plain input (bool b)
   plain-fixnum : (w : ℕ) (s t : State) → read-integer input s ≡ ok w t → Plain input (fixnum w)
 
--- a row whose members are the words from p on
-pub data Listed (p : ℕ) : Row → Type 0 where
-  is-array : (n : ℕ) → Listed p (array p n)
-  is-hash : (n : ℕ) → Listed p (hash p n 0)
-
--- a row with n pairs of variables from p on, in place of what variables it had
-pub data Varied (p n : ℕ) : Row → Row → Type 0 where
-  varied-string : {s l : ℕ} {v : Vars} → Varied p n (string s l v) (string s l (present p n))
-  varied-user : {s l c : ℕ} {v : Vars} → Varied p n (user s l c v) (user s l c (present p n))
-
--- n words reserved at the end
-abbrev pub with-room : ℕ → State → State
-with-room n s = with-words (replicate n 0) s
-
 -- `Trace m s vs t`: reading from s gave vs and led to t
 pub data Trace (input : List ℕ) (room : Room) : Mode → State → List ℕ → State → Type 0 where
   reading : {m : Mode} {s t : State} {vs : List ℕ} (k : ℕ) → s .at ≤ k → k ≤ length input → Trace input room m (at-set k s) vs t → Trace input room m s vs t
@@ -59,7 +46,7 @@ pub data Trace (input : List ℕ) (room : Room) : Mode → State → List ℕ �
   known : {m : Mode} {s : State} (b : List ℕ) (h : ℕ) → One m → At (state-seen s .nodes) h (sym b) → length (s .symbols) < room .symbols → Trace input room m s (h ∷ []) (with-symbol h s)
   new : {m : Mode} {s : State} (b : List ℕ) → One m → NotIn (sym b) (state-seen s .nodes) → Part input b
       → length b ≤ room .bytes - length (s .bytes) → length (s .nodes) < room .nodes → length (s .symbols) < room .symbols
-      → Trace input room m s (length (s .nodes) ∷ []) (with-symbol (length (s .nodes)) (with-node (symbol (length (s .bytes)) (length b)) (with-bytes b s)))
+      → Trace input room m s (length (s .nodes) ∷ []) (with-new-symbol b s)
   symbol-link : {m : Mode} {s : State} (i h : ℕ) → One m → At (s .symbols) i h → Trace input room m s (h ∷ []) s
   object-link : {s : State} (i h : ℕ) → At (s .objects) i h → Trace input room value s (h ∷ []) s
   list : {s t : State} {ms : List ℕ} (r : Row) → Listed (length (s .references)) r

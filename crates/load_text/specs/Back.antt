@@ -1,24 +1,22 @@
 -- What a dump of an arena wrote is loaded, and what is then there is described by the same forest.
 use Prim.Native.Nat.{ℕ, zero, suc, _+_, _≤_}
-use mathlib.Core.Path.{_≡_, refl, ap, subst}
-use mathlib.Core.Path.{_∙_}
+use mathlib.Core.Path.{_≡_, refl, subst}
+use mathlib.Core.Path.{sym as psym, _∙_}
 use mathlib.Core.Logic.{_⊎_, inl, inr}
 use mathlib.Core.List.{List, [], _∷_, _++_}
 use lib.ListN.{length, set, replicate}
 use native.Mathlib.Omega.{arith}
 use Rattle.definition.specs.Run.{ok, pure, pick}
-use Rattle.definition.specs.Node.{nil}
 use Rattle.definition.specs.Graph.{Header}
 use Rattle.definition.specs.Load.{Room, State, at-set, read-header, read-value, begin, load}
-use Rattle.graph.specs.Lists.{At, at-app, at-snoc, at-snoc-inv, at-set-other, apart}
+use Rattle.lists.specs.Lists.{At, at-app, at-snoc, at-snoc-inv, at-set-other, no-at, apart}
 use Rattle.graph.specs.Forest.{Node, leaf, sym, box, Num, fresh, F, fEnd, refsOf, bytesOf, boxesOf, symsOf, values, Text}
 use Rattle.graph.specs.Describe.{E, e-len}
 use Rattle.graph.specs.Build.{St, push, pushO, put, addSym, num, Ph, ph-nosym, B, bEnd, bLeaf, bBox, bRef, bKnown, bNew, bSymref, bIv, keep, desc, boxed, Names, Inv, nodesOf}
 use Rattle.graph.specs.View.{see, seen, arena-of, state-seen}
-use Rattle.load_text.specs.Tests.{step}
+use Rattle.states.specs.States.{seen-root, begin-ranged}
+use Rattle.load_text.specs.Steps.{step}
 use Rattle.load_text.specs.Input.{Ahead, ahead-as, read-byte-ahead}
-use Rattle.load_text.specs.Rows.{on-list, on-bytes, see-same, map-same}
-use Rattle.load_text.specs.States.{tables, view, nodes-of, Ranged}
 use Rattle.load_text.specs.Items.{Step, Items}
 use Rattle.load_text.specs.Leaves.{Small}
 use Rattle.load_text.specs.Boxes.{one-left}
@@ -62,28 +60,15 @@ symbols (bIv hd us os c b₁ b₂ a t) h = absurd c
 
 -- ---- what was built from nothing is described
 
-no-entry : {A C : Type 0} (k : ℕ) (v : A) → At [] k v → C
-no-entry k v e = apart (cc)
-
 pub describes : (g : F) (v : ℕ) (s s′ : St) → s .objs ≡ [] → s .syms ≡ [] → B ⊥ g s (v ∷ []) s′ → E (s′ .nodes) g (v ∷ []) (num s) (num s′)
 describes g v s s′ e₁ e₂ b =
     desc (s′ .nodes) b (λ i x l a. a)
-    (record { fo = λ k u a. go k u (boxed b k u a); fy = symbols b (λ k u a. no-entry k u (subst (λ (l : List ℕ). At l k u) e₂ a)) })
-    (record { wo = λ k u a. no-entry k u (subst (λ (l : List ℕ). At l k u) e₁ a); wy = λ k u a. no-entry k u (subst (λ (l : List ℕ). At l k u) e₂ a) })
+    (record { fo = λ k u a. go k u (boxed b k u a); fy = symbols b (λ k u a. no-at k u (subst (λ (l : List ℕ). At l k u) e₂ a)) })
+    (record { wo = λ k u a. no-at k u (subst (λ (l : List ℕ). At l k u) e₁ a); wy = λ k u a. no-at k u (subst (λ (l : List ℕ). At l k u) e₂ a) })
   where
     go : (k u : ℕ) → At (s .objs) k u ⊎ ((h : Header) × (ms : List ℕ) × At (s′ .nodes) u (box h ms)) → (h : Header) × (ms : List ℕ) × At (s′ .nodes) u (box h ms)
-    go k u (inl a) = no-entry k u (subst (λ (l : List ℕ). At l k u) e₁ a)
+    go k u (inl a) = no-at k u (subst (λ (l : List ℕ). At l k u) e₁ a)
     go k u (inr a) = a
-
-view-seen : (s : State) (h : ℕ) → Ranged s → view s .nodes ≡ seen (arena-of s h)
-unfolding seen
-view-seen s h a =
-    map-same _ _ (s .nodes) λ i r e.
-    see-same (tables (s .references) (s .bytes)) (arena-of s h) r (on-list _ _ (λ p n q. refl) r (a i r e .0)) (on-bytes _ _ (λ p n q. refl) r (a i r e .1))
-
-pub view-state-seen : (s : State) → Ranged s → view s ≡ state-seen s
-unfolding state-seen
-view-state-seen s a = ap (λ (l : List Node). nodes-of l (view s)) (view-seen s 0 a)
 
 -- ---- the call
 
@@ -120,33 +105,29 @@ header-runs x =
     let b : Ahead input 1 (0x08 ∷ x) = record { rest = refl; size = omega arith } in
     step _ _ begin 4 (at-set 1 begin) (read-byte-ahead input begin 4 (0x08 ∷ x) a) ∙ step _ _ (at-set 1 begin) 8 opening (read-byte-ahead input (at-set 1 begin) 8 x b)
 
-opening-inv : (P : List Node) → Inv P fresh (view opening)
-unfolding see
+opening-inv : (P : List Node) → Inv P fresh (state-seen opening)
+unfolding see seen state-seen
 opening-inv P = record { io = refl; iy = refl; im = go }
   where
     go : (i : ℕ) (b : List ℕ) → At (leaf 0 0 ∷ []) i (sym b) → (k : ℕ) × (u : ℕ) × At (fresh .syms) k u × At P u (sym b)
     go zero b e = apart (cc)
     go (suc i) b e = apart (cc)
 
-opening-ranged : Ranged opening
-opening-ranged zero r e = let q : nil ≡ r = cc in rw (← q) (tt, tt)
-opening-ranged (suc h) r e = apart (cc)
-
 back : (room : Room) (limit : ℕ) (P : List Node) (g : F) (x : List ℕ) (σ : Num)
     → Step (0x04 ∷ 0x08 ∷ x) room P (read-value (0x04 ∷ 0x08 ∷ x) room limit limit) g fEnd σ opening [] → Back room limit g x
-unfolding load
+unfolding load state-seen
 back room limit P g x σ t =
     let s = t .then′ in
     let h = t .value in
-    let d = describes g h (view opening) (view s) refl refl (t .built [] (view s) bEnd) in
+    let d = describes g h (state-seen opening) (state-seen s) refl refl (t .built [] (state-seen s) bEnd) in
     let ev = t .even in
     record {
       root = h;
       state = s;
       runs = step _ _ begin tt opening (header-runs x) ∙ t .runs;
       used = omega (arith, t .ahead .size);
-      num = num (view s);
-      says = subst (λ (L : List Node). E L g (h ∷ []) fresh (num (view s))) (view-seen s h (t .ranged)) d;
+      num = num (state-seen s);
+      says = subst (λ (L : List Node). E L g (h ∷ []) fresh (num (state-seen s))) (psym (seen-root s h)) d;
       nodes = omega (arith, ev .nodes);
       objects = omega (arith, ev .objects);
       symbols = omega (arith, ev .symbols);
@@ -164,5 +145,5 @@ load-back P nm limit root g x σ room sm rf t d =
     let (z, tk, e) = one-left input room P it in
     let a : Ahead input 2 x = record { rest = refl; size = omega arith } in
     back room limit P g x σ
-    (tk opening [] (opening-inv P) opening-ranged (ahead-as _ _ e a)
+    (tk opening [] (opening-inv P) begin-ranged (ahead-as _ _ e a)
     (record { nodes = rf .nodes; objects = omega (arith, rf .objects); symbols = omega (arith, rf .symbols); references = omega (arith, rf .references); bytes = omega (arith, rf .bytes) }))

@@ -9,10 +9,9 @@ use lib.Pow.{pow-mono}
 use lib.Dec.{ltb, leb, eqb}
 use lib.ListN.{length}
 use native.Mathlib.Omega.{arith}
+use borrow.Author.Tests.{eqb-true, eqb-false, ne-eqb, le-leb, lt-leb, leb-true, leb-false}
 use Rattle.definition.specs.Run.{pick}
 use Rattle.definition.specs.Integer.{value, data-bytes, form, little, low-bytes, fewest, integer-bytes}
-use Rattle.graph.specs.Lists.{eqb-yes, eqb-no, no-eqb}
-use Rattle.load_text.specs.Tests.{leb-yes, leb-no, yes-leb, no-leb}
 
 -- what is above the lowest n bytes
 abbrev above : ℕ → ℕ → ℕ
@@ -110,11 +109,11 @@ codes-down {w = w} l u (four h) = codes-low w 4 252 0 form-252 (omega arith)
 
 form-small : (b : ℕ) → 4 < b → b ≤ 127 → form b ≡ value (b - 5)
 unfolding form pick
-form-small b l u = rw (no-eqb b 0 (omega arith), leb-no b 4 l, leb-yes b 127 u)
+form-small b l u = rw (ne-eqb b 0 (omega arith), lt-leb b 4 l, le-leb b 127 u)
 
 form-minus : (b : ℕ) → 127 < b → b ≤ 251 → form b ≡ value ((4294967296 + b - 251) % 4294967296)
 unfolding form pick
-form-minus b l u = rw (no-eqb b 0 (omega arith), leb-no b 4 (omega arith), leb-no b 127 l, leb-yes b 251 u)
+form-minus b l u = rw (ne-eqb b 0 (omega arith), lt-leb b 4 (omega arith), lt-leb b 127 l, le-leb b 251 u)
 
 form-zero : form 0 ≡ value 0
 unfolding form pick
@@ -127,16 +126,16 @@ codes w h = go (eqb w 0) (leb w 122) (ltb w 2147483648) (ltb w 4294967173) refl 
     go : (a b c d : Bool) → eqb w 0 ≡ a → leb w 122 ≡ b → ltb w 2147483648 ≡ c → ltb w 4294967173 ≡ d
         → Codes w (pick a (0 ∷ []) (pick b ((w + 5) ∷ []) (pick c (fewest w ∷ low-bytes (fewest w) w)
         (pick d ((256 - fewest (4294967295 - w)) ∷ low-bytes (fewest (4294967295 - w)) w) (((w - 5) % 256) ∷ [])))))
-    go true b c d e₁ e₂ e₃ e₄ = short 0 (form-zero ∙ ap value (psym (eqb-yes w 0 e₁)))
+    go true b c d e₁ e₂ e₃ e₄ = short 0 (form-zero ∙ ap value (psym (eqb-true w 0 e₁)))
     go false true c d e₁ e₂ e₃ e₄ =
-        let n₁ = eqb-no w 0 e₁ in
-        let n₂ = yes-leb w 122 e₂ in
+        let n₁ = eqb-false w 0 e₁ in
+        let n₂ = leb-true w 122 e₂ in
         short (w + 5) (form-small (w + 5) (omega arith) (omega arith) ∙ ap value (omega arith))
-    go false false true d e₁ e₂ e₃ e₄ = let n₂ = no-leb w 122 e₂ in codes-up (few w (omega arith) (omega arith))
+    go false false true d e₁ e₂ e₃ e₄ = let n₂ = leb-false w 122 e₂ in codes-up (few w (omega arith) (omega arith))
     go false false false true e₁ e₂ e₃ e₄ =
-        let n₃ = no-leb (suc w) 2147483648 e₃ in
-        let n₄ = yes-leb (suc w) 4294967173 e₄ in
+        let n₃ = leb-false (suc w) 2147483648 e₃ in
+        let n₄ = leb-true (suc w) 4294967173 e₄ in
         codes-down (omega arith) h (few (4294967295 - w) (omega arith) (omega arith))
     go false false false false e₁ e₂ e₃ e₄ =
-        let n₄ = no-leb (suc w) 4294967173 e₄ in
+        let n₄ = leb-false (suc w) 4294967173 e₄ in
         short ((w - 5) % 256) (form-minus ((w - 5) % 256) (omega arith) (omega arith) ∙ ap value (omega arith))

@@ -1,29 +1,26 @@
 -- A forest's bytes are read and its building is done.
-use Prim.Native.Nat.{ℕ, suc, _+_, _*_, _≤_, _<_}
-use mathlib.Core.Path.{_≡_, refl, ap, subst}
-use mathlib.Core.Path.{sym as psym}
+use Prim.Native.Nat.{ℕ, suc, _+_, _*_, _<_}
+use mathlib.Core.Path.{_≡_, refl, subst}
 use mathlib.Core.Bool.{true, false}
-use mathlib.Core.List.{List, [], _∷_, _++_, append-nil}
-use lib.ListN.{length, replicate}
-use Rattle.definition.specs.Run.{ok, pick}
+use mathlib.Core.List.{List, [], _∷_, _++_}
+use lib.ListN.{replicate}
+use Rattle.definition.specs.Run.{pick}
 use Rattle.definition.specs.Integer.{integer-bytes}
 use Rattle.definition.specs.Kind.{NIL, TRUE, FALSE, FIXNUM, SYMBOL, SYMBOL-LINK, OBJECT-LINK, INSTANCE-VARIABLES, ARRAY, HASH, HASH-DEFAULT, OBJECT, STRING, USER-DEFINED}
 use Rattle.definition.specs.Node.{nil, bool, fixnum}
 use Rattle.definition.specs.Arena.{Arena}
 use Rattle.definition.specs.Graph.{header-of}
 use Rattle.definition.specs.Dump.{byte-string-bytes}
-use Rattle.definition.specs.Load.{Room, State, Reader, head, value-of, read-value, add-node, read-fixnum, read-symbol, read-symbol-link, read-object-link, read-symbol-like, read-array, read-hash, read-object, read-string, read-user-defined, read-variables}
-use Rattle.graph.specs.Lists.{At, NotIn, at-lt}
+use Rattle.definition.specs.Load.{Room, Reader, head, value-of, read-value, add-node, read-fixnum, read-symbol, read-symbol-link, read-object-link, read-symbol-like, read-array, read-hash, read-object, read-string, read-user-defined, read-variables}
+use Rattle.lists.specs.Lists.{At, NotIn, at-lt}
 use Rattle.graph.specs.Forest.{Node, leaf, sym, Num, addO, addS, F, fEnd, fLeaf, fBox, fRef, fSym, fSymref, trees, Mode, values, pairs, value-pairs, name, name-pairs, after, IsValue, Text, tEnd, tEndPairs, tName, tNameLink, tOneName, tOneLink, tClass, tClassLink, tNil, tFalse, tTrue, tFixnum, tSymbol, tSymbolLink, tObjectLink, tArray, tHash, tHashDefault, tObject, tString, tStringVars, tUser, tUserVars}
 use Rattle.graph.specs.Describe.{E, eEnd, eLeaf, eBox, eRef, eSym, eSymref}
-use Rattle.graph.specs.Build.{B, bEnd, Inv, Names}
+use Rattle.graph.specs.Build.{Names}
 use Rattle.graph.specs.View.{see}
-use Rattle.load_text.specs.Input.{Ahead, ahead-as}
-use Rattle.load_text.specs.Rows.{write}
-use Rattle.load_text.specs.States.{view, Ranged, Clear, Frame}
-use Rattle.load_text.specs.Items.{Fits, Even, Takes, Items, end, item, in-turn, by-turns, Ran, run-items}
+use Rattle.states.specs.States.{inside-nil, inside-bool, inside-fixnum, above-nil, above-bool, above-fixnum}
+use Rattle.load_text.specs.Items.{Takes, Items, end, item, by-turns}
 use Rattle.load_text.specs.Leaves.{Small, kind-runs, takes-kind, takes-name, takes-name-link, takes-leaf, node-runs, fixnum-runs, takes-object-link, takes-symbol-link, takes-symbol}
-use Rattle.load_text.specs.Boxes.{nothing, takes-array, takes-hash, takes-hash-default, takes-object}
+use Rattle.load_text.specs.Boxes.{takes-array, takes-hash, takes-hash-default, takes-object}
 use Rattle.load_text.specs.Strings.{takes-string, takes-user, takes-string-vars, takes-user-vars}
 
 -- the modes in which values are put into words; the others come before them
@@ -140,17 +137,17 @@ module _ (input : List ℕ) (room : Room) (sm : Small room) (limit : ℕ) (P : L
     kind k rd z g r σ σ₁ e tk = takes-kind input room P limit l k rd z e tk
 
     val-nil : (r : F) (σ : Num) → Tk (val (suc l)) (fLeaf 0 0 r) r (NIL ∷ []) σ σ
-    val-nil r σ = kind NIL _ [] _ r σ σ is-nil (takes-leaf input room P _ nil 0 0 [] r σ (λ A. see-leaf A 0 .0) (λ Q. (tt, tt)) (node-runs input room P nil))
+    val-nil r σ = kind NIL _ [] _ r σ σ is-nil (takes-leaf input room P _ nil 0 0 [] r σ (λ A. see-leaf A 0 .0) inside-nil above-nil (node-runs input room P nil))
 
     val-false : (r : F) (σ : Num) → Tk (val (suc l)) (fLeaf 1 0 r) r (FALSE ∷ []) σ σ
-    val-false r σ = kind FALSE _ [] _ r σ σ is-false (takes-leaf input room P _ (bool false) 1 0 [] r σ (λ A. see-leaf A 0 .1) (λ Q. (tt, tt)) (node-runs input room P (bool false)))
+    val-false r σ = kind FALSE _ [] _ r σ σ is-false (takes-leaf input room P _ (bool false) 1 0 [] r σ (λ A. see-leaf A 0 .1) (inside-bool false) (λ p. above-bool p false) (node-runs input room P (bool false)))
 
     val-true : (r : F) (σ : Num) → Tk (val (suc l)) (fLeaf 1 1 r) r (TRUE ∷ []) σ σ
-    val-true r σ = kind TRUE _ [] _ r σ σ is-true (takes-leaf input room P _ (bool true) 1 1 [] r σ (λ A. see-leaf A 0 .2) (λ Q. (tt, tt)) (node-runs input room P (bool true)))
+    val-true r σ = kind TRUE _ [] _ r σ σ is-true (takes-leaf input room P _ (bool true) 1 1 [] r σ (λ A. see-leaf A 0 .2) (inside-bool true) (λ p. above-bool p true) (node-runs input room P (bool true)))
 
     val-fixnum : (w : ℕ) (r : F) (σ : Num) → w < 4294967296 → Tk (val (suc l)) (fLeaf 2 w r) r (FIXNUM ∷ integer-bytes w) σ σ
     val-fixnum w r σ h =
-        kind FIXNUM _ (integer-bytes w) _ r σ σ is-fixnum (takes-leaf input room P _ (fixnum w) 2 w (integer-bytes w) r σ (λ A. see-leaf A w .3) (λ Q. (tt, tt)) (fixnum-runs input room P w h))
+        kind FIXNUM _ (integer-bytes w) _ r σ σ is-fixnum (takes-leaf input room P _ (fixnum w) 2 w (integer-bytes w) r σ (λ A. see-leaf A w .3) (inside-fixnum w) (λ p. above-fixnum p w) (fixnum-runs input room P w h))
 
   -- ---- names, without the kind of a value
 
@@ -267,41 +264,3 @@ module _ (input : List ℕ) (room : Room) (sm : Small room) (limit : ℕ) (P : L
   load-complete (tUserVars {m = m} {l = l} {n = n} {b = b} {x = x} {y = y} {f = f} {r = r} v (tOneLink {k = j}) t₁ t) (eBox {v = u} {σ = σ} {σ₂ = σ₂} {σ′ = σ′} a (eSymref {v = u′} a₁ k₁ eEnd) k d₁ d) w =
       on-value m (suc (suc l)) (fBox (header-of 8 0 b n true) (fSymref false j fEnd) f r) r (INSTANCE-VARIABLES ∷ USER-DEFINED ∷ SYMBOL-LINK ∷ (integer-bytes j ++ byte-string-bytes b ++ integer-bytes n ++ y)) x σ σ₂ σ′ v
       (val-user-vars l n b (fSymref false j fEnd) f r (SYMBOL-LINK ∷ integer-bytes j) y σ σ σ₂ u (link-like j fEnd σ u′ k₁) (load-complete t₁ d₁ tt)) (load-complete t d (words-after m v))
-
-  -- the run of a mode: its values stand in the words from i on, what is then seen was built by the forest, and all its bytes were used
-  pub record Loaded (m : Mode) (l : ℕ) (g : F) (σ′ : Num) (s : State) (i : ℕ) (y : List ℕ) : Type 0 where
-    pub values : List ℕ
-    pub then′ : State
-    pub runs : in-turn (readers m l (trees g)) i s ≡ ok tt then′
-    pub built : B ⊥ g (view s) values (view then′)
-    pub ahead : Ahead input (then′ .at) y
-    pub inv : Inv P σ′ (view then′)
-    pub ranged : Ranged then′
-    pub frame : Frame (write i values (s .references)) s then′
-    pub even : Even 0 g s fEnd then′
-
-  loaded : (m : Mode) (l : ℕ) (g : F) (σ′ : Num) (s : State) (i : ℕ) (y : List ℕ) → Ran input room P (readers m l (trees g)) [] g σ′ s i y → Loaded m l g σ′ s i y
-  loaded m l g σ′ s i y u =
-      let (e₁, e₂, e₃) = nothing input room P (u .left) in
-      let w = u .then′ in
-      let b = u .built [] (view w) (subst (λ (f : F). B ⊥ f (view w) [] (view w)) (psym e₁) bEnd) in
-      record {
-        values = u .values;
-        then′ = w;
-        runs = u .runs;
-        built = subst (λ (vs : List ℕ). B ⊥ g (view s) vs (view w)) (append-nil (u .values)) b;
-        ahead = ahead-as _ _ (ap (λ (t : List ℕ). t ++ y) e₂) (u .ahead);
-        inv = subst (λ (τ : Num). Inv P τ (view w)) e₃ (u .inv);
-        ranged = u .ranged;
-        frame = u .frame;
-        even = subst (λ (f : F). Even 0 g s f w) e₁ (u .even);
-      }
-
-  -- for values the readers in turn are read-elements, for pairs read-pairs (elements-in-turn, pairs-in-turn)
-  pub load-run : {m : Mode} {l : ℕ} {g : F} {x : List ℕ} → Text m l g x → {vs : List ℕ} {σ σ′ : Num} → E P g vs σ σ′ → InWords m → (s : State) (i : ℕ) (y : List ℕ)
-      → Inv P σ (view s) → Ranged s → Ahead input (s .at) (x ++ y) → Fits room 0 g s → i + length (readers m l (trees g)) ≤ length (s .references)
-      → Clear i (i + length (readers m l (trees g))) (s .nodes) → Loaded m l g σ′ s i y
-  load-run {m = m} {l = l} {g = g} {x = x} t {σ = σ} {σ′ = σ′} d w s i y v a h f k c =
-      let rds = readers m l (trees g) in
-      let it = subst (λ (r : List (Reader ℕ)). Its r g x σ σ′) (psym (append-nil rds)) (load-complete t d w) in
-      loaded m l g σ′ s i y (run-items input room P rds [] it s i y v a h f k c)

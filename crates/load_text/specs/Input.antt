@@ -1,16 +1,18 @@
 -- What stands ahead in the input, and what the readers of bytes, integers and byte strings make of it.
-use Prim.Native.Nat.{ℕ, zero, suc, _+_, _-_, _≤_, _<_}
-use mathlib.Core.Path.{_≡_, refl, ap, subst}
+use Prim.Native.Nat.{ℕ, suc, _+_, _-_, _<_}
+use mathlib.Core.Path.{_≡_, ap, subst}
 use mathlib.Core.Path.{sym as psym, _∙_}
 use mathlib.Core.List.{List, [], _∷_, _++_, append-assoc}
-use lib.ListN.{length, getD, take, drop, length-append, length-drop}
+use lib.ListN.{length, getD, drop, length-append}
+use lib.Seq.{getD-drop, drop-drop, take-append-seam, drop-append-seam}
 use native.Mathlib.Omega.{arith}
+use borrow.Author.Tests.{le-leb}
 use Rattle.definition.specs.Run.{ok, pure, pick}
 use Rattle.definition.specs.Integer.{value, form, integer-bytes}
 use Rattle.definition.specs.Arena.{range}
 use Rattle.definition.specs.Dump.{byte-string-bytes}
 use Rattle.definition.specs.Load.{State, at-set, read-byte, read-bytes, read-form, read-integer, read-count, read-byte-string}
-use Rattle.load_text.specs.Tests.{leb-yes, step}
+use Rattle.load_text.specs.Steps.{step}
 use Rattle.load_text.specs.Codec.{Codes, short, long, codes}
 
 -- from offset n on the input is x
@@ -18,33 +20,9 @@ pub record Ahead (input : List ℕ) (n : ℕ) (x : List ℕ) : Type 0 where
   pub rest : drop n input ≡ x
   pub size : length input ≡ n + length x
 
--- the offset is inside, and the rest is x
-pub ahead-of : (input : List ℕ) (n : ℕ) (x : List ℕ) → drop n input ≡ x → n ≤ length input → Ahead input n x
-ahead-of input n x e h = record { rest = e; size = omega (arith, psym (ap length e) ∙ length-drop n input) }
-
-take-all : {A : Type 0} (l m : List A) → take (length l) (l ++ m) ≡ l
-take-all [] m = refl
-take-all (x ∷ l) m = ap (λ (t : List _). x ∷ t) (take-all l m)
-
-drop-all : {A : Type 0} (l m : List A) → drop (length l) (l ++ m) ≡ m
-drop-all [] m = refl
-drop-all (x ∷ l) m = drop-all l m
-
-drop-drop : {A : Type 0} (n k : ℕ) (l : List A) → drop k (drop n l) ≡ drop (n + k) l
-drop-drop zero k l = let z : k ≡ zero + k = omega arith in ap (λ (t : ℕ). drop t l) z
-drop-drop (suc n) zero [] = let z : suc n + 0 ≡ suc n = omega arith in rw z refl
-drop-drop (suc n) (suc k) [] = let z : suc n + suc k ≡ suc (n + suc k) = omega arith in rw z refl
-drop-drop (suc n) k (x ∷ l) = let z : suc n + k ≡ suc (n + k) = omega arith in rw z (drop-drop n k l)
-
-getD-drop : (n : ℕ) (l x : List ℕ) (b : ℕ) → drop n l ≡ b ∷ x → getD l n 0 ≡ b
-getD-drop zero [] x b e = let z : _≡_ {A = ℕ} 0 1 = cc in absurd (omega arith)
-getD-drop (suc n) [] x b e = let z : _≡_ {A = ℕ} 0 1 = cc in absurd (omega arith)
-getD-drop zero (y ∷ l) x b e = cc
-getD-drop (suc n) (y ∷ l) x b e = getD-drop n l x b e
-
 pub ahead-past : {input : List ℕ} {n : ℕ} (bs x : List ℕ) → Ahead input n (bs ++ x) → Ahead input (n + length bs) x
 ahead-past {input = input} {n = n} bs x a = record {
-  rest = psym (drop-drop n (length bs) input) ∙ ap (drop (length bs)) (a .rest) ∙ drop-all bs x;
+  rest = psym (drop-drop (length bs) n input) ∙ ap (drop (length bs)) (a .rest) ∙ drop-append-seam bs x;
   size = omega (arith, a .size, length-append bs x);
 }
 
@@ -52,14 +30,19 @@ ahead-past {input = input} {n = n} bs x a = record {
 pub ahead-as : {input : List ℕ} {n : ℕ} (x y : List ℕ) → x ≡ y → Ahead input n x → Ahead input n y
 ahead-as {input = input} {n = n} x y e a = subst (Ahead input n) e a
 
+first-ahead : (input : List ℕ) (n b : ℕ) (x : List ℕ) → Ahead input n (b ∷ x) → getD input n 0 ≡ b
+first-ahead input n b x a =
+    let z : n ≡ n + 0 = omega arith in
+    ap (λ (k : ℕ). getD input k 0) z ∙ psym (getD-drop n input 0 0) ∙ ap (λ (l : List ℕ). getD l 0 0) (a .rest)
+
 pub read-byte-ahead : (input : List ℕ) (s : State) (b : ℕ) (x : List ℕ) → Ahead input (s .at) (b ∷ x) → read-byte input s ≡ ok b (at-set (s .at + 1) s)
 unfolding read-byte pick
-read-byte-ahead input s b x a = rw (leb-yes (suc (s .at)) (length input) (omega (arith, a .size)), getD-drop (s .at) input x b (a .rest))
+read-byte-ahead input s b x a = rw (le-leb (suc (s .at)) (length input) (omega (arith, a .size)), first-ahead input (s .at) b x a)
 
 pub read-bytes-ahead : (input : List ℕ) (s : State) (bs x : List ℕ) → Ahead input (s .at) (bs ++ x) → read-bytes input (length bs) s ≡ ok bs (at-set (s .at + length bs) s)
 unfolding read-bytes range pick
 read-bytes-ahead input s bs x a =
-    rw (leb-yes (length bs) (length input - s .at) (omega (arith, a .size, length-append bs x)), a .rest, take-all bs x)
+    rw (le-leb (length bs) (length input - s .at) (omega (arith, a .size, length-append bs x)), a .rest, take-append-seam bs x)
 
 -- ---- integers
 
@@ -84,7 +67,7 @@ read-integer-ahead input s w x h a = read-coded input s w (integer-bytes w) x (c
 pub read-count-ahead : (input : List ℕ) (s : State) (w : ℕ) (x : List ℕ) → w < 2147483648 → Ahead input (s .at) (integer-bytes w ++ x)
     → read-count input s ≡ ok w (at-set (s .at + length (integer-bytes w)) s)
 unfolding read-count pick pure
-read-count-ahead input s w x h a = step _ _ s w _ (read-integer-ahead input s w x (omega arith) a) ∙ rw (leb-yes (suc w) 2147483648 h)
+read-count-ahead input s w x h a = step _ _ s w _ (read-integer-ahead input s w x (omega arith) a) ∙ rw (le-leb (suc w) 2147483648 h)
 
 -- ---- byte strings
 

@@ -2,21 +2,21 @@
 use Prim.Native.Nat.{ℕ, zero, suc, _+_, _*_, _≤_, _<_}
 use mathlib.Core.Path.{_≡_, refl, ap, subst}
 use mathlib.Core.Path.{sym as psym, _∙_}
-use mathlib.Core.Logic.{_⊎_, inl, inr}
 use mathlib.Core.List.{List, [], _∷_, _++_, append-assoc}
-use lib.ListN.{length, set, replicate, length-set, length-append, length-replicate}
+use lib.ListN.{length, replicate, length-set, length-append, length-replicate}
 use native.Mathlib.Omega.{arith}
 use Rattle.definition.specs.Run.{ok, pure, next, _>>=_}
 use Rattle.definition.specs.Integer.{integer-bytes}
 use Rattle.definition.specs.Node.{Row}
-use Rattle.definition.specs.Load.{Room, State, Reader, at-set, references-set, read-count, put-reference, counted, read-elements, read-pairs}
-use Rattle.graph.specs.Lists.{At}
+use Rattle.definition.specs.Arena.{range}
+use Rattle.definition.specs.Load.{Room, State, Reader, at-set, read-count, put-reference, counted, read-elements, read-pairs}
+use Rattle.lists.specs.Ranges.{range-none}
 use Rattle.graph.specs.Forest.{Node, Num, F, fEnd, refsOf, bytesOf, boxesOf, symsOf}
 use Rattle.graph.specs.Build.{St, B, Inv, nodesOf}
-use Rattle.load_text.specs.Tests.{step}
+use Rattle.graph.specs.View.{state-seen}
+use Rattle.states.specs.States.{Ranged, Free, Frame, Keeps, with-word, with-room, ranged-words, ranged-word, seen-at-set, seen-word, room-seen, free-new, free-part, frame-refl, frame-trans, frame-below, frame-at-set, frame-words, frame-word, range-written, keeps-refl, keeps-trans}
+use Rattle.load_text.specs.Steps.{step, put-runs, reserve-runs}
 use Rattle.load_text.specs.Input.{Ahead, ahead-past, ahead-as, read-count-ahead}
-use Rattle.load_text.specs.Rows.{OnList, on-list, write, write-app, write-end}
-use Rattle.load_text.specs.States.{view, nodes-of, Ranged, Clear, Frame, all-in-up, seen-more-references, seen-put, frame-same, frame-clear, reserve-runs}
 
 -- ---- room for a forest
 
@@ -65,9 +65,9 @@ pairs-in-turn name inner zero i = refl
 pairs-in-turn name inner (suc n) i =
     ap (λ (k : Reader (Unit {0})). name >>= λ c. put-reference i c >>= λ _. inner >>= λ v. put-reference (suc i) v >>= λ _. k) (pairs-in-turn name inner n (suc (suc i)))
 
-put-runs : (i v : ℕ) (s : State) → put-reference i v s ≡ ok tt (references-set (set (s .references) i v) s)
-unfolding put-reference
-put-runs i v s = refl
+-- every row stands
+abbrev pub Every : Row → Type 0
+Every r = Unit {0}
 
 module _ (input : List ℕ) (room : Room) (P : List Node) where
   -- the reader takes the first tree of g, r and the bytes y are left
@@ -76,14 +76,15 @@ module _ (input : List ℕ) (room : Room) (P : List Node) where
     pub then′ : State
     pub runs : rd s ≡ ok value then′
     pub ahead : Ahead input (then′ .at) y
-    pub built : (ws : List ℕ) (T : St) → B ⊥ r (view then′) ws T → B ⊥ g (view s) (value ∷ ws) T
-    pub inv : Inv P σ (view then′)
+    pub built : (ws : List ℕ) (T : St) → B ⊥ r (state-seen then′) ws T → B ⊥ g (state-seen s) (value ∷ ws) T
+    pub inv : Inv P σ (state-seen then′)
     pub ranged : Ranged then′
-    pub frame : Frame (s .references) s then′
+    pub frame : Frame (length (s .references)) s then′
+    pub keeps : Keeps Every s then′
     pub even : Even 0 g s r then′
 
   abbrev pub Takes : Reader ℕ → F → F → List ℕ → Num → Num → Type 0
-  Takes rd g r z σ σ₁ = (s : State) (y : List ℕ) → Inv P σ (view s) → Ranged s → Ahead input (s .at) (z ++ y) → Fits room 0 g s → Step rd g r σ₁ s y
+  Takes rd g r z σ σ₁ = (s : State) (y : List ℕ) → Inv P σ (state-seen s) → Ranged s → Ahead input (s .at) (z ++ y) → Fits room 0 g s → Step rd g r σ₁ s y
 
   -- the readers take the trees of a forest one by one
   pub data Items : List (Reader ℕ) → F → List ℕ → Num → Num → Type 0 where
@@ -100,34 +101,25 @@ module _ (input : List ℕ) (room : Room) (P : List Node) where
     pub left : Items rest forest bytes num σ′
     pub runs : in-turn rds i s ≡ ok tt then′
     pub ahead : Ahead input (then′ .at) (bytes ++ y)
-    pub built : (ws : List ℕ) (T : St) → B ⊥ forest (view then′) ws T → B ⊥ g (view s) (values ++ ws) T
-    pub inv : Inv P num (view then′)
+    pub built : (ws : List ℕ) (T : St) → B ⊥ forest (state-seen then′) ws T → B ⊥ g (state-seen s) (values ++ ws) T
+    pub inv : Inv P num (state-seen then′)
     pub ranged : Ranged then′
-    pub frame : Frame (write i values (s .references)) s then′
+    pub frame : Frame i s then′
+    pub keeps : Keeps Every s then′
+    pub holds : range (then′ .references) i (length rds) ≡ values
     pub even : Even 0 g s forest then′
-    pub size : length values ≡ length rds
-
-  put-view : (s : State) (i v hi : ℕ) → i < hi → Clear i hi (s .nodes) → Ranged s → view (references-set (set (s .references) i v) s) ≡ view s
-  put-view s i v hi k c a = ap (λ (l : List Node). nodes-of l (view s)) (seen-put (s .references) (s .bytes) (s .nodes) i v hi k c a)
 
   -- a value was read, put at i, and then others
   run-item : (rd : Reader ℕ) (rds rest : List (Reader ℕ)) (g r : F) (σ σ₁ σ′ : Num) (s : State) (i : ℕ) (x y : List ℕ) (t : Step rd g r σ₁ s (x ++ y))
       → i + suc (length rds) ≤ length (s .references)
-      → Ran rds rest r σ′ (references-set (set (t .then′ .references) i (t .value)) (t .then′)) (suc i) y
-      → view (references-set (set (t .then′ .references) i (t .value)) (t .then′)) ≡ view (t .then′)
+      → Ran rds rest r σ′ (with-word i (t .value) (t .then′)) (suc i) y
+      → state-seen (with-word i (t .value) (t .then′)) ≡ state-seen (t .then′)
       → Ran (rd ∷ rds) rest g σ′ s i y
   unfolding in-turn
   run-item rd rds rest g r σ σ₁ σ′ s i x y t h u q =
       let v = t .value in
       let s₁ = t .then′ in
-      let (w, e, k, f) = t .frame in
-      let (w′, e′, k′, f′) = u .frame in
       let vs = u .values in
-      let n = u .size in
-      let z₁ : set (s₁ .references) i v ≡ set (s .references) i v ++ w = rw e (write-app i (v ∷ []) (s .references) w (omega arith)) in
-      let z₂ : write (suc i) vs (set (s₁ .references) i v) ≡ write (suc i) vs (set (s .references) i v) ++ w =
-      rw z₁ (write-app (suc i) vs (set (s .references) i v) w (omega (arith, length-set (s .references) i v))) in
-      let l₁ : length (s₁ .references) ≡ length (s .references) + length w = ap length e ∙ length-append (s .references) w in
       record {
         values = v ∷ vs;
         then′ = u .then′;
@@ -140,12 +132,9 @@ module _ (input : List ℕ) (room : Room) (P : List Node) where
         built = λ ws T b. t .built (vs ++ ws) T (subst (λ (S : St). B ⊥ r S (vs ++ ws) T) q (u .built ws T b));
         inv = u .inv;
         ranged = u .ranged;
-        frame = (
-          w ++ w′,
-          e′ ∙ ap (λ (l : List ℕ). l ++ w′) z₂ ∙ append-assoc (write (suc i) vs (set (s .references) i v)) w w′,
-          (λ h r a. k′ h r (k h r a)),
-          λ h r a. two h r (f′ h r a) f (omega (arith, l₁, length-set (s₁ .references) i v)),
-        );
+        frame = frame-trans (frame-below i (omega arith) (t .frame)) (frame-trans (frame-word i i v s₁ (omega arith)) (frame-below i (omega arith) (u .frame)));
+        keeps = keeps-trans (t .keeps) (keeps-trans (keeps-refl s₁ (with-word i v s₁) refl) (u .keeps));
+        holds = range-written s₁ (u .then′) i (length rds) v vs (omega (arith, t .frame .references-grow)) (u .frame) (u .holds);
         even = record {
           nodes = u .even .nodes ∙ t .even .nodes;
           objects = u .even .objects ∙ t .even .objects;
@@ -153,16 +142,9 @@ module _ (input : List ℕ) (room : Room) (P : List Node) where
           references = omega (arith, u .even .references, t .even .references, length-set (s₁ .references) i v);
           bytes = u .even .bytes ∙ t .even .bytes;
         };
-        size = ap suc n;
       }
-    where
-      two : {m : ℕ} (h : ℕ) (r : Row) → At (t .then′ .nodes) h r ⊎ OnList (λ p n. m ≤ p) r
-          → ((h : ℕ) (r : Row) → At (t .then′ .nodes) h r → At (s .nodes) h r ⊎ OnList (λ p n. length (s .references) ≤ p) r) → length (s .references) ≤ m
-          → At (s .nodes) h r ⊎ OnList (λ p n. length (s .references) ≤ p) r
-      two h r (inl a) f l = f h r a
-      two h r (inr a) f l = inr (on-list _ _ (λ p n q. omega arith) r a)
 
-  fits-on : (g r : F) (s t : State) (i v : ℕ) → Even 0 g s r t → Fits room 0 g s → Fits room 0 r (references-set (set (t .references) i v) t)
+  fits-on : (g r : F) (s t : State) (i v : ℕ) → Even 0 g s r t → Fits room 0 g s → Fits room 0 r (with-word i v t)
   fits-on g r s t i v e f = record {
     nodes = omega (arith, e .nodes, f .nodes);
     objects = omega (arith, e .objects, f .objects);
@@ -172,8 +154,8 @@ module _ (input : List ℕ) (room : Room) (P : List Node) where
   }
 
   pub run-items : (rds rest : List (Reader ℕ)) {g : F} {x : List ℕ} {σ σ′ : Num} → Items (rds ++ rest) g x σ σ′ → (s : State) (i : ℕ) (y : List ℕ)
-      → Inv P σ (view s) → Ranged s → Ahead input (s .at) (x ++ y) → Fits room 0 g s → i + length rds ≤ length (s .references)
-      → Clear i (i + length rds) (s .nodes) → Ran rds rest g σ′ s i y
+      → Inv P σ (state-seen s) → Ranged s → Ahead input (s .at) (x ++ y) → Fits room 0 g s → i + length rds ≤ length (s .references)
+      → Free i (length rds) s → Ran rds rest g σ′ s i y
   unfolding in-turn pure
   run-items [] rest {g = g} {x = x} {σ = σ} it s i y v a h f l c = record {
     values = [];
@@ -187,26 +169,21 @@ module _ (input : List ℕ) (room : Room) (P : List Node) where
     built = λ ws T b. b;
     inv = v;
     ranged = a;
-    frame = frame-same s;
+    frame = frame-refl i s;
+    keeps = keeps-refl s s refl;
+    holds = range-none (s .references) i;
     even = record { nodes = refl; objects = refl; symbols = refl; references = omega arith; bytes = refl };
-    size = refl;
   }
   run-items (rd ∷ rds) rest {σ′ = σ′} (item {g = g} {r = r} {x = x} {σ = σ} {σ₁ = σ₁} z tk it) s i y v a h f l c =
+      let n = length rds in
       let t = tk s (x ++ y) v a (ahead-as _ _ (append-assoc z x y) h) f in
       let s₁ = t .then′ in
-      let l₁ : length (s .references) ≤ length (s₁ .references) = omega (arith, ap length (t .frame .1), length-append (s .references) (t .frame .0)) in
-      let c₁ = frame-clear (s .references) s s₁ i (i + suc (length rds)) l c (t .frame) in
-      let q = put-view s₁ i (t .value) (i + suc (length rds)) (omega arith) c₁ (t .ranged) in
-      let n = length-set (s₁ .references) i (t .value) in
-      let u = run-items rds rest it (references-set (set (s₁ .references) i (t .value)) s₁) (suc i) y (subst (Inv P σ₁) (psym q) (t .inv))
-      (all-in-up (length (s₁ .references)) _ (length (s₁ .bytes)) _ (s₁ .nodes) (omega arith) (omega arith) (t .ranged))
-      (t .ahead) (fits-on g r s s₁ i (t .value) (t .even) f) (omega arith)
-      (λ h row e. on-list _ _ (λ p m. part p m) row (c₁ h row e)) in
+      let c₁ : Free i (suc n) s₁ = t .frame .stays-free i (suc n) l c in
+      let q = seen-word i (t .value) s₁ (t .ranged) (free-part i (suc n) i 1 s₁ (omega arith) (omega arith) c₁) in
+      let u = run-items rds rest it (with-word i (t .value) s₁) (suc i) y (subst (Inv P σ₁) (psym q) (t .inv)) (ranged-word i (t .value) s₁ (t .ranged))
+      (t .ahead) (fits-on g r s s₁ i (t .value) (t .even) f) (omega (arith, t .frame .references-grow, length-set (s₁ .references) i (t .value)))
+      (free-part i (suc n) (suc i) n s₁ (omega arith) (omega arith) c₁) in
       run-item rd rds rest g r σ σ₁ σ′ s i x y t l u q
-    where
-      part : (p m : ℕ) → (p + m ≤ i) ⊎ (i + suc (length rds) ≤ p) → (p + m ≤ suc i) ⊎ (suc i + length rds ≤ p)
-      part p m (inl k) = inl (omega arith)
-      part p m (inr k) = inr (omega arith)
 
   -- a count was read and its words reserved, the first readers have filled them, the others are left
   pub record Counted (each n : ℕ) (rest : List (Reader ℕ)) (read : ℕ → ℕ → Reader (Unit {0})) (f : F) (σ′ : Num) (s : State) (z : List ℕ) : Type 0 where
@@ -218,32 +195,30 @@ module _ (input : List ℕ) (room : Room) (P : List Node) where
     pub left : Items rest forest bytes num σ′
     pub runs : (k : ℕ → ℕ → Reader ℕ) → counted input room each (λ start m. read start m >>= λ _. k start m) s ≡ k (length (s .references)) n then′
     pub ahead : Ahead input (then′ .at) (bytes ++ z)
-    pub built : (ws : List ℕ) (T : St) → B ⊥ forest (view then′) ws T → B ⊥ f (view s) (values ++ ws) T
-    pub inv : Inv P num (view then′)
+    pub built : (ws : List ℕ) (T : St) → B ⊥ forest (state-seen then′) ws T → B ⊥ f (state-seen s) (values ++ ws) T
+    pub inv : Inv P num (state-seen then′)
     pub ranged : Ranged then′
-    pub frame : Frame (s .references) s then′
-    pub words : List ℕ
-    pub holds : then′ .references ≡ s .references ++ values ++ words
+    pub frame : Frame (length (s .references)) s then′
+    pub keeps : Keeps Every s then′
+    pub holds : range (then′ .references) (length (s .references)) (n * each) ≡ values
+    pub inside : length (s .references) + n * each ≤ length (then′ .references)
     pub even : Even (n * each) f s forest then′
-    pub size : length values ≡ n * each
 
   abbrev counted-at : ℕ → State → State
   counted-at n s = at-set (s .at + length (integer-bytes n)) s
 
   abbrev reserved : ℕ → ℕ → State → State
-  reserved each n s = references-set (s .references ++ replicate (n * each) 0) (counted-at n s)
+  reserved each n s = with-room (n * each) (counted-at n s)
 
   counted-from : (each n : ℕ) (rds rest : List (Reader ℕ)) (read : ℕ → ℕ → Reader (Unit {0})) (f : F) (σ′ : Num) (s : State) (z : List ℕ)
       → read (length (s .references)) n ≡ in-turn rds (length (s .references)) → length rds ≡ n * each
       → read-count input s ≡ ok n (counted-at n s) → length (s .references) + n * each ≤ room .references
-      → view (reserved each n s) ≡ view s → Ran rds rest f σ′ (reserved each n s) (length (s .references)) z → Counted each n rest read f σ′ s z
+      → state-seen (reserved each n s) ≡ state-seen s → Ran rds rest f σ′ (reserved each n s) (length (s .references)) z → Counted each n rest read f σ′ s z
   unfolding counted
   counted-from each n rds rest read f σ′ s z e₁ e₂ e₃ e₄ q u =
-      let (w, e, k, p) = u .frame in
+      let p = length (s .references) in
       let l₁ = length-replicate {A = ℕ} (n * each) 0 in
       let l₂ = length-append (s .references) (replicate (n * each) 0) in
-      let h : u .then′ .references ≡ s .references ++ u .values ++ w =
-      e ∙ ap (λ (l : List ℕ). l ++ w) (write-end (s .references) (u .values) (replicate (n * each) 0) (omega (arith, u .size))) in
       record {
         values = u .values;
         then′ = u .then′;
@@ -252,15 +227,16 @@ module _ (input : List ℕ) (room : Room) (P : List Node) where
         num = u .num;
         left = u .left;
         runs = λ k.
-            step _ _ s n _ e₃ ∙ step _ _ (counted-at n s) (length (s .references)) _ (reserve-runs room (counted-at n s) (n * each) e₄)
+            step _ _ s n _ e₃ ∙ step _ _ (counted-at n s) p _ (reserve-runs room (counted-at n s) (n * each) e₄)
             ∙ step _ _ (reserved each n s) tt (u .then′) (ap (λ (m : Reader (Unit {0})). m (reserved each n s)) e₁ ∙ u .runs);
         ahead = u .ahead;
         built = λ ws T b. subst (λ (S : St). B ⊥ f S (u .values ++ ws) T) q (u .built ws T b);
         inv = u .inv;
         ranged = u .ranged;
-        frame = (u .values ++ w, h ∙ append-assoc (s .references) (u .values) w, k, λ i r a. two i r (p i r a) (omega (arith, l₁, l₂)));
-        words = w;
-        holds = h;
+        frame = frame-trans (frame-at-set p _ s) (frame-trans (frame-words p (replicate (n * each) 0) (counted-at n s)) (u .frame));
+        keeps = keeps-trans (keeps-refl s (reserved each n s) refl) (u .keeps);
+        holds = subst (λ (k : ℕ). range (u .then′ .references) p k ≡ u .values) e₂ (u .holds);
+        inside = omega (arith, l₁, l₂, u .frame .references-grow);
         even = record {
           nodes = u .even .nodes;
           objects = u .even .objects;
@@ -268,24 +244,18 @@ module _ (input : List ℕ) (room : Room) (P : List Node) where
           references = omega (arith, u .even .references, l₁, l₂);
           bytes = u .even .bytes;
         };
-        size = u .size ∙ e₂;
       }
-    where
-      two : {m : ℕ} (i : ℕ) (r : Row) → At (s .nodes) i r ⊎ OnList (λ p n. m ≤ p) r → length (s .references) ≤ m → At (s .nodes) i r ⊎ OnList (λ p n. length (s .references) ≤ p) r
-      two i r (inl a) l = inl a
-      two i r (inr a) l = inr (on-list _ _ (λ p n q. omega arith) r a)
 
   pub counted-runs : (each n : ℕ) (rds rest : List (Reader ℕ)) (read : ℕ → ℕ → Reader (Unit {0})) {f : F} {y : List ℕ} {σ σ′ : Num} (s : State) (z : List ℕ)
       → read (length (s .references)) n ≡ in-turn rds (length (s .references)) → length rds ≡ n * each → n < 2147483648 → Items (rds ++ rest) f y σ σ′
-      → Inv P σ (view s) → Ranged s → Ahead input (s .at) (integer-bytes n ++ (y ++ z)) → Fits room (n * each) f s → Counted each n rest read f σ′ s z
+      → Inv P σ (state-seen s) → Ranged s → Ahead input (s .at) (integer-bytes n ++ (y ++ z)) → Fits room (n * each) f s → Counted each n rest read f σ′ s z
   counted-runs each n rds rest read {f = f} {y = y} {σ = σ} {σ′ = σ′} s z e₁ e₂ h it v a d g =
+      let s₁ = counted-at n s in
+      let zs : List ℕ = replicate (n * each) 0 in
       let l₁ = length-replicate {A = ℕ} (n * each) 0 in
-      let l₂ = length-append (s .references) (replicate (n * each) 0) in
-      let q : view (reserved each n s) ≡ view s =
-      ap (λ (l : List Node). nodes-of l (view s)) (seen-more-references (s .references) (replicate (n * each) 0) (s .bytes) (s .nodes) a) in
-      let u = run-items rds rest it (reserved each n s) (length (s .references)) z (subst (Inv P σ) (psym q) v)
-      (all-in-up (length (s .references)) _ (length (s .bytes)) _ (s .nodes) (omega arith) (omega arith) a)
-      (ahead-past (integer-bytes n) (y ++ z) d)
+      let l₂ = length-append (s .references) zs in
+      let q : state-seen (reserved each n s) ≡ state-seen s = room-seen (n * each) s₁ a ∙ seen-at-set _ s in
+      let u = run-items rds rest it (reserved each n s) (length (s .references)) z (subst (Inv P σ) (psym q) v) (ranged-words zs s₁ a) (ahead-past (integer-bytes n) (y ++ z) d)
       (record { nodes = g .nodes; objects = g .objects; symbols = g .symbols; references = omega (arith, g .references); bytes = g .bytes })
-      (omega arith) (λ i r e. on-list _ _ (λ p m k. inl k) r (a i r e .0)) in
+      (omega arith) (free-new (length rds) zs s₁ a) in
       counted-from each n rds rest read f σ′ s z e₁ e₂ (read-count-ahead input s n (y ++ z) h d) (omega (arith, g .references)) q u

@@ -1,9 +1,7 @@
 -- Load reads back what dump writes.
-pub mod Tests
 pub mod Codec
+pub mod Steps
 pub mod Input
-pub mod Rows
-pub mod States
 pub mod Items
 pub mod Leaves
 pub mod Boxes

@@ -1,54 +1,46 @@
 -- Strings and user-defined values, with and without variables.
-use Prim.Native.Nat.{ℕ, zero, suc, _+_, _*_, _≤_, _<_}
+use Prim.Native.Nat.{ℕ, _+_, _*_, _≤_, _<_}
 use mathlib.Core.Path.{_≡_, refl, ap, subst}
 use mathlib.Core.Path.{sym as psym, _∙_}
 use mathlib.Core.Bool.{Bool, true, false}
 use mathlib.Core.Logic.{inr}
-use mathlib.Core.Option.{some}
-use mathlib.Core.List.{List, [], _∷_, _++_, map, append-assoc, append-nil}
-use lib.ListN.{length, getD, set, length-append, length-map}
+use mathlib.Core.List.{List, [], _∷_, _++_, append-assoc, append-nil}
+use lib.ListN.{length, getD, length-append}
+use lib.Seq.{set-append-seam}
 use native.Mathlib.Omega.{arith}
-use Rattle.definition.specs.Run.{ok, look}
+use Rattle.definition.specs.Run.{ok, look, _>>=_}
 use Rattle.definition.specs.Integer.{integer-bytes}
 use Rattle.definition.specs.Node.{Row, nil, string, user, absent, present}
 use Rattle.definition.specs.Arena.{Arena, range}
 use Rattle.definition.specs.Graph.{Header, header-of, header, links, vars-count, vars-present, vars-links}
 use Rattle.definition.specs.Dump.{byte-string-bytes}
-use Rattle.definition.specs.Load.{Room, State, Reader, at-set, nodes-set, fill, read-pairs, read-instance-variables, read-symbol-like, read-string, read-user-defined, read-variables, set-variables}
-use Rattle.graph.specs.Lists.{At, at-snoc, len-snoc, apart}
-use Rattle.graph.specs.Forest.{Node, leaf, sym, box, Num, addO, F, fEnd, fBox, list-words}
-use Rattle.graph.specs.Build.{St, pushO, B, bEnd, Ph, Inv, inv-pushO, keep}
-use Rattle.graph.specs.View.{see}
-use Rattle.load_text.specs.Tests.{step}
+use Rattle.definition.specs.Load.{Room, State, Reader, at-set, nodes-set, fill, read-pairs, read-instance-variables, read-symbol-like, read-byte-string, add-bytes, add-object-node, read-string, read-user-defined, read-variables, set-variables}
+use Rattle.lists.specs.Lists.{At, at-snoc, len-snoc, getD-at, apart}
+use Rattle.lists.specs.Ranges.{range-more, range-last}
+use Rattle.graph.specs.Forest.{Node, box, Num, addO, F, fEnd, fBox, list-words}
+use Rattle.graph.specs.Build.{pushO, B, bEnd, Ph, Inv, inv-pushO}
+use Rattle.graph.specs.View.{see, arena-of, state-seen}
+use Rattle.states.specs.Rows.{Varied, varied-string, varied-user}
+use Rattle.states.specs.States.{ranged-stored, frame-stored, row-seen, Inside, Ranged, Above, Frame, Keeps, with-object-node, with-bytes, with-row, seen-at-set, bytes-node-seen, inside-string, inside-user, inside-varied, above-string, above-user, above-varied, frame-refl, frame-trans, frame-below, frame-at-set, keeps-refl, keeps-trans, keeps-object-node}
+use Rattle.load_text.specs.Steps.{step, add-object-node-runs, add-bytes-runs}
 use Rattle.load_text.specs.Input.{Ahead, ahead-past, ahead-as, read-byte-string-ahead}
-use Rattle.load_text.specs.Rows.{OnList, OnBytes, map-snoc, getD-at}
-use Rattle.load_text.specs.States.{tables, seen-in, view, nodes-of, Ranged, Frame, all-in-up, all-in-snoc, seen-more-bytes, frame-same, frame-trans, frame-add, add-object-node-runs, add-bytes-runs}
-use Rattle.load_text.specs.Items.{Fits, Even, Step, Takes, Items, by-turns}
-use Rattle.load_text.specs.Leaves.{Small, range-last}
-use Rattle.load_text.specs.Boxes.{filled, words-pairs, box-step, Told, told-pairs}
+use Rattle.load_text.specs.Items.{Every, Fits, Even, Step, Takes, Items, by-turns}
+use Rattle.load_text.specs.Leaves.{Small}
+use Rattle.load_text.specs.Boxes.{words-pairs, box-step, Told, told-pairs}
 
 -- bytes and a row were added, the node put on the object list
 abbrev stored : List ℕ → Row → ℕ → State → State
-stored b row n s = record {
-  at = n;
-  nodes = s .nodes ++ (row ∷ []);
-  references = s .references;
-  bytes = s .bytes ++ b;
-  symbols = s .symbols;
-  objects = s .objects ++ (length (s .nodes) ∷ []);
-}
+stored b row n s = with-object-node row (with-bytes b (at-set n s))
 
 -- rows of the kind kd with bytes of the length len: without variables, and with them. us is the name, if there is one
 pub record Stores (kd len : ℕ) (us : List ℕ) (row : ℕ → Row) (row′ : ℕ → ℕ → ℕ → Row) : Type 1 where
   pub high : 7 ≤ kd
   pub sees : (A : Arena) (st : ℕ) → see A (row st) ≡ box (header-of kd 0 (range (A .bytes) st len) 0 false) us
   pub sees′ : (A : Arena) (st start n : ℕ) → see A (row′ st start n) ≡ box (header-of kd 0 (range (A .bytes) st len) n true) (us ++ range (A .references) start (n * 2))
-  pub no-list : (Q : ℕ → ℕ → Type 0) (st : ℕ) → OnList Q (row st)
-  pub on : (Q : ℕ → ℕ → Type 0) (st : ℕ) → Q st len → OnBytes Q (row st)
-  pub on-back : (Q : ℕ → ℕ → Type 0) (st : ℕ) → OnBytes Q (row st) → Q st len
-  pub list′ : (Q : ℕ → ℕ → Type 0) (st start n : ℕ) → Q start (n * 2) → OnList Q (row′ st start n)
-  pub on′ : (Q : ℕ → ℕ → Type 0) (st start n : ℕ) → Q st len → OnBytes Q (row′ st start n)
-  pub set′ : (st h start n : ℕ) (s : State) → set-variables h start n (row st) s ≡ ok h (filled h (row′ st start n) s)
+  pub inside : (s : State) (st : ℕ) → st + len ≤ length (s .bytes) → Inside s (row st)
+  pub above : (p st : ℕ) → Above p (row st)
+  pub varied : (st start n : ℕ) → Varied start n (row st) (row′ st start n)
+  pub set′ : (st h start n : ℕ) (s : State) → set-variables h start n (row st) s ≡ ok h (with-row h (row′ st start n) s)
 
 stores-string : (len : ℕ) → Stores 7 len [] (λ st. string st len absent) (λ st start n. string st len (present start n))
 unfolding see header links vars-count vars-present vars-links set-variables fill
@@ -56,11 +48,9 @@ stores-string len = record {
   high = omega arith;
   sees = λ A st. refl;
   sees′ = λ A st start n. refl;
-  no-list = λ Q st. tt;
-  on = λ Q st h. h;
-  on-back = λ Q st h. h;
-  list′ = λ Q st start n h. h;
-  on′ = λ Q st start n h. h;
+  inside = λ s st h. inside-string s st len h;
+  above = λ p st. above-string p st len;
+  varied = λ st start n. varied-string;
   set′ = λ st h start n s. refl;
 }
 
@@ -70,54 +60,33 @@ stores-user len c = record {
   high = omega arith;
   sees = λ A st. refl;
   sees′ = λ A st start n. refl;
-  no-list = λ Q st. tt;
-  on = λ Q st h. h;
-  on-back = λ Q st h. h;
-  list′ = λ Q st start n h. h;
-  on′ = λ Q st start n h. h;
+  inside = λ s st h. inside-user s st len c h;
+  above = λ p st. above-user p st len c;
+  varied = λ st start n. varied-user;
   set′ = λ st h start n s. refl;
 }
 
-set-last : (l : List Row) (x : Row) → set (l ++ (x ∷ [])) (length l) x ≡ l ++ (x ∷ [])
-set-last [] x = refl
-set-last (y ∷ l) x = ap (λ (t : List Row). y ∷ t) (set-last l x)
-
-map-at : {A C : Type 0} (f : A → C) (l : List A) (i : ℕ) (x : A) → At l i x → At (map f l) i (f x)
-map-at f [] i x e = apart (cc)
-map-at f (y ∷ l) zero x e = let z : y ≡ x = cc in rw z
-map-at f (y ∷ l) (suc i) x e = map-at f l i x e
-
--- the bytes of a box
-abbrev node-bytes : Node → List ℕ
-node-bytes (leaf k x) = []
-node-bytes (sym b) = []
-node-bytes (box h ms) = h .bytes
-
 -- what a state is when bytes and a node have been added
 module _ {kd : ℕ} {us : List ℕ} {row : ℕ → Row} {row′ : ℕ → ℕ → ℕ → Row} (b : List ℕ) (ss : Stores kd (length b) us row row′) (n : ℕ) (u : State) where
-  stored-sees : see (tables (u .references) (u .bytes ++ b)) (row (length (u .bytes))) ≡ box (header-of kd 0 b 0 false) us
-  stored-sees = ss .sees (tables (u .references) (u .bytes ++ b)) (length (u .bytes)) ∙ ap (λ (t : List ℕ). box (header-of kd 0 t 0 false) us) (range-last (u .bytes) b)
+  stored-sees : (A : Arena) → A .bytes ≡ u .bytes ++ b → see A (row (length (u .bytes))) ≡ box (header-of kd 0 b 0 false) us
+  stored-sees A e =
+      ss .sees A (length (u .bytes))
+      ∙ ap (λ (t : List ℕ). box (header-of kd 0 t 0 false) us) (ap (λ (l : List ℕ). range l (length (u .bytes)) (length b)) e ∙ range-last (u .bytes) b)
 
-  stored-view : Ranged u → view (stored b (row (length (u .bytes))) n u) ≡ pushO (box (header-of kd 0 b 0 false) us) (view u)
-  stored-view a =
-      let r = row (length (u .bytes)) in
-      let e : seen-in (u .references) (u .bytes ++ b) (u .nodes ++ (r ∷ [])) ≡ seen-in (u .references) (u .bytes) (u .nodes) ++ (box (header-of kd 0 b 0 false) us ∷ []) =
-      map-snoc (see (tables (u .references) (u .bytes ++ b))) (u .nodes) r
-      ∙ ap (λ (l : List Node). l ++ (see (tables (u .references) (u .bytes ++ b)) r ∷ [])) (seen-more-bytes (u .references) (u .bytes) b (u .nodes) a)
-      ∙ ap (λ (x : Node). seen-in (u .references) (u .bytes) (u .nodes) ++ (x ∷ [])) stored-sees in
-      rw (length-map (u .nodes) (see (tables (u .references) (u .bytes)))) (ap (λ (l : List Node). nodes-of l (view (stored b r n u))) e)
+  stored-seen : Ranged u → state-seen (stored b (row (length (u .bytes))) n u) ≡ pushO (box (header-of kd 0 b 0 false) us) (state-seen u)
+  stored-seen a = bytes-node-seen b (at-set n u) _ _ a (stored-sees (arena-of (with-bytes b u) 0) refl) ∙ ap (pushO (box (header-of kd 0 b 0 false) us)) (seen-at-set n u)
 
   stored-ranged : Ranged u → Ranged (stored b (row (length (u .bytes))) n u)
-  stored-ranged a =
-      let l = length-append (u .bytes) b in
-      all-in-snoc (length (u .references)) (length (u .bytes ++ b)) (u .nodes) (row (length (u .bytes)))
-      (all-in-up (length (u .references)) _ (length (u .bytes)) _ (u .nodes) (omega arith) (omega arith) a) (ss .no-list _ _, ss .on _ (length (u .bytes)) (omega arith))
+  stored-ranged a = ranged-stored _ b (at-set n u) (ss .inside (with-bytes b (at-set n u)) (length (u .bytes)) (omega (arith, length-append (u .bytes) b))) a
 
-  stored-frame : Frame (u .references) u (stored b (row (length (u .bytes))) n u)
-  stored-frame = frame-add u (stored b (row (length (u .bytes))) n u) (row (length (u .bytes))) refl refl (ss .no-list _ _)
+  stored-frame : (p : ℕ) → Frame p u (stored b (row (length (u .bytes))) n u)
+  stored-frame p = frame-trans (frame-at-set p n u) (frame-stored p _ b (at-set n u) (ss .above p _))
 
-  stored-inv : (P : List Node) (σ : Num) (v : ℕ) → Ranged u → Inv P σ (view u) → Inv P (addO v σ) (view (stored b (row (length (u .bytes))) n u))
-  stored-inv P σ v a i = subst (Inv P (addO v σ)) (psym (stored-view a)) (inv-pushO P σ (view u) v (box (header-of kd 0 b 0 false) us) (λ b q. apart (cc)) i)
+  stored-keeps : Keeps Every u (stored b (row (length (u .bytes))) n u)
+  stored-keeps = keeps-trans (keeps-refl u (with-bytes b (at-set n u)) refl) (keeps-object-node _ (with-bytes b (at-set n u)))
+
+  stored-inv : (P : List Node) (σ : Num) (v : ℕ) → Ranged u → Inv P σ (state-seen u) → Inv P (addO v σ) (state-seen (stored b (row (length (u .bytes))) n u))
+  stored-inv P σ v a i = subst (Inv P (addO v σ)) (psym (stored-seen a)) (inv-pushO P σ (state-seen u) v (box (header-of kd 0 b 0 false) us) (λ b q. apart (cc)) i)
 
   stored-ph : (m : ℕ) (p : Bool) → Ph ⊥ (header-of kd 0 b m p) (box (header-of kd 0 b 0 false) us)
   stored-ph m p = inr ((λ x. x), (λ b q. apart (cc)), ss .high)
@@ -126,22 +95,22 @@ module _ (input : List ℕ) (room : Room) (P : List Node) where
   -- without variables
   store-step : (rd : Reader ℕ) {kd : ℕ} {us : List ℕ} {row : ℕ → Row} {row′ : ℕ → ℕ → ℕ → Row} (b : List ℕ) → Stores kd (length b) us row row′ → (p r : F) (σ : Num) (v : ℕ) (s u : State) (y : List ℕ) (n : ℕ)
       → rd s ≡ ok (length (u .nodes)) (stored b (row (length (u .bytes))) n u) → Ahead input n y
-      → B ⊥ p (view s) us (view u) → Inv P σ (view u) → Ranged u → Frame (s .references) s u → Even 0 p s fEnd u
+      → B ⊥ p (state-seen s) us (state-seen u) → Inv P σ (state-seen u) → Ranged u → Frame (length (s .references)) s u → Keeps Every s u → Even 0 p s fEnd u
       → Step input room P rd (fBox (header-of kd 0 b 0 false) p fEnd r) r (addO v σ) s y
-  store-step rd {kd} {us} {row} {row′} b ss p r σ v s u y n e h b₀ i a fr ev =
+  store-step rd {kd} {us} {row} {row′} b ss p r σ v s u y n e h b₀ i a fr kp ev =
       let hd = header-of kd 0 b 0 false in
       let st = length (u .bytes) in
       let t = stored b (row st) n u in
       let k = length (u .nodes) in
-      let q : t ≡ filled k (row st) t = ap (λ (l : List Row). nodes-set l t) (psym (set-last (u .nodes) (row st))) in
+      let q : t ≡ with-row k (row st) t = ap (λ (l : List Row). nodes-set l t) (psym (set-append-seam (u .nodes) (row st) [] (row st))) in
       let l₁ : list-words hd ≡ 0 = words-pairs kd 0 b false (omega (arith, ss .high)) in
       let l₂ : length (s .nodes) ≤ k = omega (arith, ev .nodes) in
       let l₃ = len-snoc (u .nodes) (row st) in
       let l₄ = len-snoc (u .objects) k in
       let l₅ = length-append (u .bytes) b in
-      box-step input room P rd hd p fEnd r (box hd us) (row st) (addO v σ) s u t t us [] y (e ∙ ap (ok k) q) b₀ (stored-ph b ss n u 0 false) (stored-view b ss n u a) bEnd
-      (stored-sees b ss n u ∙ ap (box hd) (psym (append-nil us))) h (stored-inv b ss n u P σ v a i) (stored-ranged b ss n u a)
-      (ss .no-list _ _, ss .on _ st (omega arith)) (frame-trans (s .references) s u t refl fr (stored-frame b ss n u)) (ss .no-list _ _) l₂
+      box-step input room P rd hd p fEnd r (box hd us) (row st) (addO v σ) s u t t us [] y (e ∙ ap (ok k) q) b₀ (stored-ph b ss n u 0 false) (stored-seen b ss n u a) bEnd
+      (stored-sees b ss n u (arena-of t 0) refl ∙ ap (box hd) (psym (append-nil us))) h (stored-inv b ss n u P σ v a i) (stored-ranged b ss n u a)
+      (ss .inside t st (omega arith)) (frame-trans fr (stored-frame b ss n u _)) (keeps-trans kp (stored-keeps b ss n u)) (ss .above _ st) l₂
       (record {
         nodes = omega (arith, ev .nodes);
         objects = omega (arith, ev .objects);
@@ -150,26 +119,29 @@ module _ (input : List ℕ) (room : Room) (P : List Node) where
         bytes = omega (arith, ev .bytes);
       })
 
+  -- a byte string is read and stored
+  stored-runs : Small room → (b : List ℕ) (row : List ℕ → ℕ → Row) (s : State) (y : List ℕ) → Ahead input (s .at) (byte-string-bytes b ++ y)
+      → length (s .nodes) < room .nodes → length (s .objects) < room .objects → length (s .bytes) + length b ≤ room .bytes
+      → (read-byte-string input >>= λ bs. add-bytes room bs >>= λ start. add-object-node room (row bs start)) s
+      ≡ ok (length (s .nodes)) (stored b (row b (length (s .bytes))) (s .at + length (byte-string-bytes b)) s)
+  stored-runs sm b row s y h l₁ l₂ l₃ =
+      let s₁ = at-set (s .at + length (byte-string-bytes b)) s in
+      let s₂ = with-bytes b s₁ in
+      step _ _ s b s₁ (read-byte-string-ahead input s b y (omega (arith, sm .bytes)) h) ∙ step _ _ s₁ (length (s .bytes)) s₂ (add-bytes-runs room s₁ b l₃)
+      ∙ add-object-node-runs room s₂ (row b (length (s .bytes))) l₁ l₂
+
   string-runs : Small room → (b : List ℕ) (s : State) (y : List ℕ) → Ahead input (s .at) (byte-string-bytes b ++ y) → length (s .nodes) < room .nodes → length (s .objects) < room .objects
       → length (s .bytes) + length b ≤ room .bytes
       → read-string input room s ≡ ok (length (s .nodes)) (stored b (string (length (s .bytes)) (length b) absent) (s .at + length (byte-string-bytes b)) s)
   unfolding read-string
-  string-runs sm b s y h l₁ l₂ l₃ =
-      let s₁ = at-set (s .at + length (byte-string-bytes b)) s in
-      let s₂ : State = record { at = s₁ .at; nodes = s .nodes; references = s .references; bytes = s .bytes ++ b; symbols = s .symbols; objects = s .objects } in
-      step _ _ s b s₁ (read-byte-string-ahead input s b y (omega (arith, sm .bytes)) h) ∙ step _ _ s₁ (length (s .bytes)) s₂ (add-bytes-runs room s₁ b l₃)
-      ∙ add-object-node-runs room s₂ (string (length (s .bytes)) (length b) absent) l₁ l₂
+  string-runs sm b s y h l₁ l₂ l₃ = stored-runs sm b (λ bs start. string start (length bs) absent) s y h l₁ l₂ l₃
 
   -- the name c was read before, in u
   user-runs : Small room → (b : List ℕ) (c : ℕ) (s u : State) (y : List ℕ) → read-symbol-like input room s ≡ ok c u → Ahead input (u .at) (byte-string-bytes b ++ y)
       → length (u .nodes) < room .nodes → length (u .objects) < room .objects → length (u .bytes) + length b ≤ room .bytes
       → read-user-defined input room s ≡ ok (length (u .nodes)) (stored b (user (length (u .bytes)) (length b) c absent) (u .at + length (byte-string-bytes b)) u)
   unfolding read-user-defined
-  user-runs sm b c s u y e h l₁ l₂ l₃ =
-      let s₁ = at-set (u .at + length (byte-string-bytes b)) u in
-      let s₂ : State = record { at = s₁ .at; nodes = u .nodes; references = u .references; bytes = u .bytes ++ b; symbols = u .symbols; objects = u .objects } in
-      step _ _ s c u e ∙ step _ _ u b s₁ (read-byte-string-ahead input u b y (omega (arith, sm .bytes)) h) ∙ step _ _ s₁ (length (u .bytes)) s₂ (add-bytes-runs room s₁ b l₃)
-      ∙ add-object-node-runs room s₂ (user (length (u .bytes)) (length b) c absent) l₁ l₂
+  user-runs sm b c s u y e h l₁ l₂ l₃ = step _ _ s c u e ∙ stored-runs sm b (λ bs start. user start (length bs) c absent) u y h l₁ l₂ l₃
 
   even-same : (s : State) → Even 0 fEnd s fEnd s
   even-same s = record { nodes = refl; objects = refl; symbols = refl; references = omega arith; bytes = refl }
@@ -178,7 +150,7 @@ module _ (input : List ℕ) (room : Room) (P : List Node) where
       → Takes input room P (read-string input room) (fBox (header-of 7 0 b 0 false) fEnd fEnd r) r (byte-string-bytes b) σ (addO v σ)
   takes-string sm b r σ v s y i a h g =
       store-step (read-string input room) b (stores-string (length b)) fEnd r σ v s s y (s .at + length (byte-string-bytes b))
-      (string-runs sm b s y h (omega (arith, g .nodes)) (omega (arith, g .objects)) (omega (arith, g .bytes))) (ahead-past (byte-string-bytes b) y h) bEnd i a (frame-same s) (even-same s)
+      (string-runs sm b s y h (omega (arith, g .nodes)) (omega (arith, g .objects)) (omega (arith, g .bytes))) (ahead-past (byte-string-bytes b) y h) bEnd i a (frame-refl _ s) (keeps-refl s s refl) (even-same s)
 
   -- the name's part of a user-defined value
   fits-name : (hd : Header) (p f r : F) (s : State) → Fits room 0 (fBox hd p f r) s → Fits room 0 p s
@@ -198,60 +170,48 @@ module _ (input : List ℕ) (room : Room) (P : List Node) where
       let ev = m .even in
       store-step (read-user-defined input room) b (stores-user (length b) (m .value)) p r σ₁ v s u y (u .at + length (byte-string-bytes b))
       (user-runs sm b (m .value) s u y (m .runs) (m .ahead) (omega (arith, g .nodes, ev .nodes)) (omega (arith, g .objects, ev .objects)) (omega (arith, g .bytes, ev .bytes)))
-      (ahead-past (byte-string-bytes b) y (m .ahead)) (m .built [] (view u) bEnd) (m .inv) (m .ranged) (m .frame) ev
+      (ahead-past (byte-string-bytes b) y (m .ahead)) (m .built [] (state-seen u) bEnd) (m .inv) (m .ranged) (m .frame) (m .keeps) ev
 
   -- ---- with variables
-
-  -- the bytes stand when the variables have been read
-  bytes-stand : {kd : ℕ} {us : List ℕ} {row : ℕ → Row} {row′ : ℕ → ℕ → ℕ → Row} (b : List ℕ) (ss : Stores kd (length b) us row row′) (n : ℕ) (u w : State) (f : F) (vs : List ℕ) → Ranged u
-      → B ⊥ f (view (stored b (row (length (u .bytes))) n u)) vs (view w) → At (w .nodes) (length (u .nodes)) (row (length (u .bytes)))
-      → range (w .bytes) (length (u .bytes)) (length b) ≡ b
-  bytes-stand {kd} {us} {row} {row′} b ss n u w f vs a t e =
-      let st = length (u .bytes) in
-      let φ = box (header-of kd 0 b 0 false) us in
-      let q = stored-view b ss n u a in
-      let e₁ : At (pushO φ (view u) .nodes) (length (u .nodes)) φ = subst (λ (k : ℕ). At (pushO φ (view u) .nodes) k φ) (length-map (u .nodes) (see (tables (u .references) (u .bytes)))) (at-snoc (view u .nodes) φ) in
-      let e₂ : At (view w .nodes) (length (u .nodes)) φ = keep t (length (u .nodes)) φ (subst (λ (S : St). At (S .nodes) (length (u .nodes)) φ) (psym q) e₁) in
-      let e₃ : At (view w .nodes) (length (u .nodes)) (box (header-of kd 0 (range (w .bytes) st (length b)) 0 false) us) =
-      map-at (see (tables (w .references) (w .bytes))) (w .nodes) (length (u .nodes)) (row st) e ∙ ap some (ss .sees (tables (w .references) (w .bytes)) st) in
-      let e₄ : box (header-of kd 0 (range (w .bytes) st (length b)) 0 false) us ≡ φ = cc in
-      ap node-bytes e₄
 
   -- h: a value without variables was read to u and stored
   vars-step : (inner : Reader ℕ) {kd : ℕ} {us : List ℕ} {row : ℕ → Row} {row′ : ℕ → ℕ → ℕ → Row} (b : List ℕ) → Stores kd (length b) us row row′
       → (p f r : F) (σ₂ : Num) (s u : State) (z : List ℕ) (k n : ℕ)
       → inner s ≡ ok (length (u .nodes)) (stored b (row (length (u .bytes))) k u)
-      → B ⊥ p (view s) us (view u) → Ranged u → Frame (s .references) s u → Even 0 p s fEnd u
+      → B ⊥ p (state-seen s) us (state-seen u) → Ranged u → Frame (length (s .references)) s u → Keeps Every s u → Even 0 p s fEnd u
       → Told input room P 2 n (λ start m. read-pairs (read-symbol-like input room) inner m start) f σ₂ (stored b (row (length (u .bytes))) k u) z
       → Step input room P (read-variables input room inner) (fBox (header-of kd 0 b n true) p f r) r σ₂ s z
   unfolding read-variables read-instance-variables look
-  vars-step inner {kd} {us} {row} {row′} b ss p f r σ₂ s u z k n e b₀ a fr ev t =
+  vars-step inner {kd} {us} {row} {row′} b ss p f r σ₂ s u z k n e b₀ a fr kp ev t =
       let hd = header-of kd 0 b n true in
       let st = length (u .bytes) in
       let h = length (u .nodes) in
       let start = length (u .references) in
       let s₁ = stored b (row st) k u in
       let w = t .then′ in
-      let e₁ : At (w .nodes) h (row st) = t .frame .2 h (row st) (at-snoc (u .nodes) (row st)) in
-      let e₂ : range (w .bytes) st (length b) ≡ b = bytes-stand b ss k u w f (t .values) a (t .built) e₁ in
-      let e₃ : see (tables (w .references) (w .bytes)) (row′ st start n) ≡ box hd (us ++ t .values) =
-      ss .sees′ (tables (w .references) (w .bytes)) st start n ∙ ap (λ (l : List ℕ). box (header-of kd 0 l n true) (us ++ range (w .references) start (n * 2))) e₂
+      let r₁ = row′ st start n in
+      let e₁ : At (w .nodes) h (row st) = t .keeps .stands h (row st) tt (at-snoc (u .nodes) (row st)) in
+      let e₂ : range (w .bytes) st (length b) ≡ b =
+      ap (λ (l : List ℕ). range l st (length b)) (t .frame .bytes-are) ∙ range-more (u .bytes ++ b) (t .frame .bytes-added) st (length b) (omega (arith, length-append (u .bytes) b)) ∙ range-last (u .bytes) b in
+      let e₃ : row-seen w r₁ ≡ box hd (us ++ t .values) =
+      ss .sees′ (arena-of w 0) st start n ∙ ap (λ (l : List ℕ). box (header-of kd 0 l n true) (us ++ range (w .references) start (n * 2))) e₂
       ∙ ap (λ (l : List ℕ). box hd (us ++ l)) (t .holds) in
-      let e₄ : set-variables h start n (getD (w .nodes) h nil) w ≡ ok h (filled h (row′ st start n) w) =
+      let e₄ : set-variables h start n (getD (w .nodes) h nil) w ≡ ok h (with-row h r₁ w) =
       ap (λ (x : Row). set-variables h start n x w) (getD-at (w .nodes) h nil (row st) e₁) ∙ ss .set′ st h start n w in
       let l₁ : list-words hd ≡ n * 2 = words-pairs kd n b true (omega (arith, ss .high)) in
       let l₂ : length (s .nodes) ≤ h = omega (arith, ev .nodes) in
       let l₃ = len-snoc (u .nodes) (row st) in
       let l₄ = len-snoc (u .objects) h in
       let l₅ = length-append (u .bytes) b in
-      let l₆ : length (s .references) ≤ start = omega (arith, ap length (fr .1), length-append (s .references) (fr .0)) in
-      let i₁ = t .ranged h (row st) e₁ in
+      let p′ = length (s .references) in
+      let vd = ss .varied st start n in
       let wv = t .even in
-      box-step input room P (read-variables input room inner) hd p f r (box (header-of kd 0 b 0 false) us) (row′ st start n) σ₂ s u s₁ w us (t .values) z
+      box-step input room P (read-variables input room inner) hd p f r (box (header-of kd 0 b 0 false) us) r₁ σ₂ s u s₁ w us (t .values) z
       (step _ _ s h s₁ e ∙ t .runs (λ start m y. set-variables h start m (getD (y .nodes) h nil) y) ∙ e₄)
-      b₀ (stored-ph b ss k u n true) (stored-view b ss k u a) (t .built) e₃ (t .ahead) (t .inv) (t .ranged)
-      (ss .list′ _ st start n (t .inside), ss .on′ _ st start n (ss .on-back _ st (i₁ .1)))
-      (frame-trans (s .references) s s₁ w refl (frame-trans (s .references) s u s₁ refl fr (stored-frame b ss k u)) (t .frame)) (ss .list′ _ st start n l₆) l₂
+      b₀ (stored-ph b ss k u n true) (stored-seen b ss k u a) (t .built) e₃ (t .ahead) (t .inv) (t .ranged)
+      (inside-varied w (row st) r₁ vd (t .inside) (t .ranged h (row st) e₁))
+      (frame-trans fr (frame-trans (stored-frame b ss k u p′) (frame-below p′ (fr .references-grow) (t .frame))))
+      (keeps-trans kp (keeps-trans (stored-keeps b ss k u) (t .keeps))) (above-varied p′ (row st) r₁ (fr .references-grow) vd) l₂
       (record {
         nodes = omega (arith, ev .nodes, wv .nodes);
         objects = omega (arith, ev .objects, wv .objects);
@@ -294,11 +254,12 @@ module _ (input : List ℕ) (room : Room) (P : List Node) where
       (ahead-past (byte-string-bytes b) (integer-bytes n ++ (y ++ z)) h₁) (fits-stored b ss fEnd f r s s c n (even-same s) g) in
       vars-step inner b ss fEnd f r σ₂ s s z c n
       (bh s _ h ∙ string-runs sm b (at-set (s .at + 1) s) (integer-bytes n ++ (y ++ z)) h₁ (omega (arith, g .nodes)) (omega (arith, g .objects)) (omega (arith, g .bytes)))
-      bEnd a (frame-same s) (even-same s) t
+      bEnd a (frame-refl _ s) (keeps-refl s s refl) (even-same s) t
 
   pub takes-user-vars : Small room → (inner : Reader ℕ) (k : ℕ) → Behind k (read-user-defined input room) inner → (b : List ℕ) (n : ℕ) (p f r : F) (x y : List ℕ) (σ σ₁ σ₂ : Num) (v : ℕ)
       → Takes input room P (read-symbol-like input room) p fEnd x σ σ₁ → Items input room P (by-turns (read-symbol-like input room) inner n) f y (addO v σ₁) σ₂
       → Takes input room P (read-variables input room inner) (fBox (header-of 8 0 b n true) p f r) r (k ∷ x ++ byte-string-bytes b ++ integer-bytes n ++ y) σ σ₂
+  unfolding state-seen
   takes-user-vars sm inner k bh b n p f r x y σ σ₁ σ₂ v tk it s z i a h g =
       let e₁ : x ++ byte-string-bytes b ++ integer-bytes n ++ y ++ z ≡ x ++ (byte-string-bytes b ++ (integer-bytes n ++ (y ++ z))) = simp append-assoc in
       let h₁ : Ahead input (s .at + 1) (x ++ (byte-string-bytes b ++ (integer-bytes n ++ (y ++ z)))) =
@@ -315,4 +276,4 @@ module _ (input : List ℕ) (room : Room) (P : List Node) where
       vars-step inner b ss p f r σ₂ s u z c n
       (bh s _ h ∙ user-runs sm b (m .value) (at-set (s .at + 1) s) u (integer-bytes n ++ (y ++ z)) (m .runs) (m .ahead)
       (omega (arith, g .nodes, ev .nodes)) (omega (arith, g .objects, ev .objects)) (omega (arith, g .bytes, ev .bytes)))
-      (m .built [] (view u) bEnd) (m .ranged) (m .frame) ev t
+      (m .built [] (state-seen u) bEnd) (m .ranged) (frame-trans (frame-at-set _ _ s) (m .frame)) (keeps-trans (keeps-refl s (at-set (s .at + 1) s) refl) (m .keeps)) ev t

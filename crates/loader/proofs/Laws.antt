@@ -16,7 +16,8 @@ use Rattle.loader.specs.declared.Tried.{Tried}
 use Rattle.loader.specs.declared.Tried.the-variants.{Taken, Failed, Other}
 use Rattle.loader.specs.declared.Opened.{Opened}
 use Rattle.loader.specs.declared.Opened.the-variants.{Open, Unopened}
-use Rattle.loader.proofs.Stores.{at-held, flat-word, length-flat}
+use Rattle.lists.specs.Words.{length-flat}
+use Rattle.loader.proofs.Stores.{at-held, flat-word}
 
 -- the reader m, where it gives h, goes on as f h
 bind-ok : {A B : Type 0} (m : Reader A) (f : A → Reader B) (s s' : State) (h : A) → m s ≡ pure h s' → (m >>= f) s ≡ f h s'

@@ -2,12 +2,12 @@
 use Prim.Native.Nat.{ℕ, zero, suc, _+_, _-_, _*_, _≤_, _<_}
 use native.Mathlib.Omega.{arith}
 use native.Mathlib.Nat.{suc-add, add-suc, zero-add, zero-sub, sub-zero}
-use mathlib.Core.Bool.{true, false}
 use mathlib.Core.Path.{_≡_, refl, sym, ap, _∙_}
 use mathlib.Core.List.{List, [], _∷_, _++_, append-assoc, append-nil}
 use lib.ListN.{length, take, drop, set, getD, replicate, length-append, length-set, length-replicate, length-take, replicate-append-replicate, List·getD-append}
 use lib.Seq.{sets, sets-eq, length-sets, set-append-left, take-append-seam, drop-append-add, drop-at, getD-append-add, getD-append-seam}
-use Rattle.definition.specs.Node.{Row, nil, bool, fixnum, symbol, array, hash, object, string, user, absent, present, words, flat}
+use Rattle.definition.specs.Node.{Row, nil, words, flat}
+use Rattle.lists.specs.Words.{length-words, length-flat}
 use Rattle.loader.specs.Holds.{Padded}
 
 drop-replicate : (m k : ℕ) → drop {A = ℕ} m (replicate k 0) ≡ replicate (k - m) 0
@@ -63,26 +63,6 @@ sets-append-add (v ∷ vs) a b j =
     ap (λ (x : List ℕ). sets x (suc (length a + j)) vs) (set-append-add a b j v)
     ∙ ap (λ (k : ℕ). sets (a ++ set b j v) k vs) (sym (add-suc (length a) j))
     ∙ sets-append-add vs a (set b j v) (suc j)
-
-pub length-words : (r : Row) → length (words r) ≡ 7
-unfolding words
-length-words nil = refl
-length-words (bool false) = refl
-length-words (bool true) = refl
-length-words (fixnum w) = refl
-length-words (symbol s l) = refl
-length-words (array s n) = refl
-length-words (hash s n d) = refl
-length-words (object s n c) = refl
-length-words (string s l absent) = refl
-length-words (string s l (present p n)) = refl
-length-words (user s l c absent) = refl
-length-words (user s l c (present p n)) = refl
-
-pub length-flat : (rs : List Row) → length (flat rs) ≡ length rs * 7
-unfolding flat
-length-flat [] = refl
-length-flat (r ∷ rs) = length-append (words r) (flat rs) ∙ omega (arith, length-words r, length-flat rs)
 
 pub flat-snoc : (rs : List Row) (r : Row) → flat (rs ++ (r ∷ [])) ≡ flat rs ++ words r
 unfolding flat

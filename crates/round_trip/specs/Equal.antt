@@ -15,13 +15,14 @@ use Rattle.definition.specs.Arena.{Tables, Arena, arena, node, range, fault}
 use Rattle.definition.specs.Dump.{Written, dump, dump-wrong, DumpCall}
 use Rattle.definition.specs.Graph.{SameGraph}
 use Rattle.definition.specs.declared.Counts.{Counts}
-use Rattle.graph.specs.Lists.{At, at-lt, len-snoc, apart}
+use Rattle.lists.specs.Lists.{At, at-lt, len-snoc, apart}
+use Rattle.lists.specs.Ranges.{length-range}
 use Rattle.graph.specs.Sums.{total}
 use Rattle.graph.specs.Forest.{Node, leaf, box, Num, fresh, F, node-box, node-sym}
 use Rattle.graph.specs.Forest.{sym as symbol-node}
 use Rattle.graph.specs.Describe.{E, eEnd, eLeaf, eBox, eRef, eSym, eSymref, e-len, boxes-numbered, symbols-numbered}
-use Rattle.graph.specs.View.{see, seen}
-use Rattle.dump_forest.specs.Right.{Right, RowRight, Fixnums, length-range, at-node, at-see, fault-right, fault-fit}
+use Rattle.graph.specs.View.{see, seen, at-node, at-see}
+use Rattle.dump_forest.specs.Right.{Right, RowRight, Fixnums, fault-right, fault-fit}
 use Rattle.dump_forest.specs.Shown.{Shown, nil-shown, false-shown, true-shown, fixnum-shown, symbol-shown, array-shown, hash-shown, default-shown, object-shown, string-shown, string-vars-shown, user-shown, user-vars-shown, shown-at}
 use Rattle.dump_forest.specs.Sound.{dump-sound}
 use Rattle.dump_forest.specs.Same.{one-graph}

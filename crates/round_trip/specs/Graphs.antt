@@ -1,31 +1,22 @@
 -- The same graph: an equivalence, and all that a dump sees of an arena.
-use Prim.Native.Nat.{ℕ, _-_}
+use Prim.Native.Nat.{ℕ}
 use mathlib.Core.Path.{_≡_, refl, subst}
 use mathlib.Core.Option.{none}
 use mathlib.Core.List.{List}
 use lib.ListN.{length}
 use Rattle.definition.specs.Run.{Outcome, pure, next, _>>=_}
-use Rattle.definition.specs.Arena.{Tables, Arena, arena, allowed, sound, fault, padded, zeroed}
+use Rattle.definition.specs.Arena.{Tables, arena, allowed, sound, fault, padded, zeroed}
 use Rattle.definition.specs.Graph.{SameGraph}
 use Rattle.definition.specs.Dump.{Written, dump, dump-done, dump-checked, dump-call}
 use Rattle.definition.specs.declared.Answer.the-variants.{Accepted}
 use Rattle.definition.specs.declared.Counts.{Counts}
 use Rattle.definition.specs.declared.Dumped.{Dumped}
 use Rattle.dump_forest.specs.Right.{fault-right}
-use Rattle.dump_forest.specs.Same as Same
 use Rattle.dump_forest.specs.Answers.{Answered, with-bytes, with-refusal, dump-answered}
 use Rattle.round_trip.specs.Statement.{DumpAllowed}
-
 -- ---- an equivalence
 
-pub same-refl : (A : Arena) → SameGraph A A
-same-refl A = Same.same-refl A
-
-pub same-sym : (P Q : Arena) → SameGraph P Q → SameGraph Q P
-same-sym P Q s = Same.same-sym P Q s
-
-pub same-trans : (P Q S : Arena) → SameGraph P Q → SameGraph Q S → SameGraph P S
-same-trans P Q S s t = Same.same-trans P Q S s t
+pub use Rattle.dump_forest.specs.Same.{same-refl, same-sym, same-trans}
 
 -- ---- dump sees nothing else
 

@@ -12,16 +12,16 @@ use Rattle.definition.specs.Node.{Row, nil, bool, fixnum, symbol, array, hash, 
 use Rattle.definition.specs.Arena.{Arena, range, fault}
 use Rattle.definition.specs.Graph.{Header, header, links}
 use Rattle.definition.specs.Load.{State, Lists, room-of, load}
-use Rattle.graph.specs.Lists.{At, apart}
+use Rattle.lists.specs.Lists.{At, apart}
 use Rattle.graph.specs.Sums.{weight, total-one, total-two}
 use Rattle.graph.specs.Forest.{Node, leaf, sym, box}
 use Rattle.graph.specs.Build.{Names, node-leaf, lf, w, Φ}
-use Rattle.graph.specs.View.{see, seen, arena-of}
-use Rattle.dump_forest.specs.Right.{see-at}
-use Rattle.load_forest.specs.Names.{seen-root, load-arena-names}
+use Rattle.graph.specs.View.{see, seen, arena-of, see-at}
+use Rattle.load_forest.specs.Names.{load-arena-names}
 use Rattle.load_forest.specs.Space.{only, only-there, load-once}
 use Rattle.load_forest.specs.Call.{load-accepted, call-arena, call-well-formed}
 use Rattle.round_trip.specs.Statement.{LoadAccepted, tables, counts, filled}
+use Rattle.states.specs.States.{seen-root}
 
 -- ---- well formed
 

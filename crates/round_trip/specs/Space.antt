@@ -8,37 +8,35 @@ use native.Mathlib.Omega.{arith}
 use Rattle.definition.specs.Run.{ok}
 use Rattle.definition.specs.Graph.{Header}
 use Rattle.definition.specs.Load.{State, Room, load}
-use Rattle.graph.specs.Lists.{At, Distinct, Below, at-lt, at-snoc-inv, apart}
+use Rattle.lists.specs.Lists.{At, Distinct, Below, at-lt, at-snoc-inv, apart, below-join}
 use Rattle.graph.specs.Sums.{sumL, sumL-app, sumTo, sum-distinct, total, weigh, sum-to-total}
 use Rattle.graph.specs.Forest.{Node, sym, box, Num, addO, addS, fresh, F, refsOf, bytesOf, boxesOf, symsOf, node-words, node-bytes, node-box, node-sym}
 use Rattle.graph.specs.Describe.{E, eEnd, eLeaf, eBox, eRef, eSym, eSymref, Dist, e-dist, no-dist, boxes-numbered, symbols-numbered}
-use Rattle.graph.specs.Build.{nodesOf, lf, w, wt, Φ, cnt}
+use Rattle.graph.specs.Build.{Fin, nodesOf, lf, w, wt, Φ, cnt}
 use Rattle.graph.specs.View.{seen, arena-of, state-seen}
-use Rattle.dump_forest.specs.Right.{below-join}
 use Rattle.dump_forest.specs.Space.{takes}
-use Rattle.load_forest.specs.Names.{seen-root}
 use Rattle.load_forest.specs.Space.{load-within, load-holds, load-paid}
 use Rattle.load_text.specs.Back.{RoomFor}
+use Rattle.states.specs.States.{seen-root}
 
 -- ---- what is numbered
 
 -- objects are boxes, symbols are symbols
-record Numbered (t : List Node) (σ : Num) : Type 0 where
-  objects : (k v : ℕ) → At (σ .objs) k v → (h : Header) × (ms : List ℕ) × At t v (box h ms)
-  symbols : (k v : ℕ) → At (σ .syms) k v → (b : List ℕ) × At t v (sym b)
+abbrev Numbered : List Node → Num → Type 0
+Numbered t σ = Fin t (record { nodes = t; objs = σ .objs; syms = σ .syms })
 
 numbered-box : (t : List Node) (σ : Num) (u : ℕ) (h : Header) (ms : List ℕ) → At t u (box h ms) → Numbered t σ → Numbered t (addO u σ)
-numbered-box t σ u h ms a n = record { objects = λ k v e. go v (at-snoc-inv (σ .objs) u k v e); symbols = n .symbols }
+numbered-box t σ u h ms a n = record { fo = λ k v e. go v (at-snoc-inv (σ .objs) u k v e); fy = n .fy }
   where
     go : {k : ℕ} (v : ℕ) → At (σ .objs) k v ⊎ ((k ≡ length (σ .objs)) × (v ≡ u)) → (h : Header) × (ms : List ℕ) × At t v (box h ms)
-    go v (inl e) = n .objects _ v e
+    go v (inl e) = n .fo _ v e
     go v (inr e) = (h, ms, rw (e .1) a)
 
 numbered-symbol : (t : List Node) (σ : Num) (u : ℕ) (b : List ℕ) → At t u (sym b) → Numbered t σ → Numbered t (addS u σ)
-numbered-symbol t σ u b a n = record { objects = n .objects; symbols = λ k v e. go v (at-snoc-inv (σ .syms) u k v e) }
+numbered-symbol t σ u b a n = record { fo = n .fo; fy = λ k v e. go v (at-snoc-inv (σ .syms) u k v e) }
   where
     go : {k : ℕ} (v : ℕ) → At (σ .syms) k v ⊎ ((k ≡ length (σ .syms)) × (v ≡ u)) → (b : List ℕ) × At t v (sym b)
-    go v (inl e) = n .symbols _ v e
+    go v (inl e) = n .fy _ v e
     go v (inr e) = (b, rw (e .1) a)
 
 numbered : {t : List Node} {g : F} {vs : List ℕ} {σ σ′ : Num} → E t g vs σ σ′ → Numbered t σ → Numbered t σ′
@@ -50,7 +48,7 @@ numbered {t = t} (eSym {b = b} {v = v} {σ = σ} a x d) n = numbered d (numbered
 numbered (eSymref a x d) n = numbered d n
 
 none-numbered : (t : List Node) → Numbered t fresh
-none-numbered t = record { objects = λ k v e. apart (cc); symbols = λ k v e. apart (cc) }
+none-numbered t = record { fo = λ k v e. apart (cc); fy = λ k v e. apart (cc) }
 
 -- ---- sums
 
@@ -81,15 +79,15 @@ sum-ones w (x ∷ l) h = omega (arith, h 0 x refl, sum-ones w l (λ k v e. h (su
 
 module _ (t : List Node) (σ : Num) (n : Numbered t σ) (d : Dist σ) where
   objects-below : Below (length t) (σ .objs)
-  objects-below k v e = let (h, ms, a) = n .objects k v e in at-lt t v (box h ms) a
+  objects-below k v e = let (h, ms, a) = n .fo k v e in at-lt t v (box h ms) a
 
   symbols-below : Below (length t) (σ .syms)
-  symbols-below k v e = let (b, a) = n .symbols k v e in at-lt t v (sym b) a
+  symbols-below k v e = let (b, a) = n .fy k v e in at-lt t v (sym b) a
 
   no-both : (k j v : ℕ) → At (σ .objs) k v → At (σ .syms) j v → ⊥
   no-both k j v e e′ =
-      let (h, ms, a) = n .objects k v e in
-      let (b, c) = n .symbols j v e′ in
+      let (h, ms, a) = n .fo k v e in
+      let (b, c) = n .fy j v e′ in
       apart (cc)
 
   -- the objects, or objects and symbols, weigh at most what all nodes weigh
@@ -123,8 +121,8 @@ taken t g v σ d =
     let n = numbered d (none-numbered t) in
     let i = e-dist d no-dist in
     let k = takes d in
-    let ones = sum-ones (weigh node-box t) (σ .objs) (λ j u e. let (h, ms, a) = n .objects j u e in box-weighs t u h ms a) in
-    let ones′ = sum-ones (weigh node-sym t) (σ .syms) (λ j u e. let (b, a) = n .symbols j u e in symbol-weighs t u b a) in
+    let ones = sum-ones (weigh node-box t) (σ .objs) (λ j u e. let (h, ms, a) = n .fo j u e in box-weighs t u h ms a) in
+    let ones′ = sum-ones (weigh node-sym t) (σ .syms) (λ j u e. let (b, a) = n .fy j u e in symbol-weighs t u b a) in
     record {
       words = omega (arith, k .words, objects-weigh t σ n i (weigh node-words t), sum-to-total node-words t);
       bytes = omega (arith, k .bytes, both-weigh t σ n i (weigh node-bytes t), sum-to-total node-bytes t);

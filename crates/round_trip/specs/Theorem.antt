@@ -8,6 +8,7 @@ use mathlib.Core.Option.{none}
 use mathlib.Core.List.{List, [], _∷_}
 use lib.ListN.{length, take}
 use native.Mathlib.Omega.{arith}
+use borrow.Author.Tests.{lt-leb}
 use Rattle.definition.specs.Run.{Outcome, ok}
 use Rattle.definition.specs.Arena.{Arena, Tables, arena, too-long, fault}
 use Rattle.definition.specs.Graph.{SameGraph}
@@ -29,7 +30,6 @@ use Rattle.dump_forest.specs.Call.{call-accepted, accepted-call}
 use Rattle.load_forest.specs.Bytes.{load-small}
 use Rattle.load_forest.specs.Names.{load-arena-names}
 use Rattle.load_forest.specs.Call.{lowest-none, short, load-allowed, load-accepted, accepted-load, call-arena, call-well-formed, some-nodes, take-padded}
-use Rattle.load_text.specs.Tests.{leb-no}
 use Rattle.load_text.specs.Leaves.{Small}
 use Rattle.load_text.specs.Back.{RoomFor, Back, load-back}
 use Rattle.round_trip.specs.Statement.{AreBytes, LoadAllowed, NoSmaller, LoadAccepted, used, tables, counts, filled, DumpAllowed, DumpAccepted, written, Again, RoundTrip}
@@ -89,7 +89,7 @@ output-most T scratch output limit e =
 
 not-long : (n : ℕ) → n ≤ 2147483647 → too-long n ≡ false
 unfolding too-long
-not-long n h = leb-no 2147483648 n (omega arith)
+not-long n h = lt-leb 2147483648 n (omega arith)
 
 -- an input that isn't too long is allowed wherever the empty one is
 input-allowed : (input : List ℕ) (T : Lists) (limit : ℕ) → length input ≤ 2147483647 → LoadAllowed T limit → load-wrong input T limit ≡ 0

@@ -16,8 +16,10 @@ use Rattle.definition.specs.Node.{Row, nil, symbol, kind, row, row-of, rows, eq
 use Rattle.definition.specs.Arena.{Arena, node, range, name-of, named, find-symbol, too-long, lowest, allowed, sound, fault}
 use Rattle.definition.specs.Build.{Lent, held, check, wrong, byte-slice, member-slice, pair-slice}
 use Rattle.definition.specs.declared.Fault.{Fault}
-use Rattle.arena_check.proofs.Rows.{equal-is}
-use Rattle.arena_check.proofs.Lists.{length-range, range-step, range-end, rows-at, length-rows, kind-three}
+use Rattle.lists.specs.Words.{equal-true}
+use Rattle.lists.specs.Ranges.{length-range, range-step, range-end}
+use Rattle.lists.specs.Tables.{length-rows, rows-at}
+use Rattle.arena_check.proofs.Lists.{kind-three}
 use Rattle.arena_check.proofs.Rights.{node-words, range-take}
 use Rattle.dump_forest.specs.Right as R
 use Rattle.value_arena.specs.Calls.{SymbolsIn}
@@ -57,7 +59,7 @@ differ : (l m : List ℕ) → (length l ≡ length m → ⊥) → false ≡ equa
 differ l m n = go (equal l m) refl
   where
     go : (b : Bool) → equal l m ≡ b → false ≡ b
-    go true e = absurd (n (ap length (equal-is l m e)))
+    go true e = absurd (n (ap length (equal-true l m e)))
     go false e = refl
 
 module _ (A : Arena) (count : ℕ) (t : List ℕ) (i : ℕ) (name : List ℕ) (e : A .nodes ≡ rows count t) (lt : i < count) (le : count * 7 ≤ length t) where

@@ -1,5 +1,6 @@
 use borrow.Author.Needs.{needs}
-use Rattle.arena_check.proofs.Rights.{no-nodes, nodes-past, references-past, bytes-past, counts-in, fits, not-so, test-lt}
+use borrow.Author.Tests.{ltb-true}
+use Rattle.arena_check.proofs.Rights.{no-nodes, nodes-past, references-past, bytes-past, counts-in, fits, not-so}
 use Rattle.arena_check.proofs.counts_fit_at.Statement.{statement}
 use Rattle.arena_check.proofs.counts_fit_at.Tie as tie
 
@@ -35,7 +36,7 @@ size-requires c κs = search needs
 returns-5 : tie.Need-returns-5
 returns-5 c =
     let a = c .before .before .before .before .before .args in
-    (counts-in (a .nodes) (a .references) (a .bytes) (a .count) (a .used) (a .stored) (a .root) (c .before .before .before .before .if1 .left) (c .before .before .before .if2 .left) (c .before .before .if3 .left) (c .before .if4 .left) _ (c .size .ensures), λ t. fits (a .nodes) (a .references) (a .bytes) (a .count) (a .used) (a .stored) (a .root) (c .before .before .before .if2 .left) (c .before .before .if3 .left) (c .before .if4 .left) _ (c .size .ensures) (test-lt _ _ t))
+    (counts-in (a .nodes) (a .references) (a .bytes) (a .count) (a .used) (a .stored) (a .root) (c .before .before .before .before .if1 .left) (c .before .before .before .if2 .left) (c .before .before .if3 .left) (c .before .if4 .left) _ (c .size .ensures), λ t. fits (a .nodes) (a .references) (a .bytes) (a .count) (a .used) (a .stored) (a .root) (c .before .before .before .if2 .left) (c .before .before .if3 .left) (c .before .if4 .left) _ (c .size .ensures) (ltb-true _ _ t))
 
 pub counts-fit-at-spec : {M : Type 1} → statement M
 counts-fit-at-spec =

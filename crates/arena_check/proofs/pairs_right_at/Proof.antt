@@ -2,7 +2,7 @@ use borrow.Author.Needs.{needs}
 use native.Mathlib.Omega.{arith}
 use mathlib.Core.Path.{_≡_, sym, ap, _∙_}
 use lib.ListN.{length}
-use Rattle.arena_check.proofs.Lists.{length-rows}
+use Rattle.lists.specs.Tables.{length-rows}
 use Rattle.arena_check.proofs.Rights.{pairs-in, pairs-out}
 use Rattle.arena_check.proofs.pairs_right_at.Statement.{statement}
 use Rattle.arena_check.proofs.pairs_right_at.Tie as tie

@@ -6,7 +6,7 @@ use lib.Dec.{leb}
 use lib.ListN.{length}
 use Rattle.definition.specs.Node.{vars}
 use Rattle.definition.specs.Arena.{bytes-right, list-right, pairs-right, vars-right, is-name}
-use Rattle.arena_check.proofs.Lists.{length-rows}
+use Rattle.lists.specs.Tables.{length-rows}
 use Rattle.arena_check.proofs.Rights.{right-3, right-4, right-5, right-6, right-7, right-8, right-else, and-in, and-out}
 use Rattle.arena_check.proofs.row_right_at.Statement.{statement}
 use Rattle.arena_check.proofs.row_right_at.Tie as tie

@@ -2,152 +2,28 @@
 use Prim.Native.Nat.{ℕ, zero, suc, _+_, _*_, _≤_, _<_}
 use mathlib.Core.Path.{_≡_, refl, ap}
 use mathlib.Core.Path.{sym as psym, _∙_}
-use mathlib.Core.Bool.{Bool, true, false}
+use mathlib.Core.Bool.{Bool}
 use mathlib.Core.Logic.{_⊎_, inl, inr, _≢_}
-use mathlib.Core.List.{List, [], _∷_, _++_, map, append-assoc, append-nil}
-use lib.ListN.{length, set, take, drop, length-set, length-append, length-map}
+use mathlib.Core.List.{List, [], _∷_, _++_, map, map-append, append-assoc, append-nil}
+use lib.ListN.{length, set, length-set, length-append, length-map, replicate}
 use native.Mathlib.Omega.{arith}
-use Rattle.definition.specs.Node.{Row, Vars, nil, bool, fixnum, symbol, array, hash, object, string, user, absent, present}
-use Rattle.definition.specs.Arena.{Arena, range}
-use Rattle.definition.specs.Graph.{header, header-of, links, vars-links, vars-count, vars-present, default-link, default-present}
-use Rattle.definition.specs.Load.{State, at-set, nodes-set, references-set, bytes-set, symbols-set, objects-set}
-use Rattle.graph.specs.Lists.{At, lt-at, at-app, at-snoc-inv, at-set-same, at-set-other, at-set-inv, apart}
-use Rattle.graph.specs.Forest.{Node, sym, box}
+use Rattle.definition.specs.Node.{Row, nil, bool, fixnum, symbol, hash, object, string, user, absent}
+use Rattle.definition.specs.Arena.{range}
+use Rattle.definition.specs.Load.{State, at-set, nodes-set, references-set, bytes-set, symbols-set, objects-set, begin}
+use Rattle.lists.specs.Lists.{At, at-app, at-snoc-inv, at-set-same, at-set-other, at-set-inv, apart, map-set, map-ext, map-at, map-at-inv, len-snoc, at-lt}
+use Rattle.lists.specs.Ranges.{range-next, range-same, range-more, range-last}
+use Rattle.graph.specs.Forest.{Node, sym, leaf}
 use Rattle.graph.specs.Build.{St, push, pushO, addSym, put}
 use Rattle.graph.specs.View.{see, seen, arena-of, state-seen}
-
--- ---- the ranges of a row: its bytes, and the words of its list
-
-unfoldable pub bytes-start : Row → ℕ
-bytes-start nil = 0
-bytes-start (bool b) = 0
-bytes-start (fixnum w) = 0
-bytes-start (symbol s l) = s
-bytes-start (array s n) = 0
-bytes-start (hash s n d) = 0
-bytes-start (object s n c) = 0
-bytes-start (string s l v) = s
-bytes-start (user s l c v) = s
-
-unfoldable pub bytes-length : Row → ℕ
-bytes-length nil = 0
-bytes-length (bool b) = 0
-bytes-length (fixnum w) = 0
-bytes-length (symbol s l) = l
-bytes-length (array s n) = 0
-bytes-length (hash s n d) = 0
-bytes-length (object s n c) = 0
-bytes-length (string s l v) = l
-bytes-length (user s l c v) = l
-
-unfoldable pub vars-start : Vars → ℕ
-vars-start absent = 0
-vars-start (present s n) = s
-
-unfoldable pub vars-length : Vars → ℕ
-vars-length absent = 0
-vars-length (present s n) = n * 2
-
-unfoldable pub list-start : Row → ℕ
-list-start nil = 0
-list-start (bool b) = 0
-list-start (fixnum w) = 0
-list-start (symbol s l) = 0
-list-start (array s n) = s
-list-start (hash s n d) = s
-list-start (object s n c) = s
-list-start (string s l v) = vars-start v
-list-start (user s l c v) = vars-start v
-
-unfoldable pub list-length : Row → ℕ
-list-length nil = 0
-list-length (bool b) = 0
-list-length (fixnum w) = 0
-list-length (symbol s l) = 0
-list-length (array s n) = n
-list-length (hash s n d) = n * 2
-list-length (object s n c) = n * 2
-list-length (string s l v) = vars-length v
-list-length (user s l c v) = vars-length v
-
--- a row's range of bytes, its list's words
-abbrev pub row-bytes : Arena → Row → List ℕ
-row-bytes A r = range (A .bytes) (bytes-start r) (bytes-length r)
-
-abbrev pub row-words : Arena → Row → List ℕ
-row-words A r = range (A .references) (list-start r) (list-length r)
-
-pub vars-links-same : (A A′ : Arena) (v : Vars) → range (A′ .references) (vars-start v) (vars-length v) ≡ range (A .references) (vars-start v) (vars-length v) → vars-links A′ v ≡ vars-links A v
-unfolding vars-links vars-start vars-length
-vars-links-same A A′ absent w = refl
-vars-links-same A A′ (present s n) w = w
-
--- a row is seen alike where its two ranges hold the same
-pub see-same : (A A′ : Arena) (r : Row) → row-bytes A′ r ≡ row-bytes A r → row-words A′ r ≡ row-words A r → see A′ r ≡ see A r
-unfolding see header links bytes-start bytes-length list-start list-length
-see-same A A′ nil b w = refl
-see-same A A′ (bool false) b w = refl
-see-same A A′ (bool true) b w = refl
-see-same A A′ (fixnum x) b w = refl
-see-same A A′ (symbol s l) b w = ap sym b
-see-same A A′ (array s n) b w = ap (box (header-of 4 0 [] n false)) w
-see-same A A′ (hash s n d) b w = ap (λ (l : List ℕ). box (header-of 5 0 [] n (default-present d)) (l ++ default-link d)) w
-see-same A A′ (object s n c) b w = ap (λ (l : List ℕ). box (header-of 6 0 [] n false) (c ∷ l)) w
-see-same A A′ (string s l v) b w =
-    ap (λ (x : List ℕ). box (header-of 7 0 x (vars-count v) (vars-present v)) (vars-links A′ v)) b
-    ∙ ap (box (header-of 7 0 (range (A .bytes) s l) (vars-count v) (vars-present v))) (vars-links-same A A′ v w)
-see-same A A′ (user s l c v) b w =
-    ap (λ (x : List ℕ). box (header-of 8 0 x (vars-count v) (vars-present v)) (c ∷ vars-links A′ v)) b
-    ∙ ap (λ (x : List ℕ). box (header-of 8 0 (range (A .bytes) s l) (vars-count v) (vars-present v)) (c ∷ x)) (vars-links-same A A′ v w)
-
--- ---- ranges of lists
-
-drop-at : (l : List ℕ) (a v : ℕ) → At l a v → drop a l ≡ v ∷ drop (suc a) l
-drop-at [] a v e = apart (cc)
-drop-at (x ∷ l) zero v e = let q : x ≡ v = cc in rw q
-drop-at (x ∷ l) (suc a) v e = drop-at l a v e
-
--- a range from its first word on
-pub range-next : (l : List ℕ) (a n v : ℕ) → At l a v → range l a (suc n) ≡ v ∷ range l (suc a) n
-unfolding range
-range-next l a n v e = ap (take (suc n)) (drop-at l a v e)
-
-pub range-none : (l : List ℕ) (a : ℕ) → range l a 0 ≡ []
-unfolding range
-range-none l a = refl
-
--- a range holds what it held if each of its words stands
-pub range-same : (l m : List ℕ) (n a : ℕ) → a + n ≤ length l → ((k v : ℕ) → a ≤ k → k < a + n → At l k v → At m k v) → range m a n ≡ range l a n
-range-same l m zero a h f = range-none m a ∙ psym (range-none l a)
-range-same l m (suc n) a h f =
-    let (v, e) = lt-at l a (omega arith) in
-    let ih = range-same l m n (suc a) (omega arith) (λ k u p q. f k u (omega arith) (omega arith)) in
-    range-next m a n v (f a v (omega arith) (omega arith) e) ∙ ap (λ (t : List ℕ). v ∷ t) ih ∙ psym (range-next l a n v e)
-
--- each word of a range
-pub range-at : (l : List ℕ) (n a k v : ℕ) → At (range l a n) k v → At l (a + k) v
-unfolding range
-range-at l zero a k v e = apart (cc)
-range-at [] (suc n) zero k v e = apart (cc)
-range-at [] (suc n) (suc a) k v e = apart (cc)
-range-at (x ∷ l) (suc n) zero zero v e = e
-range-at (x ∷ l) (suc n) zero (suc k) v e =
-    let q = range-at l n 0 k v e in
-    let z : 0 + suc k ≡ suc (0 + k) = omega arith in rw z q
-range-at (x ∷ l) (suc n) (suc a) k v e =
-    let q = range-at l (suc n) a k v e in
-    let z : suc a + k ≡ suc (a + k) = omega arith in rw z q
-
--- ---- states
+use Rattle.states.specs.Rows.{bytes-start, bytes-length, vars-start, vars-length, list-start, list-length, row-words, Within, see-same, see-symbol, Listed, is-array, is-hash, Varied, varied-string, varied-user}
 
 -- a row of a state, seen
 abbrev pub row-seen : State → Row → Node
 row-seen s r = see (arena-of s 0) r
 
 -- a row's ranges lie inside the bytes and the references
-pub record Inside (s : State) (r : Row) : Type 0 where
-  pub bytes-inside : bytes-start r + bytes-length r ≤ length (s .bytes)
-  pub list-inside : list-start r + list-length r ≤ length (s .references)
+abbrev pub Inside : State → Row → Type 0
+Inside s r = Within (s .references) (s .bytes) r
 
 abbrev pub Ranged : State → Type 0
 Ranged s = (i : ℕ) (r : Row) → At (s .nodes) i r → Inside s r
@@ -185,33 +61,18 @@ with-word i v s = references-set (set (s .references) i v) s
 abbrev pub with-row : ℕ → Row → State → State
 with-row i r s = nodes-set (set (s .nodes) i r) s
 
+-- a new symbol with its bytes
+abbrev pub with-new-symbol : List ℕ → State → State
+with-new-symbol b s = with-symbol (length (s .nodes)) (with-node (symbol (length (s .bytes)) (length b)) (with-bytes b s))
+
+-- n words reserved at the end
+abbrev pub with-room : ℕ → State → State
+with-room n s = with-words (replicate n 0) s
+
 -- ---- the view after each step
 
 pub st-eq : (s t : St) → s .nodes ≡ t .nodes → s .objs ≡ t .objs → s .syms ≡ t .syms → s ≡ t
 st-eq s t p q r = λ i. record { nodes = p i; objs = q i; syms = r i }
-
-map-app : {A C : Type 0} (f : A → C) (l r : List A) → map f (l ++ r) ≡ map f l ++ map f r
-map-app f [] r = refl
-map-app f (x ∷ l) r = rw (map-app f l r)
-
-map-set : {A C : Type 0} (f : A → C) (l : List A) (i : ℕ) (x : A) → map f (set l i x) ≡ set (map f l) i (f x)
-map-set f [] i x = refl
-map-set f (y ∷ l) zero x = refl
-map-set f (y ∷ l) (suc i) x = rw (map-set f l i x)
-
-pub map-ext : {A C : Type 0} (f g : A → C) (l : List A) → ((i : ℕ) (x : A) → At l i x → f x ≡ g x) → map f l ≡ map g l
-map-ext f g [] h = refl
-map-ext f g (x ∷ l) h = rw (h 0 x refl, map-ext f g l (λ i y e. h (suc i) y e))
-
-pub map-at : {A C : Type 0} (f : A → C) (l : List A) (i : ℕ) (x : A) → At l i x → At (map f l) i (f x)
-map-at f [] i x e = apart (cc)
-map-at f (y ∷ l) zero x e = let q : y ≡ x = cc in rw q
-map-at f (y ∷ l) (suc i) x e = map-at f l i x e
-
-pub map-at-inv : {A C : Type 0} (f : A → C) (l : List A) (i : ℕ) (y : C) → At (map f l) i y → (x : A) × At l i x × (f x ≡ y)
-map-at-inv f [] i y e = apart (cc)
-map-at-inv f (x ∷ l) zero y e = (x, refl, cc)
-map-at-inv f (x ∷ l) (suc i) y e = map-at-inv f l i y e
 
 nodes-are : (s : State) → state-seen s .nodes ≡ map (see (arena-of s 0)) (s .nodes)
 unfolding state-seen seen
@@ -249,6 +110,11 @@ row-seen-by s t r w b =
     (ap (λ (l : List ℕ). range l (bytes-start r) (bytes-length r)) b)
     (ap (λ (l : List ℕ). range l (list-start r) (list-length r)) w)
 
+-- the root is no part of what is seen
+pub seen-root : (s : State) (h : ℕ) → seen (arena-of s h) ≡ state-seen s .nodes
+unfolding seen state-seen
+seen-root s h = map-ext (see (arena-of s h)) (see (arena-of s 0)) (s .nodes) (λ i r e. see-same (arena-of s 0) (arena-of s h) r refl refl)
+
 pub seen-at-set : (k : ℕ) (s : State) → state-seen (at-set k s) ≡ state-seen s
 seen-at-set k s = seen-alike s (at-set k s) refl refl refl (λ i r e. refl)
 
@@ -261,7 +127,7 @@ seen-node r s =
     let t = with-node r s in
     st-eq (state-seen t) (push (row-seen s r) (state-seen s))
     (nodes-are t
-    ∙ map-app (see (arena-of t 0)) (s .nodes) (r ∷ [])
+    ∙ map-append (see (arena-of t 0)) (s .nodes) (r ∷ [])
     ∙ ap (λ (l : List Node). l ++ (row-seen t r ∷ [])) (map-ext (see (arena-of t 0)) (see (arena-of s 0)) (s .nodes) (λ i x e. row-seen-by s t x refl refl))
     ∙ ap (λ (x : Node). map (see (arena-of s 0)) (s .nodes) ++ (x ∷ [])) (row-seen-by s t r refl refl)
     ∙ ap (λ (l : List Node). l ++ (row-seen s r ∷ [])) (psym (nodes-are s)))
@@ -287,13 +153,6 @@ seen-row i r s =
     (objs-seen t ∙ psym (objs-seen s))
     (syms-seen t ∙ psym (syms-seen s))
 
--- a row inside has its words, and its bytes, when more are added
-pub words-more : (ws : List ℕ) (s : State) (r : Row) → Inside s r → range (s .references ++ ws) (list-start r) (list-length r) ≡ row-words (arena-of s 0) r
-words-more ws s r h = range-same (s .references) (s .references ++ ws) (list-length r) (list-start r) (h .list-inside) (λ k v p q e. at-app (s .references) ws k v e)
-
-bytes-more : (bs : List ℕ) (s : State) (r : Row) → Inside s r → range (s .bytes ++ bs) (bytes-start r) (bytes-length r) ≡ row-bytes (arena-of s 0) r
-bytes-more bs s r h = range-same (s .bytes) (s .bytes ++ bs) (bytes-length r) (bytes-start r) (h .bytes-inside) (λ k v p q e. at-app (s .bytes) bs k v e)
-
 -- a row has its words when another word is written
 pub words-but : (i v : ℕ) (s : State) (r : Row) → Inside s r → Apart i 1 r → range (set (s .references) i v) (list-start r) (list-length r) ≡ row-words (arena-of s 0) r
 words-but i v s r h f =
@@ -305,49 +164,68 @@ words-but i v s r h f =
 
 pub seen-bytes : (bs : List ℕ) (s : State) → Ranged s → state-seen (with-bytes bs s) ≡ state-seen s
 seen-bytes bs s h =
-    seen-alike s (with-bytes bs s) refl refl refl (λ i r e. see-same (arena-of s 0) (arena-of (with-bytes bs s) 0) r (bytes-more bs s r (h i r e)) refl)
+    seen-alike s (with-bytes bs s) refl refl refl (λ i r e. see-same (arena-of s 0) (arena-of (with-bytes bs s) 0) r (range-more (s .bytes) bs _ _ (h i r e .bytes-inside)) refl)
 
 pub seen-words : (ws : List ℕ) (s : State) → Ranged s → state-seen (with-words ws s) ≡ state-seen s
 seen-words ws s h =
-    seen-alike s (with-words ws s) refl refl refl (λ i r e. see-same (arena-of s 0) (arena-of (with-words ws s) 0) r refl (words-more ws s r (h i r e)))
+    seen-alike s (with-words ws s) refl refl refl (λ i r e. see-same (arena-of s 0) (arena-of (with-words ws s) 0) r refl (range-more (s .references) ws _ _ (h i r e .list-inside)))
 
 pub seen-word : (i v : ℕ) (s : State) → Ranged s → Free i 1 s → state-seen (with-word i v s) ≡ state-seen s
 seen-word i v s h f =
     seen-alike s (with-word i v s) refl refl refl (λ k r e. see-same (arena-of s 0) (arena-of (with-word i v s) 0) r refl (words-but i v s r (h k r e) (f k r e)))
+
+-- opened: the node is nil and on the object list
+nil-seen : (s : State) → row-seen s nil ≡ leaf 0 0
+unfolding see
+nil-seen s = refl
+
+pub opened-seen : (s : State) → state-seen (with-object-node nil s) ≡ pushO (leaf 0 0) (state-seen s)
+opened-seen s = seen-object-node nil s ∙ ap (λ (x : Node). pushO x (state-seen s)) (nil-seen s)
+
+pub room-seen : (n : ℕ) (s : State) → Ranged s → state-seen (with-room n s) ≡ state-seen s
+room-seen n s h = seen-words (replicate n 0) s h
+
+pub new-symbol-seen : (b : List ℕ) (s : State) → Ranged s → state-seen (with-new-symbol b s) ≡ addSym (length (state-seen s .nodes)) (push (sym b) (state-seen s))
+new-symbol-seen b s h =
+    let r = symbol (length (s .bytes)) (length b) in
+    seen-symbol (length (s .nodes)) (with-node r (with-bytes b s))
+    ∙ ap (addSym (length (s .nodes)))
+    (seen-node r (with-bytes b s)
+    ∙ ap (λ (x : Node). push x (state-seen (with-bytes b s))) (see-symbol (arena-of (with-bytes b s) 0) (length (s .bytes)) (length b) b (range-last (s .bytes) b))
+    ∙ ap (push (sym b)) (seen-bytes b s h))
+    ∙ ap (λ (n : ℕ). addSym n (push (sym b) (state-seen s))) (psym (length-seen s))
+
+-- a node with its bytes, added whole
+pub bytes-node-seen : (b : List ℕ) (t : State) (r : Row) (x : Node) → Ranged t → row-seen (with-bytes b t) r ≡ x → state-seen (with-object-node r (with-bytes b t)) ≡ pushO x (state-seen t)
+bytes-node-seen b t r x h q = seen-object-node r (with-bytes b t) ∙ ap (λ (y : Node). pushO y (state-seen (with-bytes b t))) q ∙ ap (pushO x) (seen-bytes b t h)
 
 -- ---- ranges stay inside
 
 pub inside-up : (s t : State) (r : Row) → length (s .bytes) ≤ length (t .bytes) → length (s .references) ≤ length (t .references) → Inside s r → Inside t r
 inside-up s t r b w h = record { bytes-inside = omega (arith, h .bytes-inside); list-inside = omega (arith, h .list-inside) }
 
-pub ranged-up : (s t : State) → t .nodes ≡ s .nodes → length (s .bytes) ≤ length (t .bytes) → length (s .references) ≤ length (t .references) → Ranged s → Ranged t
-ranged-up s t n b w h i r e = inside-up s t r b w (h i r (rw n at e))
-
 pub ranged-node : (r : Row) (s : State) → Inside s r → Ranged s → Ranged (with-node r s)
 ranged-node r s x h i q e = go (at-snoc-inv (s .nodes) r i q e)
   where
     go : At (s .nodes) i q ⊎ ((i ≡ length (s .nodes)) × (q ≡ r)) → Inside (with-node r s) q
-    go (inl a) = inside-up s (with-node r s) q (omega arith) (omega arith) (h i q a)
-    go (inr a) = rw (a .1) (inside-up s (with-node r s) r (omega arith) (omega arith) x)
-
-pub ranged-object-node : (r : Row) (s : State) → Inside s r → Ranged s → Ranged (with-object-node r s)
-ranged-object-node r s x h = ranged-up (with-node r s) (with-object-node r s) refl (omega arith) (omega arith) (ranged-node r s x h)
+    go (inl a) = h i q a
+    go (inr a) = rw (a .1) x
 
 pub ranged-row : (i : ℕ) (r : Row) (s : State) → Inside s r → Ranged s → Ranged (with-row i r s)
 ranged-row i r s x h k q e = go (at-set-inv (s .nodes) i k r q e)
   where
     go : ((k ≡ i) × (q ≡ r)) ⊎ ((k ≢ i) × At (s .nodes) k q) → Inside (with-row i r s) q
-    go (inl a) = rw (a .1) (inside-up s (with-row i r s) r (omega arith) (omega arith) x)
-    go (inr a) = inside-up s (with-row i r s) q (omega arith) (omega arith) (h k q (a .1))
+    go (inl a) = rw (a .1) x
+    go (inr a) = h k q (a .1)
 
 pub ranged-bytes : (bs : List ℕ) (s : State) → Ranged s → Ranged (with-bytes bs s)
-ranged-bytes bs s h = ranged-up s (with-bytes bs s) refl (omega (arith, length-append (s .bytes) bs)) (omega arith) h
+ranged-bytes bs s h i r e = inside-up s (with-bytes bs s) r (omega (arith, length-append (s .bytes) bs)) (omega arith) (h i r e)
 
 pub ranged-words : (ws : List ℕ) (s : State) → Ranged s → Ranged (with-words ws s)
-ranged-words ws s h = ranged-up s (with-words ws s) refl (omega arith) (omega (arith, length-append (s .references) ws)) h
+ranged-words ws s h i r e = inside-up s (with-words ws s) r (omega arith) (omega (arith, length-append (s .references) ws)) (h i r e)
 
 pub ranged-word : (i v : ℕ) (s : State) → Ranged s → Ranged (with-word i v s)
-ranged-word i v s h = ranged-up s (with-word i v s) refl (omega arith) (omega (arith, length-set (s .references) i v)) h
+ranged-word i v s h k r e = inside-up s (with-word i v s) r (omega arith) (omega (arith, length-set (s .references) i v)) (h k r e)
 
 -- a row with no list and no bytes
 pub inside-nil : (s : State) → Inside s nil
@@ -362,6 +240,45 @@ pub inside-fixnum : (w : ℕ) (s : State) → Inside s (fixnum w)
 unfolding bytes-start bytes-length list-start list-length
 inside-fixnum w s = record { bytes-inside = omega arith; list-inside = omega arith }
 
+pub inside-symbol : (s : State) (a l : ℕ) → a + l ≤ length (s .bytes) → Inside s (symbol a l)
+unfolding bytes-start bytes-length list-start list-length
+inside-symbol s a l h = record { bytes-inside = h; list-inside = omega arith }
+
+pub inside-string : (s : State) (a l : ℕ) → a + l ≤ length (s .bytes) → Inside s (string a l absent)
+unfolding bytes-start bytes-length list-start list-length vars-start vars-length
+inside-string s a l h = record { bytes-inside = h; list-inside = omega arith }
+
+pub inside-user : (s : State) (a l c : ℕ) → a + l ≤ length (s .bytes) → Inside s (user a l c absent)
+unfolding bytes-start bytes-length list-start list-length vars-start vars-length
+inside-user s a l c h = record { bytes-inside = h; list-inside = omega arith }
+
+pub inside-listed : {p : ℕ} (s : State) (r : Row) → Listed p r → p + list-length r ≤ length (s .references) → Inside s r
+unfolding bytes-start bytes-length list-start list-length
+inside-listed s r (is-array n) h = record { bytes-inside = omega arith; list-inside = h }
+inside-listed s r (is-hash n) h = record { bytes-inside = omega arith; list-inside = h }
+
+pub inside-hash : (s : State) (p n d : ℕ) → p + n * 2 ≤ length (s .references) → Inside s (hash p n d)
+unfolding bytes-start bytes-length list-start list-length
+inside-hash s p n d h = record { bytes-inside = omega arith; list-inside = h }
+
+pub inside-object : (s : State) (p n c : ℕ) → p + n * 2 ≤ length (s .references) → Inside s (object p n c)
+unfolding bytes-start bytes-length list-start list-length
+inside-object s p n c h = record { bytes-inside = omega arith; list-inside = h }
+
+pub inside-varied : {p n : ℕ} (s : State) (r r′ : Row) → Varied p n r r′ → p + n * 2 ≤ length (s .references) → Inside s r → Inside s r′
+unfolding bytes-start bytes-length list-start list-length vars-start vars-length
+inside-varied s r r′ varied-string h x = record { bytes-inside = x .bytes-inside; list-inside = h }
+inside-varied s r r′ varied-user h x = record { bytes-inside = x .bytes-inside; list-inside = h }
+
+pub ranged-stored : (r : Row) (b : List ℕ) (t : State) → Inside (with-bytes b t) r → Ranged t → Ranged (with-object-node r (with-bytes b t))
+ranged-stored r b t i h = ranged-node r (with-bytes b t) i (ranged-bytes b t h)
+
+pub ranged-new-symbol : (b : List ℕ) (s : State) → Ranged s → Ranged (with-new-symbol b s)
+ranged-new-symbol b s h = ranged-stored (symbol (length (s .bytes)) (length b)) b s (inside-symbol (with-bytes b s) (length (s .bytes)) (length b) (omega (arith, length-append (s .bytes) b))) h
+
+pub opened-ranged : (s : State) → Ranged s → Ranged (with-object-node nil s)
+opened-ranged s h = ranged-node nil s (inside-nil s) h
+
 -- ---- what a step leaves alone
 
 -- from s to t: words below p stand, bytes are only added, and the words below p that no list has stay free
@@ -372,8 +289,22 @@ pub record Frame (p : ℕ) (s t : State) : Type 0 where
   pub bytes-are : t .bytes ≡ s .bytes ++ bytes-added
   pub stays-free : (a n : ℕ) → a + n ≤ p → Free a n s → Free a n t
 
+-- words and bytes are those of before
+frame-rows : (p : ℕ) (s t : State) → t .references ≡ s .references → t .bytes ≡ s .bytes → ((a n : ℕ) → a + n ≤ p → Free a n s → Free a n t) → Frame p s t
+frame-rows p s t w b f = record {
+  references-grow = rw w (omega arith);
+  words-stand = λ k v l e. rw w e;
+  bytes-added = [];
+  bytes-are = b ∙ psym (append-nil (s .bytes));
+  stays-free = f;
+}
+
+-- rows too
+frame-same : (p : ℕ) (s t : State) → t .nodes ≡ s .nodes → t .references ≡ s .references → t .bytes ≡ s .bytes → Frame p s t
+frame-same p s t n w b = frame-rows p s t w b (λ a m l f i r e. f i r (rw n at e))
+
 pub frame-refl : (p : ℕ) (s : State) → Frame p s s
-frame-refl p s = record { references-grow = omega arith; words-stand = λ k v l e. e; bytes-added = []; bytes-are = psym (append-nil (s .bytes)); stays-free = λ a n l f. f }
+frame-refl p s = frame-same p s s refl refl refl
 
 pub frame-trans : {p : ℕ} {s t u : State} → Frame p s t → Frame p t u → Frame p s u
 frame-trans {s = s} f g = record {
@@ -391,16 +322,6 @@ frame-below q h f = record {
   bytes-added = f .bytes-added;
   bytes-are = f .bytes-are;
   stays-free = λ a n l e. f .stays-free a n (omega arith) e;
-}
-
--- rows and words are those of before, bytes too
-frame-same : (p : ℕ) (s t : State) → t .nodes ≡ s .nodes → t .references ≡ s .references → t .bytes ≡ s .bytes → Frame p s t
-frame-same p s t n w b = record {
-  references-grow = rw w (omega arith);
-  words-stand = λ k v l e. rw w e;
-  bytes-added = [];
-  bytes-are = b ∙ psym (append-nil (s .bytes));
-  stays-free = λ a m l f i r e. f i r (rw n at e);
 }
 
 pub frame-at-set : (p k : ℕ) (s : State) → Frame p s (at-set k s)
@@ -438,18 +359,54 @@ frame-word p i v s h = record {
 abbrev pub Above : ℕ → Row → Type 0
 Above p r = (list-start r + list-length r ≡ 0) ⊎ (p ≤ list-start r)
 
+pub above-nil : (p : ℕ) → Above p nil
+unfolding list-start list-length
+above-nil p = inl refl
+
+pub above-bool : (p : ℕ) (b : Bool) → Above p (bool b)
+unfolding list-start list-length
+above-bool p b = inl refl
+
+pub above-fixnum : (p w : ℕ) → Above p (fixnum w)
+unfolding list-start list-length
+above-fixnum p w = inl refl
+
+pub above-symbol : (p a l : ℕ) → Above p (symbol a l)
+unfolding list-start list-length
+above-symbol p a l = inl refl
+
+pub above-string : (p a l : ℕ) → Above p (string a l absent)
+unfolding list-start list-length vars-start vars-length
+above-string p a l = inl refl
+
+pub above-user : (p a l c : ℕ) → Above p (user a l c absent)
+unfolding list-start list-length vars-start vars-length
+above-user p a l c = inl refl
+
+pub above-listed : {p : ℕ} (q : ℕ) (r : Row) → q ≤ p → Listed p r → Above q r
+unfolding list-start
+above-listed q r h (is-array n) = inr h
+above-listed q r h (is-hash n) = inr h
+
+pub above-hash : (q p n d : ℕ) → q ≤ p → Above q (hash p n d)
+unfolding list-start
+above-hash q p n d h = inr h
+
+pub above-object : (q p n c : ℕ) → q ≤ p → Above q (object p n c)
+unfolding list-start
+above-object q p n c h = inr h
+
+pub above-varied : {p n : ℕ} (q : ℕ) (r r′ : Row) → q ≤ p → Varied p n r r′ → Above q r′
+unfolding list-start vars-start
+above-varied q r r′ h varied-string = inr h
+above-varied q r r′ h varied-user = inr h
+
 above-apart : (p a n : ℕ) (r : Row) → a + n ≤ p → Above p r → Apart a n r
 above-apart p a n r l (inl h) = inl (omega arith)
 above-apart p a n r l (inr h) = inr (omega arith)
 
 pub frame-node : (p : ℕ) (r : Row) (s : State) → Above p r → Frame p s (with-node r s)
-frame-node p r s h = record {
-  references-grow = omega arith;
-  words-stand = λ k v l e. e;
-  bytes-added = [];
-  bytes-are = psym (append-nil (s .bytes));
-  stays-free = λ a n l f i q e. go a n l f i q (at-snoc-inv (s .nodes) r i q e);
-}
+frame-node p r s h = frame-rows p s (with-node r s) refl refl (λ a n l f i q e. go a n l f i q (at-snoc-inv (s .nodes) r i q e))
   where
     go : (a n : ℕ) → a + n ≤ p → Free a n s → (i : ℕ) (q : Row) → At (s .nodes) i q ⊎ ((i ≡ length (s .nodes)) × (q ≡ r)) → Apart a n q
     go a n l f i q (inl x) = f i q x
@@ -458,14 +415,19 @@ frame-node p r s h = record {
 pub frame-object-node : (p : ℕ) (r : Row) (s : State) → Above p r → Frame p s (with-object-node r s)
 frame-object-node p r s h = frame-trans (frame-node p r s h) (frame-object p (length (s .nodes)) (with-node r s))
 
+pub frame-stored : (p : ℕ) (r : Row) (b : List ℕ) (t : State) → Above p r → Frame p t (with-object-node r (with-bytes b t))
+frame-stored p r b t a = frame-trans (frame-bytes p b t) (frame-object-node p r (with-bytes b t) a)
+
+pub frame-new-symbol : (p : ℕ) (b : List ℕ) (s : State) → Frame p s (with-new-symbol b s)
+frame-new-symbol p b s =
+    let t = with-node (symbol (length (s .bytes)) (length b)) (with-bytes b s) in
+    frame-trans (frame-bytes p b s) (frame-trans (frame-node p _ (with-bytes b s) (above-symbol p _ _)) (frame-symbol p (length (s .nodes)) t))
+
+pub frame-opened : (p : ℕ) (s : State) → Frame p s (with-object-node nil s)
+frame-opened p s = frame-object-node p nil s (above-nil p)
+
 pub frame-row : (p i : ℕ) (r : Row) (s : State) → Above p r → Frame p s (with-row i r s)
-frame-row p i r s h = record {
-  references-grow = omega arith;
-  words-stand = λ k v l e. e;
-  bytes-added = [];
-  bytes-are = psym (append-nil (s .bytes));
-  stays-free = λ a n l f k q e. go a n l f k q (at-set-inv (s .nodes) i k r q e);
-}
+frame-row p i r s h = frame-rows p s (with-row i r s) refl refl (λ a n l f k q e. go a n l f k q (at-set-inv (s .nodes) i k r q e))
   where
     go : (a n : ℕ) → a + n ≤ p → Free a n s → (k : ℕ) (q : Row) → ((k ≡ i) × (q ≡ r)) ⊎ ((k ≢ i) × At (s .nodes) k q) → Apart a n q
     go a n l f k q (inl x) = rw (x .1) (above-apart p a n r l h)
@@ -492,47 +454,36 @@ pub range-written : (s t : State) (i n v : ℕ) (ms : List ℕ) → i < length (
 range-written s t i n v ms l f e =
     range-next (t .references) i n v (f .words-stand i v (omega arith) (at-set-same (s .references) i v l)) ∙ ap (λ (x : List ℕ). v ∷ x) e
 
--- ---- how a row is seen, once its words are known
+-- ---- rows that stand
 
-pub see-array : (A : Arena) (p n : ℕ) (ms : List ℕ) → range (A .references) p n ≡ ms → see A (array p n) ≡ box (header-of 4 0 [] n false) ms
-unfolding see header links
-see-array A p n ms e = ap (box (header-of 4 0 [] n false)) e
+-- nodes are only added, and the rows of the kind K stand
+pub record Keeps (K : Row → Type 0) (s t : State) : Type 0 where
+  pub grows : length (s .nodes) ≤ length (t .nodes)
+  pub stands : (i : ℕ) (r : Row) → K r → At (s .nodes) i r → At (t .nodes) i r
 
-pub see-hash : (A : Arena) (p n : ℕ) (ms : List ℕ) → range (A .references) p (n * 2) ≡ ms → see A (hash p n 0) ≡ box (header-of 5 0 [] n false) ms
-unfolding see header links default-link default-present
-see-hash A p n ms e = ap (box (header-of 5 0 [] n false)) (append-nil (range (A .references) p (n * 2)) ∙ e)
+module _ {K : Row → Type 0} where
+  -- the same rows
+  pub keeps-refl : (s t : State) → t .nodes ≡ s .nodes → Keeps K s t
+  keeps-refl s t e = record { grows = rw e (omega arith); stands = λ i r f a. rw e a }
 
-pub see-hash-default : (A : Arena) (p n d : ℕ) (ms : List ℕ) → range (A .references) p (n * 2) ≡ ms → see A (hash p n (d + 1)) ≡ box (header-of 5 0 [] n true) (ms ++ (d ∷ []))
-unfolding see header links default-link default-present
-see-hash-default A p n d ms e =
-    let z : d + 1 ≡ suc d = omega arith in
-    rw z (ap (λ (l : List ℕ). box (header-of 5 0 [] n true) (l ++ (d ∷ []))) e)
+  pub keeps-trans : {s t u : State} → Keeps K s t → Keeps K t u → Keeps K s u
+  keeps-trans x y = record { grows = omega (arith, x .grows, y .grows); stands = λ i r f a. y .stands i r f (x .stands i r f a) }
 
-pub see-object : (A : Arena) (p n c : ℕ) (ms : List ℕ) → range (A .references) p (n * 2) ≡ ms → see A (object p n c) ≡ box (header-of 6 0 [] n false) (c ∷ ms)
-unfolding see header links
-see-object A p n c ms e = ap (λ (l : List ℕ). box (header-of 6 0 [] n false) (c ∷ l)) e
+  pub keeps-node : (r : Row) (s : State) → Keeps K s (with-node r s)
+  keeps-node r s = record { grows = omega (arith, len-snoc (s .nodes) r); stands = λ i q f a. at-app (s .nodes) (r ∷ []) i q a }
 
-pub see-string : (A : Arena) (s l : ℕ) (b : List ℕ) → range (A .bytes) s l ≡ b → see A (string s l absent) ≡ box (header-of 7 0 b 0 false) []
-unfolding see header links vars-count vars-present vars-links
-see-string A s l b e = ap (λ (x : List ℕ). box (header-of 7 0 x 0 false) []) e
+  pub keeps-object-node : (r : Row) (s : State) → Keeps K s (with-object-node r s)
+  keeps-object-node r s = keeps-trans (keeps-node r s) (keeps-refl (with-node r s) (with-object-node r s) refl)
 
-pub see-string-variables : (A : Arena) (s l p n : ℕ) (b ms : List ℕ) → range (A .bytes) s l ≡ b → range (A .references) p (n * 2) ≡ ms → see A (string s l (present p n)) ≡ box (header-of 7 0 b n true) ms
-unfolding see header links vars-count vars-present vars-links
-see-string-variables A s l p n b ms e w = ap (λ (x : List ℕ). box (header-of 7 0 x n true) (range (A .references) p (n * 2))) e ∙ ap (box (header-of 7 0 b n true)) w
+  -- a node from s's last on is filled
+  pub keeps-row : (h : ℕ) (r : Row) (s t : State) → length (s .nodes) ≤ h → Keeps K s t → Keeps K s (with-row h r t)
+  keeps-row h r s t l x = record {
+    grows = omega (arith, x .grows, length-set (t .nodes) h r);
+    stands = λ i q f a. at-set-other (t .nodes) h i r q (omega (arith, at-lt (s .nodes) i q a)) (x .stands i q f a);
+  }
 
-pub see-user : (A : Arena) (s l c : ℕ) (b : List ℕ) → range (A .bytes) s l ≡ b → see A (user s l c absent) ≡ box (header-of 8 0 b 0 false) (c ∷ [])
-unfolding see header links vars-count vars-present vars-links
-see-user A s l c b e = ap (λ (x : List ℕ). box (header-of 8 0 x 0 false) (c ∷ [])) e
+-- ---- at the beginning
 
-pub see-user-variables : (A : Arena) (s l c p n : ℕ) (b ms : List ℕ) → range (A .bytes) s l ≡ b → range (A .references) p (n * 2) ≡ ms → see A (user s l c (present p n)) ≡ box (header-of 8 0 b n true) (c ∷ ms)
-unfolding see header links vars-count vars-present vars-links
-see-user-variables A s l c p n b ms e w = ap (λ (x : List ℕ). box (header-of 8 0 x n true) (c ∷ range (A .references) p (n * 2))) e ∙ ap (λ (x : List ℕ). box (header-of 8 0 b n true) (c ∷ x)) w
-
-pub see-symbol : (A : Arena) (s l : ℕ) (b : List ℕ) → range (A .bytes) s l ≡ b → see A (symbol s l) ≡ sym b
-unfolding see
-see-symbol A s l b e = ap sym e
-
--- the bytes just added
-pub range-end : (l bs : List ℕ) → range (l ++ bs) (length l) (length bs) ≡ bs
-unfolding range
-range-end l bs = ap (take (length bs)) (lib.Seq.drop-append-seam l bs) ∙ lib.Seq.take-length bs
+pub begin-ranged : Ranged begin
+begin-ranged zero r e = let q : nil ≡ r = cc in rw (← q) (inside-nil begin)
+begin-ranged (suc i) r e = apart (cc)

@@ -5,48 +5,29 @@ use mathlib.Core.Path.{sym as psym}
 use mathlib.Core.Bool.{Bool, true, false}
 use mathlib.Core.Option.{Option, none, some}
 use mathlib.Core.List.{List, [], _∷_}
-use lib.Dec.{eqb}
 use native.Mathlib.Omega.{arith}
 use Rattle.definition.specs.Run.{pick}
-use Rattle.definition.specs.Node.{Row, nil, bool, fixnum, symbol, array, hash, object, string, user, kind, equal}
+use Rattle.definition.specs.Node.{Row, nil, bool, fixnum, symbol, array, hash, object, string, user, kind}
 use Rattle.definition.specs.Arena.{Arena, range, name-of, named, find-symbol}
 use Rattle.definition.specs.Load.{State}
-use Rattle.graph.specs.Lists.{At, NotIn, apart, eqb-yes, yes-eqb}
+use Rattle.lists.specs.Lists.{At, NotIn, apart}
+use Rattle.lists.specs.Words.{equal-true, equal-self}
 use Rattle.graph.specs.Forest.{sym}
 use Rattle.graph.specs.View.{see, arena-of, state-seen}
-use Rattle.load_forest.specs.Views.{row-seen, seen-at, seen-at-inv}
-
-no-true : {A : Type 0} → false ≡ true → A
-no-true e = apart (cc)
-
-pub equal-yes : (l m : List ℕ) → equal l m ≡ true → l ≡ m
-unfolding equal pick
-equal-yes [] [] e = refl
-equal-yes [] (b ∷ m) e = no-true e
-equal-yes (a ∷ l) [] e = no-true e
-equal-yes (a ∷ l) (b ∷ m) e = go (eqb a b) refl e (equal-yes l m)
-  where
-    go : (x : Bool) → eqb a b ≡ x → pick x (equal l m) false ≡ true → (equal l m ≡ true → l ≡ m) → a ∷ l ≡ b ∷ m
-    go true p q ih = rw (eqb-yes a b p, ih q)
-    go false p q ih = no-true q
-
-pub yes-equal : (l : List ℕ) → equal l l ≡ true
-unfolding equal pick
-yes-equal [] = refl
-yes-equal (a ∷ l) = rw (yes-eqb a) (yes-equal l)
+use Rattle.states.specs.States.{row-seen, seen-at, seen-at-inv}
 
 -- a row of kind 3 with the name b is seen as the symbol b, and no other row is
 named-seen : (s : State) (b : List ℕ) (r : Row) → named (s .bytes) b r ≡ true → row-seen s r ≡ sym b
 unfolding named kind name-of see
-named-seen s b nil e = no-true e
-named-seen s b (bool x) e = no-true e
-named-seen s b (fixnum w) e = no-true e
-named-seen s b (symbol a l) e = ap sym (psym (equal-yes b (range (s .bytes) a l) e))
-named-seen s b (array a n) e = no-true e
-named-seen s b (hash a n d) e = no-true e
-named-seen s b (object a n c) e = no-true e
-named-seen s b (string a l v) e = no-true e
-named-seen s b (user a l c v) e = no-true e
+named-seen s b nil e = apart (cc)
+named-seen s b (bool x) e = apart (cc)
+named-seen s b (fixnum w) e = apart (cc)
+named-seen s b (symbol a l) e = ap sym (psym (equal-true b (range (s .bytes) a l) e))
+named-seen s b (array a n) e = apart (cc)
+named-seen s b (hash a n d) e = apart (cc)
+named-seen s b (object a n c) e = apart (cc)
+named-seen s b (string a l v) e = apart (cc)
+named-seen s b (user a l c v) e = apart (cc)
 
 -- a row that is seen as a symbol
 pub symbol-of : (A : Arena) (b : List ℕ) (r : Row) → see A r ≡ sym b → (a : ℕ) × (l : ℕ) × (r ≡ symbol a l) × (range (A .bytes) a l ≡ b)
@@ -64,7 +45,7 @@ symbol-of A b (user a l c v) e = apart (cc)
 
 named-symbol : (bytes b : List ℕ) (a l : ℕ) → range bytes a l ≡ b → named bytes b (symbol a l) ≡ true
 unfolding named kind name-of
-named-symbol bytes b a l e = rw e (yes-equal b)
+named-symbol bytes b a l e = rw e (equal-self b)
 
 seen-named : (s : State) (b : List ℕ) (r : Row) → row-seen s r ≡ sym b → named (s .bytes) b r ≡ true
 seen-named s b r e =

@@ -1,0 +1,79 @@
+-- The nodes of a table, and the definition's test of tables and counts.
+use Prim.Native.Nat.{ℕ, zero, suc, _+_, _*_, _/_, _≤_, _<_}
+use mathlib.Core.Path.{_≡_, refl, ap, sym, _∙_}
+use mathlib.Core.Bool.{Bool, true, false, _&&_}
+use mathlib.Core.Option.{Option, none, some}
+use mathlib.Core.List.{List}
+use lib.ListN.{length, getD, take, drop}
+use lib.Seq.{drop-drop}
+use native.Mathlib.Omega.{arith}
+use borrow.Author.Tests.{le-leb}
+use Rattle.definition.specs.Run.{pick}
+use Rattle.definition.specs.Node.{nil, width, row, rows}
+use Rattle.definition.specs.Arena.{Arena, Tables, arena, node-right, faulty, counts-fit, fault-if, fault}
+use Rattle.definition.specs.Build.{words-at}
+use Rattle.definition.specs.declared.Counts.{Counts}
+use Rattle.definition.specs.declared.Fault.{Fault}
+use Rattle.definition.specs.declared.Fault.the-variants.{Node}
+use Rattle.lists.specs.Lists.{apart}
+
+pub length-rows : (n : ℕ) (table : List ℕ) → length (rows n table) ≡ n
+unfolding rows
+length-rows zero table = refl
+length-rows (suc n) table = ap suc (length-rows n (drop width table))
+
+pub words-next : (t : List ℕ) (i : ℕ) → words-at (drop 7 t) i ≡ words-at t (suc i)
+unfolding words-at
+words-next t i = let y : 7 + i * 7 ≡ suc i * 7 = omega arith in ap (take 7) (drop-drop (i * 7) 7 t ∙ ap (λ (k : ℕ). drop k t) y)
+
+-- node i of a table's rows
+pub rows-at : (n : ℕ) (t : List ℕ) (i : ℕ) → i < n → getD (rows n t) i nil ≡ row (take width (drop (i * width) t))
+unfolding rows words-at
+rows-at zero t i h = absurd (omega arith)
+rows-at (suc n) t zero h = refl
+rows-at (suc n) t (suc i) h = rows-at n (drop width t) i (omega arith) ∙ ap row (words-next t i)
+
+-- ---- the test of nodes
+
+pick-none : (b : Bool) (o : Option Fault) (f : Fault) → pick b o (some f) ≡ none → (b ≡ true) × (o ≡ none)
+unfolding pick
+pick-none true o f e = (refl, e)
+pick-none false o f e = apart (cc)
+
+pub faulty-words : (A : Arena) (n i : ℕ) (t : List ℕ) → faulty A n i t ≡ none → (k : ℕ) → k < n → node-right A (words-at t k) ≡ true
+unfolding faulty words-at
+faulty-words A zero i t e k h = absurd (omega arith)
+faulty-words A (suc n) i t e zero h = pick-none (node-right A (take 7 t)) (faulty A n (suc i) (drop 7 t)) (Node i) e .0
+faulty-words A (suc n) i t e (suc k) h =
+    let q : faulty A n (suc i) (drop 7 t) ≡ none = pick-none (node-right A (take 7 t)) (faulty A n (suc i) (drop 7 t)) (Node i) e .1 in
+    ap (node-right A) (sym (words-next t k)) ∙ faulty-words A n (suc i) (drop 7 t) q k (omega arith)
+
+pub words-faulty : (A : Arena) (n i : ℕ) (t : List ℕ) → ((k : ℕ) → k < n → node-right A (words-at t k) ≡ true) → faulty A n i t ≡ none
+unfolding faulty words-at pick
+words-faulty A zero i t h = refl
+words-faulty A (suc n) i t h =
+    let q : node-right A (take 7 t) ≡ true = h 0 (omega arith) in
+    rw q (words-faulty A n (suc i) (drop 7 t) (λ k l. ap (node-right A) (words-next t k) ∙ h (suc k) (omega arith)))
+
+-- ---- the test of the whole
+
+five : (a b c d e : Bool) → a ≡ true → b ≡ true → c ≡ true → d ≡ true → e ≡ true → a && b && c && d && e ≡ true
+five a b c d e p q r s t = rw (p, q, r, s, t)
+
+module _ (T : Tables) (c : Counts) where
+  pub counts-fit-yes : 1 ≤ c .nodes → c .nodes ≤ length (T .nodes) / 7 → c .references ≤ length (T .references) → c .bytes ≤ length (T .bytes) → c .root < c .nodes → counts-fit T c ≡ true
+  unfolding counts-fit
+  counts-fit-yes a n r b o =
+      five _ _ _ _ _ (le-leb 1 (c .nodes) a) (le-leb (c .nodes) (length (T .nodes) / 7) n) (le-leb (c .references) (length (T .references)) r) (le-leb (c .bytes) (length (T .bytes)) b) (le-leb (suc (c .root)) (c .nodes) o)
+
+  pub fault-none : counts-fit T c ≡ true → faulty (arena T c) (c .nodes) 0 (T .nodes) ≡ none → fault T c ≡ none
+  unfolding fault fault-if
+  fault-none e f = rw e f
+
+  pub no-fault : fault T c ≡ none → (counts-fit T c ≡ true) × (faulty (arena T c) (c .nodes) 0 (T .nodes) ≡ none)
+  unfolding fault fault-if
+  no-fault e = go (counts-fit T c) refl e
+    where
+      go : (b : Bool) → counts-fit T c ≡ b → fault-if b T c ≡ none → (counts-fit T c ≡ true) × (faulty (arena T c) (c .nodes) 0 (T .nodes) ≡ none)
+      go true h e = (h, e)
+      go false h e = apart (cc)

@@ -1,0 +1,132 @@
+-- A right row: its ranges are inside, its links lead to nodes and its names are symbols; then the definition's test holds.
+use Prim.Native.Nat.{ℕ, zero, suc, _+_, _*_, _≤_}
+use mathlib.Core.Path.{_≡_, refl, ap}
+use mathlib.Core.Bool.{Bool, true, _&&_}
+use mathlib.Core.List.{List, [], _∷_, _++_}
+use lib.ListN.{length}
+use native.Mathlib.Omega.{arith}
+use borrow.Author.Tests.{le-leb, lt-ltb}
+use Rattle.definition.specs.Run.{pick}
+use Rattle.definition.specs.Node.{Row, Vars, nil, bool, fixnum, symbol, array, hash, object, string, user, absent, present, kind}
+use Rattle.definition.specs.Arena.{Arena, range, firsts, all-below, is-name, all-names, bytes-right, list-right, pairs-right, vars-right, row-right}
+use Rattle.definition.specs.Graph.{links, vars-links, default-link}
+use Rattle.lists.specs.Lists.{At, at-app, Below}
+use Rattle.graph.specs.View.{node-at, Name}
+use Rattle.states.specs.Rows.{bytes-start, bytes-length, list-start, list-length, vars-start, vars-length, row-words, Within, vars-links-same, links-same}
+
+-- the names of a row: an object's or a user-defined node's, and the first of each pair
+unfoldable pub row-names : Arena → Row → List ℕ
+row-names A nil = []
+row-names A (bool b) = []
+row-names A (fixnum w) = []
+row-names A (symbol s l) = []
+row-names A (array s n) = []
+row-names A (hash s n d) = []
+row-names A (object s n c) = c ∷ firsts (range (A .references) s (n * 2))
+row-names A (string s l v) = firsts (vars-links A v)
+row-names A (user s l c v) = c ∷ firsts (vars-links A v)
+
+pub record RightIn (A : Arena) (r : Row) : Type 0 where
+  pub inside : Within (A .references) (A .bytes) r
+  pub below : Below (length (A .nodes)) (links A r)
+  pub names : (k c : ℕ) → At (row-names A r) k c → Name A c
+
+-- a name, and names after it
+pub names-first : (A : Arena) (c : ℕ) (ns : List ℕ) → Name A c → ((k d : ℕ) → At ns k d → Name A d) → (k d : ℕ) → At (c ∷ ns) k d → Name A d
+names-first A c ns n h zero d a = let z : c ≡ d = cc in rw (← z) n
+names-first A c ns n h (suc k) d a = h k d a
+
+-- ---- a row is right in a later arena, where its words are the same
+
+names-same : (A B : Arena) (r : Row) → row-words B r ≡ row-words A r → row-names B r ≡ row-names A r
+unfolding row-names list-start list-length
+names-same A B nil e = refl
+names-same A B (bool b) e = refl
+names-same A B (fixnum w) e = refl
+names-same A B (symbol s l) e = refl
+names-same A B (array s n) e = refl
+names-same A B (hash s n d) e = refl
+names-same A B (object s n c) e = ap (λ (l : List ℕ). c ∷ firsts l) e
+names-same A B (string s l v) e = ap firsts (vars-links-same A B v e)
+names-same A B (user s l c v) e = ap (λ (x : List ℕ). c ∷ firsts x) (vars-links-same A B v e)
+
+-- from A to B nodes are only added, names stay names, and bytes and words are only added
+pub record Onward (A B : Arena) : Type 0 where
+  pub count : length (A .nodes) ≤ length (B .nodes)
+  pub names : (c : ℕ) → Name A c → Name B c
+  pub more-bytes : length (A .bytes) ≤ length (B .bytes)
+  pub more-words : length (A .references) ≤ length (B .references)
+
+pub row-onward : (A B : Arena) (r : Row) → Onward A B → row-words B r ≡ row-words A r → RightIn A r → RightIn B r
+row-onward A B r o e h = record {
+  inside = record { bytes-inside = omega (arith, o .more-bytes, h .inside .bytes-inside); list-inside = omega (arith, o .more-words, h .inside .list-inside) };
+  below = λ k v a. omega (arith, o .count, h .below k v (rw (links-same A B r e) at a));
+  names = λ k c a. o .names c (h .names k c (rw (names-same A B r e) at a));
+}
+
+-- ---- the definition's test of a row
+
+pub yes-and : (a b : Bool) → a ≡ true → b ≡ true → a && b ≡ true
+yes-and a b p q = rw (p, q)
+
+pub all-below-yes : (n : ℕ) (l : List ℕ) → Below n l → all-below n l ≡ true
+unfolding all-below pick
+all-below-yes n [] b = refl
+all-below-yes n (m ∷ l) b = rw (lt-ltb m n (b 0 m refl)) (all-below-yes n l (λ k v e. b (suc k) v e))
+
+pub is-name-yes : (A : Arena) (c : ℕ) → Name A c → is-name A c ≡ true
+unfolding is-name kind
+is-name-yes A c (a, l, e) = rw (node-at A c (symbol a l) e)
+
+pub all-names-yes : (A : Arena) (l : List ℕ) → ((k c : ℕ) → At l k c → Name A c) → all-names A l ≡ true
+unfolding all-names pick
+all-names-yes A [] h = refl
+all-names-yes A (m ∷ l) h = rw (is-name-yes A m (h 0 m refl)) (all-names-yes A l (λ k c e. h (suc k) c e))
+
+below-left : (n : ℕ) (l m : List ℕ) → Below n (l ++ m) → Below n l
+below-left n l m b k v e = b k v (at-app l m k v e)
+
+pub list-right-yes : (A : Arena) (p n : ℕ) → p + n ≤ length (A .references) → Below (length (A .nodes)) (range (A .references) p n) → list-right A p n ≡ true
+unfolding list-right
+list-right-yes A p n h b = yes-and _ _ (le-leb _ _ h) (all-below-yes _ _ b)
+
+pairs-right-yes : (A : Arena) (p n : ℕ) → p + n * 2 ≤ length (A .references) → Below (length (A .nodes)) (range (A .references) p (n * 2))
+    → ((k c : ℕ) → At (firsts (range (A .references) p (n * 2))) k c → Name A c) → pairs-right A p n ≡ true
+unfolding pairs-right
+pairs-right-yes A p n h b m = yes-and _ _ (list-right-yes A p (n * 2) h b) (all-names-yes A _ m)
+
+vars-right-yes : (A : Arena) (v : Vars) → vars-start v + vars-length v ≤ length (A .references) → Below (length (A .nodes)) (vars-links A v)
+    → ((k c : ℕ) → At (firsts (vars-links A v)) k c → Name A c) → vars-right A v ≡ true
+unfolding vars-right vars-links vars-start vars-length
+vars-right-yes A absent h b m = refl
+vars-right-yes A (present p n) h b m = pairs-right-yes A p n h b m
+
+default-most : (A : Arena) (d : ℕ) → Below (length (A .nodes)) (default-link d) → d ≤ length (A .nodes)
+unfolding default-link
+default-most A zero b = omega arith
+default-most A (suc d) b = b 0 d refl
+
+above-left : (n : ℕ) (l m : List ℕ) → Below n (l ++ m) → Below n m
+above-left n [] m b k v e = b k v e
+above-left n (x ∷ l) m b k v e = above-left n l m (λ j w a. b (suc j) w a) k v e
+
+-- a hash's default
+default-below : (A : Arena) (p n d : ℕ) → RightIn A (hash p n d) → d ≤ length (A .nodes)
+unfolding links
+default-below A p n d f = default-most A d (above-left _ (range (A .references) p (n * 2)) (default-link d) (f .below))
+
+pub right-yes : (A : Arena) (r : Row) → RightIn A r → row-right A r ≡ true
+unfolding row-right bytes-right links row-names bytes-start bytes-length list-start list-length
+right-yes A nil f = refl
+right-yes A (bool b) f = refl
+right-yes A (fixnum w) f = refl
+right-yes A (symbol s l) f = le-leb _ _ (f .inside .bytes-inside)
+right-yes A (array s n) f = list-right-yes A s n (f .inside .list-inside) (f .below)
+right-yes A (hash s n d) f =
+    yes-and _ _ (list-right-yes A s (n * 2) (f .inside .list-inside) (below-left _ (range (A .references) s (n * 2)) (default-link d) (f .below))) (le-leb _ _ (default-below A s n d f))
+right-yes A (object s n c) f =
+    yes-and _ _ (is-name-yes A c (f .names 0 c refl)) (pairs-right-yes A s n (f .inside .list-inside) (λ k v e. f .below (suc k) v e) (λ k v e. f .names (suc k) v e))
+right-yes A (string s l v) f = yes-and _ _ (le-leb _ _ (f .inside .bytes-inside)) (vars-right-yes A v (f .inside .list-inside) (f .below) (f .names))
+right-yes A (user s l c v) f =
+    yes-and _ _ (yes-and _ _ (le-leb _ _ (f .inside .bytes-inside)) (is-name-yes A c (f .names 0 c refl)))
+    (vars-right-yes A v (f .inside .list-inside) (λ k w e. f .below (suc k) w e) (λ k w e. f .names (suc k) w e))
