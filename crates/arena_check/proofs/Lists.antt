@@ -13,8 +13,6 @@ use Rattle.definition.specs.Run.{pick}
 use Rattle.definition.specs.Node.{Row, nil, kind, row, row-of, rows, width}
 use Rattle.definition.specs.Arena.{Arena, node, range, firsts, all-below, all-names, is-name}
 use Rattle.lists.specs.Ranges.{range-step, range-end}
--- for the crates above
-pub use Rattle.lists.specs.Tables.{rows-at}
 use Rattle.lists.specs.Tables.{length-rows, rows-at}
 
 -- ---- members below a count

@@ -1,5 +1,5 @@
 -- The whole call: 1 and 2 first, what is held at the start, and what stands at the end.
-use Prim.Native.Nat.{ℕ, zero, suc, _+_, _*_, _<_}
+use Prim.Native.Nat.{ℕ, zero, suc, _+_, _-_, _*_, _<_}
 use native.Mathlib.Omega.{arith}
 use native.Mathlib.Nat.{sub-zero}
 use mathlib.Core.Option.{Option, none}
@@ -7,7 +7,7 @@ use mathlib.Core.Path.{_≡_, refl, sym, ap, _∙_}
 use mathlib.Core.List.{List, [], _∷_}
 use lib.ListN.{length, getD, take, drop, replicate, length-replicate}
 use lib.Seq.{getD-take, getD-drop}
-use Rattle.definition.specs.Run.{pure, refuse, next, _>>=_}
+use Rattle.definition.specs.Run.{refused, pure, refuse, next, _>>=_}
 use Rattle.definition.specs.Node.{row, row-of}
 use Rattle.definition.specs.Arena.{Tables, Arena, arena, node, allowed, sound, fault, padded, zeroed}
 use Rattle.definition.specs.Dump.{Written, Writer, _>>_, write, write-value, number-in, dump-wrong, dump-call, dump-call-of, dump-checked, dump-done}
@@ -16,16 +16,15 @@ use Rattle.definition.specs.declared.Answer.the-variants.{Accepted, Refused as 
 use Rattle.definition.specs.declared.Counts.{Counts}
 use Rattle.definition.specs.declared.Fault.{Fault}
 use Rattle.definition.specs.declared.Refusal.{Refusal}
-use Rattle.definition.specs.declared.Refusal.the-variants.{BadTables, BadArena}
+use Rattle.definition.specs.declared.Refusal.the-variants.{BadTables, BadArena, TooDeep, NoSpace}
 use Rattle.arena_check.specs.Held.{checked}
 use Rattle.arena_check.specs.declared.Checked.{Checked}
 use Rattle.arena_check.specs.declared.Checked.the-variants.{Right, Wrong}
-use Rattle.arena_check.proofs.Lists.{rows-at}
+use Rattle.lists.specs.Tables.{rows-at}
 use Rattle.dump_forest.specs.Right.{Fit, fault-fit, fault-right}
-use Rattle.dumper.specs.Held.{Buffers, buffers, word, marked, marks, Lent, Listed, Holds, Ready, Meets, Allowed}
-use Rattle.dumper.specs.Laws.{assoc, write-join, bind, stop, ends, meets-as}
-use Rattle.dumper.specs.declared.Write.{Write}
-use Rattle.dumper.specs.declared.Write.the-variants.{Done, Refused}
+use Rattle.dumper.specs.Held.{Buffers, buffers, word, marked, marks, Lent, Listed, Holds, Ready, stopped, Meets, Allowed}
+use Rattle.dumper.specs.Laws.{assoc, write-join, lead-as, lead-after, lead-first, lead-goes, lead-stop}
+use Rattle.dump.specs.Whole.{whole}
 
 -- ---- 1 and 2
 
@@ -135,36 +134,54 @@ rooted nodes re by k e = e
 
 -- ---- the header, the root, and the end
 
-abbrev pub whole : ℕ → Arena → ℕ → Writer
-whole room A limit = write room (4 ∷ 8 ∷ []) >> write-value room A limit limit (A .root)
-
 header-then : (room : ℕ) (rest : Writer) → write room (4 ∷ 8 ∷ []) >> rest ≡ write room (4 ∷ []) >> (write room (8 ∷ []) >> rest)
 header-then room rest = ap (λ (w : Writer). w >> rest) (write-join room (4 ∷ []) (8 ∷ [])) ∙ assoc (write room (4 ∷ [])) (write room (8 ∷ [])) rest
 
-module _ {A : Arena} {room : ℕ} {B B₁ : Buffers} {c c₁ : List ℕ} {r₁ : Write} (limit : ℕ) (m₁ : Meets A room (write room (4 ∷ [])) B c r₁ B₁ c₁) where
-  pub no-first : {q : Refusal} → r₁ ≡ Refused q → Meets A room (whole room A limit) B c (Refused q) B₁ c₁
-  no-first e = meets-as (header-then room (write-value room A limit limit (A .root))) (stop _ e m₁)
+module _ {A : Arena} {room limit : ℕ} {B B₁ : Buffers} {c c₁ : List ℕ} {r₁ : ℕ} (m₁ : Meets A room limit (write room (4 ∷ [])) B c r₁ B₁ c₁) where
+  pub no-first : (r₁ ≡ 0 → ⊥) → Meets A room limit (whole room A limit) B c r₁ B₁ c₁
+  no-first e = lead-as (header-then room (write-value room A limit limit (A .root))) (lead-stop e (lead-first _ m₁))
 
-  module _ {B₂ : Buffers} {c₂ : List ℕ} {r₂ : Write} (e₁ : r₁ ≡ Done) (m₂ : Meets A room (write room (8 ∷ [])) B₁ c₁ r₂ B₂ c₂) where
-    pub no-second : {q : Refusal} → r₂ ≡ Refused q → Meets A room (whole room A limit) B c (Refused q) B₂ c₂
-    no-second e = meets-as (header-then room (write-value room A limit limit (A .root))) (ends (bind _ e₁ m₁) (stop _ e m₂))
+  module _ {B₂ : Buffers} {c₂ : List ℕ} {r₂ : ℕ} (e₁ : r₁ ≡ 0) (m₂ : Meets A room limit (write room (8 ∷ [])) B₁ c₁ r₂ B₂ c₂) where
+    pub no-second : (r₂ ≡ 0 → ⊥) → Meets A room limit (whole room A limit) B c r₂ B₂ c₂
+    no-second e = lead-as (header-then room (write-value room A limit limit (A .root))) (lead-after (lead-goes e₁ (lead-first _ m₁)) (lead-stop e (lead-first _ m₂)))
 
-    pub wholly : {B₃ : Buffers} {c₃ : List ℕ} {r₃ : Write} {x : ℕ} → r₂ ≡ Done → x ≡ A .root → Meets A room (write-value room A limit limit x) B₂ c₂ r₃ B₃ c₃ → Meets A room (whole room A limit) B c r₃ B₃ c₃
-    wholly {x = x} e₂ q m₃ = meets-as (header-then room (write-value room A limit limit (A .root))) (ends (bind _ e₁ m₁) (ends (bind _ e₂ m₂) (meets-as (ap (write-value room A limit limit) (sym q)) m₃)))
+    pub wholly : {B₃ : Buffers} {c₃ : List ℕ} {r₃ : ℕ} {x : ℕ} → r₂ ≡ 0 → x ≡ A .root → Meets A room limit (write-value room A limit limit x) B₂ c₂ r₃ B₃ c₃ → Meets A room limit (whole room A limit) B c r₃ B₃ c₃
+    wholly {x = x} e₂ q m₃ = lead-as (header-then room (write-value room A limit limit (A .root))) (lead-after (lead-goes e₁ (lead-first _ m₁)) (lead-after (lead-goes e₂ (lead-first _ m₂)) (lead-as (ap (write-value room A limit limit) (sym q)) m₃)))
+
+-- an answer that isn't 0 is a refusal's
+pub refused-answer : {A : Arena} {room limit : ℕ} {m : Writer} {B B' : Buffers} {c c' : List ℕ} {r : ℕ} → (r ≡ 0 → ⊥) → Meets A room limit m B c r B' c' → 1 < r
+refused-answer {r = zero} e k = absurd (e refl)
+refused-answer {r = suc zero} e k = absurd (k .leads)
+refused-answer {r = suc (suc q)} e k = omega arith
+
+pub full-stop : (limit w : ℕ) → w ≡ 2 → NoSpace 6 ≡ stopped limit (w - 2)
+unfolding stopped
+full-stop limit w e = rw e refl
+
+pub deep-stop : (limit w : ℕ) → 1 < w → (w ≡ 2 → ⊥) → TooDeep limit ≡ stopped limit (w - 2)
+unfolding stopped
+deep-stop limit w h e =
+    let z : w - 2 ≡ suc (w - 3) = omega arith in
+    rw z refl
 
 module _ (T : Tables) (k : Counts) (sc out : List ℕ) (limit w : ℕ) (e : w ≡ dump-wrong T sc out limit) (z : w ≡ 0) (f : fault T k ≡ none) {B : Buffers} {c : List ℕ} (H : Holds (arena T k) (length out) start B c) where
-  pub accepted : {sc' out' c' scz : List ℕ} → Meets (arena T k) (length out) (whole (length out) (arena T k) limit) B c Done (buffers sc' out') c' → scz ≡ replicate (length sc') 0 → length sc' ≡ length sc → dump-call-of Accepted (getD c' 0 0) scz out' ≡ dump-call T k sc out limit
+  refuses : {B' : Buffers} {c' : List ℕ} {r : ℕ} → (r ≡ 0 → ⊥) → Meets (arena T k) (length out) limit (whole (length out) (arena T k) limit) B c r B' c' → whole (length out) (arena T k) limit start ≡ refused (stopped limit (r - 2))
+  refuses {r = zero} e m = absurd (e refl)
+  refuses {r = suc zero} e m = absurd (m .leads)
+  refuses {r = suc (suc q)} e m = m .leads start H ∙ ap (λ (x : ℕ). refused (stopped limit x)) (omega arith)
+
+  pub accepted : {sc' out' c' scz : List ℕ} {r : ℕ} → r ≡ 0 → Meets (arena T k) (length out) limit (whole (length out) (arena T k) limit) B c r (buffers sc' out') c' → scz ≡ replicate (length sc') 0 → length sc' ≡ length sc → dump-call-of Accepted (getD c' 0 0) scz out' ≡ dump-call T k sc out limit
   unfolding dump-done pure D.dump padded zeroed
-  accepted {scz = scz} m p l =
-      let g = m .meets .goes start H in
+  accepted {scz = scz} z₀ m p l =
+      let g = lead-goes z₀ m .goes start H in
       let q : scz ≡ replicate (length sc) 0 = p ∙ ap (λ (n : ℕ). replicate n 0) l in
       (λ i. dump-call-of Accepted (g .holds .count-written i) (q i) (g .holds .same i))
       ∙ sym (ap (dump-done sc out) (g .same))
       ∙ right-call T k sc out limit w e z f
 
-  pub turned-down : {B' : Buffers} {c' : List ℕ} {scz outz : List ℕ} {q : Refusal} {n m : ℕ} → Meets (arena T k) (length out) (whole (length out) (arena T k) limit) B c (Refused q) B' c' → scz ≡ replicate n 0 → n ≡ length sc → outz ≡ replicate m 0 → m ≡ length out → dump-call-of (Turned-down q) 0 scz outz ≡ dump-call T k sc out limit
+  pub turned-down : {B' : Buffers} {c' : List ℕ} {scz outz : List ℕ} {q : Refusal} {n m r : ℕ} → (r ≡ 0 → ⊥) → Meets (arena T k) (length out) limit (whole (length out) (arena T k) limit) B c r B' c' → q ≡ stopped limit (r - 2) → scz ≡ replicate n 0 → n ≡ length sc → outz ≡ replicate m 0 → m ≡ length out → dump-call-of (Turned-down q) 0 scz outz ≡ dump-call T k sc out limit
   unfolding dump-done D.dump zeroed
-  turned-down {q = q} M p l p' l' =
+  turned-down {q = q} {r = r} z₀ M e₀ p l p' l' =
       (λ i. dump-call-of (Turned-down q) 0 ((p ∙ ap (λ (n : ℕ). replicate n 0) l) i) ((p' ∙ ap (λ (n : ℕ). replicate n 0) l') i))
-      ∙ sym (ap (dump-done sc out) (M .meets start H))
+      ∙ sym (ap (dump-done sc out) (refuses z₀ M ∙ ap refused (sym e₀)))
       ∙ right-call T k sc out limit w e z f

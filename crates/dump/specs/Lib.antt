@@ -1,1 +1,2 @@
--- What the cycle's contracts say.
+-- What the root's writer has to meet.
+pub mod Whole

@@ -6,25 +6,29 @@ use definition::Answer;
 use definition::Counts;
 use definition::Dumped;
 use definition::Refusal;
-use dumper::Head;
+use dumper::DEEP;
+use dumper::DONE;
+use dumper::FULL;
+use dumper::WHOLE;
 use dumper::WRITTEN;
-use dumper::Write;
+use dumper::list_words;
+use dumper::open_value;
 use dumper::write_byte;
-use dumper::write_fixnum;
-use dumper::write_head;
-use dumper::write_symbol;
+use dumper::write_shorts;
 use dumper::wrong_slice;
 use store::zero_bytes;
 use store::zero_words;
 ghost use mathlib.Core.Path.{_≡_};
-ghost use Prim.Native.Nat.{ℕ, _+_, _*_, _<_};
+ghost use Prim.Native.Nat.{ℕ, _-_, _<_};
 ghost use lib.ListN.{length};
 ghost use Rattle.definition.specs.Arena.{Arena, range};
-ghost use Rattle.definition.specs.Dump.{write-elements, write-instance-variables, write-value, dump-call, dump-call-of};
-ghost use Rattle.dump_forest.specs.Right.{ListIn, PairsIn};
-ghost use Rattle.dumper.specs.Held.{buffers, Lent, Listed, Ready, Meets};
+ghost use Rattle.definition.specs.Dump.{write-elements, write-value, dump-call, dump-call-of};
+ghost use Rattle.dump_forest.specs.Right.{ListIn};
+ghost use Rattle.dumper.specs.Held.{buffers, Lent, Listed, Ready, Meets, stopped};
+ghost use Rattle.dump.specs.Whole.{whole};
 
-// The n values from reference `start` on.
+// The n values from reference `start` on. Integers and links to symbols are most of a recipe: they are written first, in a loop of
+// their own.
 fn write_elements(
     nodes: &[u32],
     references: &[u32],
@@ -34,93 +38,49 @@ fn write_elements(
     c: &mut [usize; 3],
     start: usize,
     n: usize,
-    limit: u32,
     levels: u32,
-) -> Write
+) -> u32
     requires { ⌜ Ready (λ A. Lent A (now nodes) (now bytes) × Listed A (now references) × ListIn A start n) (buffers (now scratch) (now output)) (now c) ⌝ }
-    ensures { λ r. ⌜ ((A : Arena) (room : ℕ) → Lent A (now (nodes .entry)) (now (bytes .entry)) → Listed A (now (references .entry)) → ListIn A start n → Meets A room (write-elements (write-value room A limit levels) (range (A .references) start n)) (buffers (now (scratch .entry)) (now (output .entry))) (now (c .entry)) r (buffers (now (scratch .exit)) (now (output .exit))) (now (c .exit))) ⌝ }
+    ensures { λ r. ⌜ ((A : Arena) (room limit : ℕ) → Lent A (now (nodes .entry)) (now (bytes .entry)) → Listed A (now (references .entry)) → ListIn A start n → Meets A room limit (write-elements (write-value room A limit levels) (range (A .references) start n)) (buffers (now (scratch .entry)) (now (output .entry))) (now (c .entry)) r (buffers (now (scratch .exit)) (now (output .exit))) (now (c .exit))) ⌝ }
 {
     let mut i = 0;
     while i < n {
-        match write_value(
+        if levels == 0 {
+            return DEEP;
+        }
+        let j = i
+            + write_shorts(
+                &nodes[..],
+                &references[..],
+                &scratch[..],
+                output,
+                c,
+                start + i,
+                n - i,
+            );
+        if n <= j {
+            return DONE;
+        }
+        let w = write_value(
             &nodes[..],
             &references[..],
             &bytes[..],
             scratch,
             output,
             c,
-            size(references[start + i]),
-            limit,
+            size(references[start + j]),
             levels,
-        ) {
-            Write::Done => {}
-            Write::Refused(r) => {
-                return Write::Refused(r);
-            }
+        );
+        if w != DONE {
+            return w;
         }
-        i = i + 1;
+        i = j + 1;
     }
-    Write::Done
+    DONE
 }
 
-// The number of pairs, then the n pairs of a name and a value from reference `start` on.
-fn write_instance_variables(
-    nodes: &[u32],
-    references: &[u32],
-    bytes: &[u8],
-    scratch: &mut [u32],
-    output: &mut [u8],
-    c: &mut [usize; 3],
-    start: usize,
-    n: u32,
-    limit: u32,
-    levels: u32,
-) -> Write
-    requires { ⌜ Ready (λ A. Lent A (now nodes) (now bytes) × Listed A (now references) × PairsIn A start n) (buffers (now scratch) (now output)) (now c) ⌝ }
-    ensures { λ r. ⌜ ((A : Arena) (room : ℕ) → Lent A (now (nodes .entry)) (now (bytes .entry)) → Listed A (now (references .entry)) → PairsIn A start n → Meets A room (write-instance-variables room A (write-value room A limit levels) start n) (buffers (now (scratch .entry)) (now (output .entry))) (now (c .entry)) r (buffers (now (scratch .exit)) (now (output .exit))) (now (c .exit))) ⌝ }
-{
-    match write_fixnum(output, c, n) {
-        Write::Done => {
-            let pairs = size(n);
-            let mut i = 0;
-            while i < pairs {
-                match write_symbol(
-                    &nodes[..],
-                    &bytes[..],
-                    scratch,
-                    output,
-                    c,
-                    size(references[start + i * 2]),
-                ) {
-                    Write::Done => match write_value(
-                        &nodes[..],
-                        &references[..],
-                        &bytes[..],
-                        scratch,
-                        output,
-                        c,
-                        size(references[start + i * 2 + 1]),
-                        limit,
-                        levels,
-                    ) {
-                        Write::Done => {}
-                        Write::Refused(r) => {
-                            return Write::Refused(r);
-                        }
-                    },
-                    Write::Refused(r) => {
-                        return Write::Refused(r);
-                    }
-                }
-                i = i + 1;
-            }
-            Write::Done
-        }
-        Write::Refused(r) => Write::Refused(r),
-    }
-}
-
-// The value of node v, with so many levels left.
+// The value of node v, with so many levels left. The members of every kind are written by one call, so that a level of nesting
+// is one call deep.
 fn write_value(
     nodes: &[u32],
     references: &[u32],
@@ -129,76 +89,107 @@ fn write_value(
     output: &mut [u8],
     c: &mut [usize; 3],
     v: usize,
-    limit: u32,
     levels: u32,
-) -> Write
+) -> u32
     requires { ⌜ Ready (λ A. Lent A (now nodes) (now bytes) × Listed A (now references) × (v < length (A .nodes))) (buffers (now scratch) (now output)) (now c) ⌝ }
-    ensures { λ r. ⌜ ((A : Arena) (room : ℕ) → Lent A (now (nodes .entry)) (now (bytes .entry)) → Listed A (now (references .entry)) → v < length (A .nodes) → Meets A room (write-value room A limit levels v) (buffers (now (scratch .entry)) (now (output .entry))) (now (c .entry)) r (buffers (now (scratch .exit)) (now (output .exit))) (now (c .exit))) ⌝ }
+    ensures { λ r. ⌜ ((A : Arena) (room limit : ℕ) → Lent A (now (nodes .entry)) (now (bytes .entry)) → Listed A (now (references .entry)) → v < length (A .nodes) → Meets A room limit (write-value room A limit levels v) (buffers (now (scratch .entry)) (now (output .entry))) (now (c .entry)) r (buffers (now (scratch .exit)) (now (output .exit))) (now (c .exit))) ⌝ }
 {
     if levels == 0 {
-        return Write::Refused(Refusal::TooDeep(limit));
+        return DEEP;
     }
-    match write_head(
+    let w = open_value(
         &nodes[..],
+        &references[..],
         &bytes[..],
         scratch,
         output,
         c,
         v,
-        limit,
         levels - 1,
-    ) {
-        Head::Whole => Write::Done,
-        Head::Elements(start, n, d) => match write_elements(
-            &nodes[..],
-            &references[..],
-            &bytes[..],
-            scratch,
-            output,
-            c,
-            start,
-            n,
-            limit,
-            levels - 1,
-        ) {
-            Write::Done => {
-                if d == 0 {
-                    return Write::Done;
-                }
-                match write_value(
-                    &nodes[..],
-                    &references[..],
-                    &bytes[..],
-                    scratch,
-                    output,
-                    c,
-                    size(d) - 1,
-                    limit,
-                    levels - 1,
-                ) {
-                    Write::Done => Write::Done,
-                    Write::Refused(r) => Write::Refused(r),
-                }
-            }
-            Write::Refused(r) => Write::Refused(r),
-        },
-        Head::Variables(start, n) => match write_instance_variables(
-            &nodes[..],
-            &references[..],
-            &bytes[..],
-            scratch,
-            output,
-            c,
-            start,
-            n,
-            limit,
-            levels - 1,
-        ) {
-            Write::Done => Write::Done,
-            Write::Refused(r) => Write::Refused(r),
-        },
-        Head::Unwritten(r) => Write::Refused(r),
+    );
+    if w == WHOLE {
+        return DONE;
     }
+    if w != DONE {
+        return w;
+    }
+    let k = nodes[v * 7];
+    let x = write_elements(
+        &nodes[..],
+        &references[..],
+        &bytes[..],
+        scratch,
+        output,
+        c,
+        size(nodes[v * 7 + 3]),
+        list_words(k, nodes[v * 7 + 4]),
+        levels - 1,
+    );
+    if x != DONE {
+        return x;
+    }
+    if k != 5 {
+        return DONE;
+    }
+    let d = nodes[v * 7 + 6];
+    if d == 0 {
+        return DONE;
+    }
+    write_value(
+        &nodes[..],
+        &references[..],
+        &bytes[..],
+        scratch,
+        output,
+        c,
+        size(d) - 1,
+        levels - 1,
+    )
+}
+
+// 04 08, then the root.
+fn write_root(
+    nodes: &[u32],
+    references: &[u32],
+    bytes: &[u8],
+    scratch: &mut [u32],
+    output: &mut [u8],
+    c: &mut [usize; 3],
+    root: usize,
+    limit: u32,
+) -> u32
+    requires { ⌜ Ready (λ A. Lent A (now nodes) (now bytes) × Listed A (now references) × (root < length (A .nodes))) (buffers (now scratch) (now output)) (now c) ⌝ }
+    ensures { λ r. ⌜ ((A : Arena) (room : ℕ) → Lent A (now (nodes .entry)) (now (bytes .entry)) → Listed A (now (references .entry)) → root < length (A .nodes) → root ≡ A .root → Meets A room limit (whole room A limit) (buffers (now (scratch .entry)) (now (output .entry))) (now (c .entry)) r (buffers (now (scratch .exit)) (now (output .exit))) (now (c .exit))) ⌝ }
+{
+    let a = write_byte(output, c, 4);
+    if a != DONE {
+        return a;
+    }
+    let b = write_byte(output, c, 8);
+    if b != DONE {
+        return b;
+    }
+    write_value(
+        &nodes[..],
+        &references[..],
+        &bytes[..],
+        scratch,
+        output,
+        c,
+        root,
+        limit,
+    )
+}
+
+// The refusal that the writers' answer w says.
+fn refusal(w: u32, limit: u32) -> Refusal
+    requires { ⌜ 1 < w ⌝ }
+    ensures { λ r. ⌜ r ≡ stopped limit (w - 2) ⌝ }
+{
+    if w == FULL {
+        return Refusal::NoSpace(6);
+    }
+    Refusal::TooDeep(limit)
 }
 
 // Dumps the arena into output; numbers by node stand in scratch meanwhile.
@@ -237,50 +228,27 @@ pub fn dump(
             zero_words(scratch);
             zero_bytes(output);
             let mut c = [0usize; 3];
-            match write_byte(output, &mut c, 4) {
-                Write::Done => match write_byte(output, &mut c, 8) {
-                    Write::Done => match write_value(
-                        &nodes[..],
-                        &references[..],
-                        &bytes[..],
-                        scratch,
-                        output,
-                        &mut c,
-                        root,
-                        limit,
-                        limit,
-                    ) {
-                        Write::Done => {
-                            zero_words(scratch);
-                            Dumped {
-                                answer: Answer::Accepted,
-                                written: c[WRITTEN],
-                            }
-                        }
-                        Write::Refused(r) => {
-                            zero_words(scratch);
-                            zero_bytes(output);
-                            Dumped {
-                                answer: Answer::Refused(r),
-                                written: 0,
-                            }
-                        }
-                    },
-                    Write::Refused(r) => {
-                        zero_bytes(output);
-                        Dumped {
-                            answer: Answer::Refused(r),
-                            written: 0,
-                        }
-                    }
-                },
-                Write::Refused(r) => {
-                    zero_bytes(output);
-                    Dumped {
-                        answer: Answer::Refused(r),
-                        written: 0,
-                    }
-                }
+            let w = write_root(
+                &nodes[..],
+                &references[..],
+                &bytes[..],
+                scratch,
+                output,
+                &mut c,
+                root,
+                limit,
+            );
+            zero_words(scratch);
+            if w == DONE {
+                return Dumped {
+                    answer: Answer::Accepted,
+                    written: c[WRITTEN],
+                };
+            }
+            zero_bytes(output);
+            Dumped {
+                answer: Answer::Refused(refusal(w, limit)),
+                written: 0,
             }
         }
     }

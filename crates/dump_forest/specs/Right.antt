@@ -17,10 +17,7 @@ use Rattle.definition.specs.Graph.{links, vars-links, default-link}
 use Rattle.definition.specs.declared.Counts.{Counts}
 use Rattle.lists.specs.Lists.{At, at-lt, apart, Below, below-join, below-first, getD-at}
 use Rattle.lists.specs.Tables.{length-rows, rows-at, faulty-words, no-fault}
-use Rattle.graph.specs.View.{at-node}
--- for the crates above
-pub use Rattle.lists.specs.Ranges.{length-range}
-pub use Rattle.graph.specs.View.{at-node, node-at, Name}
+use Rattle.graph.specs.View.{at-node, Name}
 use Rattle.definition.specs.Build.{words-at}
 
 -- ---- tests that hold

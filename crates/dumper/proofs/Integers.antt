@@ -3,18 +3,15 @@ use Prim.Native.Nat.{ℕ, zero, suc, _+_, _-_, _/_, _%_, _≤_, _<_}
 use native.Mathlib.Omega.{arith}
 use native.Mathlib.Numerals.{add-one}
 use native.Mathlib.Nat.{add-zero, sub-zero}
-use mathlib.Core.Path.{_≡_, refl, sym, ap, _∙_, subst}
+use mathlib.Core.Bool.{Bool, true, false}
+use mathlib.Core.Path.{_≡_, refl, sym, ap, _∙_}
 use mathlib.Core.List.{List, [], _∷_}
 use lib.Count.{leading-top}
-use lib.ListN.{length, set, getD}
+use lib.Dec.{leb, ltb}
+use lib.ListN.{length, set}
 use lib.Seq.{sets}
-use borrow.Author.Tests.{lt-ltb, le-ltb, le-leb, lt-leb, eq-eqb, ne-eqb}
+use borrow.Author.Tests.{lt-ltb, le-ltb, le-leb, lt-leb, eq-eqb, ne-eqb, leb-true, leb-false, ltb-true, ltb-false}
 use Rattle.definition.specs.Run.{pick}
-use Rattle.definition.specs.Arena.{Arena}
-use Rattle.definition.specs.Dump.{write}
-use Rattle.dumper.specs.Held.{buffers, Meets}
-use Rattle.dumper.specs.declared.Write.the-variants.{Done}
-use Rattle.dumper.proofs.Steps.{chunk}
 use Rattle.definition.specs.Integer.{integer-bytes, low-bytes, fewest}
 
 -- ---- storing the low bytes
@@ -82,14 +79,41 @@ large-as w k n h l e f = bytes-large w h l ∙ λ i. sym e i ∷ low-bytes (sym 
 pub negative-as : (w k n : ℕ) → 2147483648 ≤ w → w < 4294967173 → k ≡ fewest (4294967295 - w) → n ≡ k → integer-bytes w ≡ (256 - k) ∷ low-bytes n w
 negative-as w k n h l e f = bytes-negative w h l ∙ λ i. (256 - sym e i) ∷ low-bytes (sym (f ∙ e) i) w
 
-pub length-data : (k n v : ℕ) → length (k ∷ low-bytes n v) ≡ 1 + n
-length-data k n v = omega (arith, length-low n v)
+-- ---- how many bytes
 
--- a size byte and data bytes as they are stored
-pub data-stored : {A : Arena} {room : ℕ} {sc out out' c : List ℕ} (k n v : ℕ) → getD c 0 0 + 1 + n ≤ length out → out' ≡ sets (set out (getD c 0 0) k) (getD c 0 0 + 1) (low-bytes n v) → Meets A room (write room (k ∷ low-bytes n v)) (buffers sc out) c Done (buffers sc out') (set c 0 (getD c 0 0 + 1 + n))
-data-stored {A} {room} {sc} {out} {out'} {c} k n v h e =
-    let p : out' ≡ sets out (getD c 0 0) (k ∷ low-bytes n v) = e ∙ ap (λ (i : ℕ). sets (set out (getD c 0 0) k) i (low-bytes n v)) (add-one (getD c 0 0)) in
-    let q : getD c 0 0 + (1 + n) ≡ getD c 0 0 + 1 + n = omega arith in
-    subst (λ (o : List ℕ). Meets A room (write room (k ∷ low-bytes n v)) (buffers sc out) c Done (buffers sc o) (set c 0 (getD c 0 0 + 1 + n))) (sym p)
-    (subst (λ (x : ℕ). Meets A room (write room (k ∷ low-bytes n v)) (buffers sc out) c Done (buffers sc (sets out (getD c 0 0) (k ∷ low-bytes n v))) (set c 0 x)) q
-    (chunk (k ∷ low-bytes n v) (1 + n) (length-data k n v) (omega arith)))
+pub size-small : (w : ℕ) → w ≤ 122 → 1 ≡ length (integer-bytes w)
+size-small zero h = sym (ap length (bytes-zero 0 refl))
+size-small (suc w) h = sym (ap length (bytes-small (suc w) (omega arith) h))
+
+pub size-last : (w : ℕ) → 4294967173 ≤ w → 1 ≡ length (integer-bytes w)
+size-last w h = sym (ap length (bytes-last w h))
+
+pub size-large : (w k n : ℕ) → 122 < w → w < 2147483648 → k ≡ fewest w → n ≡ k → n + 1 ≡ length (integer-bytes w)
+size-large w k n h l e f = sym (ap length (large-as w k n h l e f) ∙ omega (arith, length-low n w))
+
+pub size-negative : (w k n : ℕ) → 2147483648 ≤ w → w < 4294967173 → k ≡ fewest (4294967295 - w) → n ≡ k → n + 1 ≡ length (integer-bytes w)
+size-negative w k n h l e f = sym (ap length (negative-as w k n h l e f) ∙ omega (arith, length-low n w))
+
+-- an integer takes five bytes at most
+pub size-most : (w : ℕ) → length (integer-bytes w) ≤ 5
+size-most w = small (leb w 122) refl
+  where
+    last : (b : Bool) → ltb w 4294967173 ≡ b → 2147483648 ≤ w → length (integer-bytes w) ≤ 5
+    last true e h = omega (arith, size-negative w _ _ h (ltb-true w 4294967173 e) refl refl, fewest-most (4294967295 - w))
+    last false e h = omega (arith, size-last w (ltb-false w 4294967173 e))
+
+    large : (b : Bool) → ltb w 2147483648 ≡ b → 122 < w → length (integer-bytes w) ≤ 5
+    large true e h = omega (arith, size-large w _ _ h (ltb-true w 2147483648 e) refl refl, fewest-most w)
+    large false e h = last (ltb w 4294967173) refl (ltb-false w 2147483648 e)
+
+    small : (b : Bool) → leb w 122 ≡ b → length (integer-bytes w) ≤ 5
+    small true e = omega (arith, size-small w (leb-true w 122 e))
+    small false e = large (ltb w 2147483648) refl (leb-false w 122 e)
+
+-- a byte stored, and others after it
+pub stored-after : (out : List ℕ) {out' : List ℕ} (at k : ℕ) (bs : List ℕ) → out' ≡ sets (set out at k) (at + 1) bs → out' ≡ sets out at (k ∷ bs)
+stored-after out at k bs e = e ∙ ap (λ (i : ℕ). sets (set out at k) i bs) (add-one at)
+
+-- one byte stored where that is the integer
+pub stored-as : {x : ℕ} {out' : List ℕ} (w : ℕ) (out : List ℕ) (at : ℕ) → integer-bytes w ≡ x ∷ [] → out' ≡ set out at x → (out' ≡ sets out at (integer-bytes w)) × (1 ≡ length (integer-bytes w))
+stored-as w out at e p = (p ∙ ap (sets out at) (sym e), sym (ap length e))

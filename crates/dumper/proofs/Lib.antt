@@ -5,4 +5,6 @@ pub mod Rows
 pub mod Names
 pub mod Openings
 pub mod Heads
+pub mod Members
+pub mod Shorts
 pub mod Slices

@@ -11,11 +11,11 @@ use Rattle.definition.specs.Kind.{SYMBOL, SYMBOL-LINK}
 use Rattle.definition.specs.Node.{Row, symbol, kind, row-of}
 use Rattle.definition.specs.Arena.{Arena, node, range, name-of}
 use Rattle.definition.specs.Dump.{_>>_, write, number-symbol, link-or, byte-string-bytes, write-symbol, write-name}
-use Rattle.definition.specs.declared.Refusal.the-variants.{NoSpace}
-use Rattle.dump_forest.specs.Right.{at-node, length-range, BytesIn, RowRight}
+use Rattle.lists.specs.Ranges.{length-range}
+use Rattle.graph.specs.View.{at-node}
+use Rattle.dump_forest.specs.Right.{BytesIn, RowRight}
 use Rattle.dumper.specs.Held.{Buffers, buffers, Lent, IsSymbol, Goes, Meets}
-use Rattle.dumper.specs.Laws.{then}
-use Rattle.dumper.specs.declared.Write.the-variants.{Done, Refused}
+use Rattle.dumper.specs.Laws.{then, went}
 use Rattle.dumper.proofs.Rows.{kind-is, row-3}
 use Rattle.dumper.proofs.Steps.{chunk, no-chunk, symbol-numbered, word-none, word-some}
 
@@ -40,16 +40,16 @@ string-bytes {A} {no} {by} s n L h =
 length-string : (by : List ℕ) (start n count : ℕ) → count ≡ n → start + n ≤ length by → length (take n (drop start by)) ≡ count
 length-string by start n count k inside = length-take-le n (drop start by) (simp length-drop (omega arith)) ∙ sym k
 
-module _ {A : Arena} {room : ℕ} {sc out c : List ℕ} (by : List ℕ) (start n count : ℕ) (k : count ≡ n) (inside : start + n ≤ length by) where
-  pub string-stored : {out' : List ℕ} {from : ℕ} → from ≡ start → count ≤ length out → getD c 0 0 ≤ length out - count → out' ≡ sets out (getD c 0 0) (take count (drop from by)) → Meets A room (write room (take n (drop start by))) (buffers sc out) c Done (buffers sc out') (set c 0 (getD c 0 0 + count))
+module _ {A : Arena} {room limit : ℕ} {sc out c : List ℕ} (by : List ℕ) (start n count : ℕ) (k : count ≡ n) (inside : start + n ≤ length by) where
+  pub string-stored : {out' : List ℕ} {from : ℕ} → from ≡ start → count ≤ length out → getD c 0 0 ≤ length out - count → out' ≡ sets out (getD c 0 0) (take count (drop from by)) → Meets A room limit (write room (take n (drop start by))) (buffers sc out) c 0 (buffers sc out') (set c 0 (getD c 0 0 + count))
   string-stored {out'} {from} f h l e =
       let p : out' ≡ sets out (getD c 0 0) (take n (drop start by)) = e ∙ λ i. sets out (getD c 0 0) (take (k i) (drop (f i) by)) in
-      subst (λ (o : List ℕ). Meets A room (write room (take n (drop start by))) (buffers sc out) c Done (buffers sc o) (set c 0 (getD c 0 0 + count))) (sym p) (chunk (take n (drop start by)) count (length-string by start n count k inside) (omega arith))
+      subst (λ (o : List ℕ). Meets A room limit (write room (take n (drop start by))) (buffers sc out) c 0 (buffers sc o) (set c 0 (getD c 0 0 + count))) (sym p) (went (chunk (take n (drop start by)) count (length-string by start n count k inside) (omega arith)))
 
-  pub string-long : {B' : Buffers} {c' : List ℕ} → length out < count → Meets A room (write room (take n (drop start by))) (buffers sc out) c (Refused (NoSpace 6)) B' c'
+  pub string-long : {B' : Buffers} {c' : List ℕ} → length out < count → Meets A room limit (write room (take n (drop start by))) (buffers sc out) c 2 B' c'
   string-long h = no-chunk (take n (drop start by)) count (length-string by start n count k inside) (omega arith)
 
-  pub string-full : {B' : Buffers} {c' : List ℕ} → count ≤ length out → length out - count < getD c 0 0 → Meets A room (write room (take n (drop start by))) (buffers sc out) c (Refused (NoSpace 6)) B' c'
+  pub string-full : {B' : Buffers} {c' : List ℕ} → count ≤ length out → length out - count < getD c 0 0 → Meets A room limit (write room (take n (drop start by))) (buffers sc out) c 2 B' c'
   string-full h l = no-chunk (take n (drop start by)) count (length-string by start n count k inside) (omega arith)
 
 -- ---- a symbol's row and its name
@@ -88,6 +88,6 @@ module _ {A : Arena} {no by : List ℕ} {v : ℕ} (L : Lent A no by) (S : IsSymb
       (record { goes = λ s H. record { state = s; holds = H; same = rw (word-none _ _ (H .symbol-words v (S .below) (S .kind-three)) e) (ap (λ (b : List ℕ). (number-symbol v >> write room (SYMBOL ∷ b)) s) name-bytes) } })
       (symbol-numbered v (write room (SYMBOL ∷ (integer-bytes count ++ take count (drop start by)))) (S .below) (S .kind-three) e)
 
-  pub name-linked : {room : ℕ} {sc out c : List ℕ} → (getD sc v 0 ≡ 0 → ⊥) → Goes A room (write-name room A v) (buffers sc out) c (write room (SYMBOL-LINK ∷ integer-bytes (getD sc v 0 - 1))) (buffers sc out) c
-  unfolding write-name write-symbol look link-or
-  name-linked n = record { goes = λ s H. record { state = s; holds = H; same = rw (word-some _ _ (H .symbol-words v (S .below) (S .kind-three)) n) refl } }
+pub name-linked : {A : Arena} {room v : ℕ} {sc out c : List ℕ} → IsSymbol A v → (getD sc v 0 ≡ 0 → ⊥) → Goes A room (write-name room A v) (buffers sc out) c (write room (SYMBOL-LINK ∷ integer-bytes (getD sc v 0 - 1))) (buffers sc out) c
+unfolding write-name write-symbol look link-or
+name-linked {v = v} S n = record { goes = λ s H. record { state = s; holds = H; same = rw (word-some _ _ (H .symbol-words v (S .below) (S .kind-three)) n) refl } }

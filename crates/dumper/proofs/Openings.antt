@@ -5,11 +5,10 @@ use mathlib.Core.Path.{_≡_, refl, sym, ap, _∙_}
 use mathlib.Core.List.{List, [], _∷_}
 use Rattle.definition.specs.Run.{refuse}
 use Rattle.definition.specs.Integer.{integer-bytes}
-use Rattle.definition.specs.Kind.{INSTANCE-VARIABLES, OBJECT, STRING, USER-DEFINED}
-use Rattle.definition.specs.Arena.{Arena}
-use Rattle.definition.specs.Dump.{Writer, _>>_, write, write-level, write-name, write-object-or-link}
+use Rattle.definition.specs.Kind.{INSTANCE-VARIABLES}
+use Rattle.definition.specs.Dump.{Writer, _>>_, write, write-level, write-object-or-link}
 use Rattle.definition.specs.declared.Refusal.the-variants.{TooDeep}
-use Rattle.dumper.specs.Held.{begun, opened, opened-name, user-defined}
+use Rattle.dumper.specs.Held.{begun, opened}
 use Rattle.dumper.specs.Laws.{assoc, unit-left, write-join}
 
 -- a byte and more bytes
@@ -18,9 +17,6 @@ byte-then room k bs rest = ap (λ (w : Writer). w >> rest) (write-join room (k �
 
 pub list-same : (room v k n : ℕ) (rest : Writer) → opened room v (k ∷ integer-bytes n) rest ≡ opened room v (k ∷ []) (write room (integer-bytes n) >> rest)
 list-same room v k n rest = ap (write-object-or-link room v) (byte-then room k (integer-bytes n) rest)
-
-pub name-same : (room : ℕ) (A : Arena) (v name : ℕ) (rest : Writer) → opened-name room A v name rest ≡ opened room v (OBJECT ∷ []) (write-name room A name >> rest)
-name-same room A v name rest = ap (write-object-or-link room v) (assoc (write room (OBJECT ∷ [])) (write-name room A name) rest)
 
 -- ---- `I` and the level
 
@@ -49,19 +45,8 @@ module _ (room v limit levels f : ℕ) (body : Writer) (rest : Writer) where
       mark n ∙ rw e (ap (λ (w : Writer). opened room v (INSTANCE-VARIABLES ∷ []) w) (unit-left (body >> rest)))
 
 -- the body in two parts
-begun-join : (room : ℕ) (level : Writer) (f : ℕ) (a b rest : Writer) → begun room level f (a >> b) rest ≡ begun room level f a (b >> rest)
+pub begun-join : (room : ℕ) (level : Writer) (f : ℕ) (a b rest : Writer) → begun room level f (a >> b) rest ≡ begun room level f a (b >> rest)
 unfolding begun
 begun-join room level zero a b rest = assoc a b rest
 begun-join room level (suc f) a b rest =
     ap (λ (w : Writer). w >> rest) (sym (assoc (write room (INSTANCE-VARIABLES ∷ []) >> level) a b)) ∙ assoc (write room (INSTANCE-VARIABLES ∷ []) >> level >> a) b rest
-
-module _ (room v limit levels f : ℕ) (bs : List ℕ) (rest : Writer) where
-  pub string-same : write-object-or-link room v (begun room (write-level limit levels) f (write room (STRING ∷ bs)) rest) ≡ write-object-or-link room v (begun room (write-level limit levels) f (write room (STRING ∷ [])) (write room bs >> rest))
-  string-same =
-      ap (λ (w : Writer). write-object-or-link room v (begun room (write-level limit levels) f w rest)) (write-join room (STRING ∷ []) bs)
-      ∙ ap (write-object-or-link room v) (begun-join room (write-level limit levels) f (write room (STRING ∷ [])) (write room bs) rest)
-
-  pub user-same : (A : Arena) (name : ℕ) → write-object-or-link room v (begun room (write-level limit levels) f (user-defined room A name bs) rest) ≡ write-object-or-link room v (begun room (write-level limit levels) f (write room (USER-DEFINED ∷ [])) (write-name room A name >> write room bs >> rest))
-  user-same A name =
-      ap (λ (w : Writer). write-object-or-link room v (begun room (write-level limit levels) f w rest)) (assoc (write room (USER-DEFINED ∷ [])) (write-name room A name) (write room bs))
-      ∙ ap (write-object-or-link room v) (begun-join room (write-level limit levels) f (write room (USER-DEFINED ∷ [])) (write-name room A name >> write room bs) rest)

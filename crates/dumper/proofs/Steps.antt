@@ -5,7 +5,7 @@ use native.Mathlib.Nat.{zero-sub, sub-zero}
 use native.Mathlib.Numerals.{add-one}
 use mathlib.Core.Bool.{Bool, true, false}
 use mathlib.Core.Option.{Option, none, some}
-use mathlib.Core.Path.{_≡_, refl, sym, ap, _∙_}
+use mathlib.Core.Path.{_≡_, refl, sym, ap, _∙_, subst}
 use mathlib.Core.List.{List, [], _∷_, _++_}
 use lib.Dec.{eqb}
 use lib.ListN.{length, getD, set, take, drop, replicate, length-append, length-set}
@@ -17,9 +17,7 @@ use Rattle.definition.specs.Kind.{OBJECT-LINK}
 use Rattle.definition.specs.Node.{kind}
 use Rattle.definition.specs.Arena.{Arena, node}
 use Rattle.definition.specs.Dump.{Written, Writer, _>>_, write, number-in, number-symbol, number-object, link-or, write-object-or-link}
-use Rattle.definition.specs.declared.Refusal.the-variants.{NoSpace}
-use Rattle.dumper.specs.Held.{Buffers, buffers, word, marked, marks, Holds, IsObject, Goes, Meets}
-use Rattle.dumper.specs.declared.Write.the-variants.{Done, Refused}
+use Rattle.dumper.specs.Held.{Buffers, buffers, word, marked, marks, Holds, IsObject, Goes, stopped, Meets}
 
 -- ---- numbers
 
@@ -96,40 +94,53 @@ pushed room l vs t e z h =
 
 module _ {A : Arena} {room : ℕ} {sc out : List ℕ} {c : List ℕ} where
   -- bytes where there is room
-  pub chunk : (bs : List ℕ) (n : ℕ) → length bs ≡ n → getD c 0 0 + n ≤ length out → Meets A room (write room bs) (buffers sc out) c Done (buffers sc (sets out (getD c 0 0) bs)) (set c 0 (getD c 0 0 + n))
+  pub chunk : (bs : List ℕ) (n : ℕ) → length bs ≡ n → getD c 0 0 + n ≤ length out → Goes A room (write room bs) (buffers sc out) c (pure tt) (buffers sc (sets out (getD c 0 0) bs)) (set c 0 (getD c 0 0 + n))
   unfolding write pick pure
   chunk bs n z h = record {
-    meets = record {
-      goes = λ s H.
-          let at : getD c 0 0 ≡ length (s .bytes) = H .count-written in
-          let le : length bs ≤ room - length (s .bytes) = omega (arith, H .sized) in
-          let len = length-append (s .bytes) bs in
-          record {
-            state = record { bytes = s .bytes ++ bs; symbols = s .symbols; objects = s .objects };
-            holds = record {
-              small = H .small;
-              counts = length-set c 0 _ ∙ H .counts;
-              sized = length-sets out (getD c 0 0) bs ∙ H .sized;
-              fits = omega (arith, len, H .fits);
-              same = ap (λ (k : ℕ). sets out k bs) at ∙ pushed room (s .bytes) bs out (H .same) (H .sized) (omega (arith, H .fits));
-              count-written = getD-set-same c 0 _ 0 (omega (arith, H .counts)) ∙ omega (arith, len);
-              count-symbols = getD-set-other c 0 1 _ 0 (omega arith) ∙ H .count-symbols;
-              count-objects = getD-set-other c 0 2 _ 0 (omega arith) ∙ H .count-objects;
-              scratch-small = H .scratch-small;
-              scratch-fits = H .scratch-fits;
-              numbered = H .numbered;
-              symbol-words = H .symbol-words;
-              object-words = H .object-words;
-            };
-            same = rw (le-leb (length bs) (room - length (s .bytes)) le) refl;
+    goes = λ s H.
+        let at : getD c 0 0 ≡ length (s .bytes) = H .count-written in
+        let le : length bs ≤ room - length (s .bytes) = omega (arith, H .sized) in
+        let len = length-append (s .bytes) bs in
+        record {
+          state = record { bytes = s .bytes ++ bs; symbols = s .symbols; objects = s .objects };
+          holds = record {
+            small = H .small;
+            counts = length-set c 0 _ ∙ H .counts;
+            sized = length-sets out (getD c 0 0) bs ∙ H .sized;
+            fits = omega (arith, len, H .fits);
+            same = ap (λ (k : ℕ). sets out k bs) at ∙ pushed room (s .bytes) bs out (H .same) (H .sized) (omega (arith, H .fits));
+            count-written = getD-set-same c 0 _ 0 (omega (arith, H .counts)) ∙ omega (arith, len);
+            count-symbols = getD-set-other c 0 1 _ 0 (omega arith) ∙ H .count-symbols;
+            count-objects = getD-set-other c 0 2 _ 0 (omega arith) ∙ H .count-objects;
+            scratch-small = H .scratch-small;
+            scratch-fits = H .scratch-fits;
+            numbered = H .numbered;
+            symbol-words = H .symbol-words;
+            object-words = H .object-words;
           };
-    };
+          same = rw (le-leb (length bs) (room - length (s .bytes)) le) refl;
+        };
   }
 
-  pub no-chunk : {B' : Buffers} {c' : List ℕ} (bs : List ℕ) (n : ℕ) → length bs ≡ n → length out < getD c 0 0 + n → Meets A room (write room bs) (buffers sc out) c (Refused (NoSpace 6)) B' c'
-  unfolding write pick
+  -- the same, stored by another's hand
+  pub chunk-stored : {limit : ℕ} {out' : List ℕ} (bs : List ℕ) (n : ℕ) → length bs ≡ n → getD c 0 0 + n ≤ length out → out' ≡ sets out (getD c 0 0) bs → Meets A room limit (write room bs) (buffers sc out) c 0 (buffers sc out') (set c 0 (getD c 0 0 + n))
+  chunk-stored {limit} bs n z h e = subst (λ (o : List ℕ). Meets A room limit (write room bs) (buffers sc out) c 0 (buffers sc o) (set c 0 (getD c 0 0 + n))) (sym e) (record { leads = chunk bs n z h })
+
+  -- a kind byte and more, and the place after them
+  pub tagged-goes : {out' : List ℕ} {p : ℕ} (k : ℕ) (bs : List ℕ) → getD c 0 0 + 1 + length bs ≤ length out → out' ≡ sets out (getD c 0 0) (k ∷ bs) → p ≡ getD c 0 0 + 1 + length bs → Goes A room (write room (k ∷ bs)) (buffers sc out) c (pure tt) (buffers sc out') (set c 0 p)
+  tagged-goes {out'} {p} k bs h e q =
+      let z : p ≡ getD c 0 0 + suc (length bs) = omega (arith, q) in
+      subst (λ (o : List ℕ). Goes A room (write room (k ∷ bs)) (buffers sc out) c (pure tt) (buffers sc o) (set c 0 p)) (sym e)
+      (subst (λ (x : ℕ). Goes A room (write room (k ∷ bs)) (buffers sc out) c (pure tt) (buffers sc (sets out (getD c 0 0) (k ∷ bs))) (set c 0 x)) (sym z)
+      (chunk (k ∷ bs) (suc (length bs)) refl (omega arith)))
+
+  pub tagged-stored : {limit : ℕ} {out' : List ℕ} {p : ℕ} (k : ℕ) (bs : List ℕ) → getD c 0 0 + 1 + length bs ≤ length out → out' ≡ sets out (getD c 0 0) (k ∷ bs) → p ≡ getD c 0 0 + 1 + length bs → Meets A room limit (write room (k ∷ bs)) (buffers sc out) c 0 (buffers sc out') (set c 0 p)
+  tagged-stored k bs h e q = record { leads = tagged-goes k bs h e q }
+
+  pub no-chunk : {limit : ℕ} {B' : Buffers} {c' : List ℕ} (bs : List ℕ) (n : ℕ) → length bs ≡ n → length out < getD c 0 0 + n → Meets A room limit (write room bs) (buffers sc out) c 2 B' c'
+  unfolding write pick stopped
   no-chunk bs n z h = record {
-    meets = λ s H.
+    leads = λ s H.
         let lt : room - length (s .bytes) < length bs = omega (arith, H .sized, H .count-written, H .fits) in
         rw (lt-leb (length bs) (room - length (s .bytes)) lt) refl;
   }

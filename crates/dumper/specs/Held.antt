@@ -3,20 +3,16 @@ use Prim.Native.Nat.{ℕ, zero, suc, _+_, _-_, _*_, _/_, _≤_, _<_}
 use mathlib.Core.Path.{_≡_}
 use mathlib.Core.Option.{Option, none, some}
 use mathlib.Core.List.{List, [], _∷_, _++_}
-use lib.ListN.{length, replicate, getD, take}
-use Rattle.definition.specs.Run.{Outcome, refused, pure}
-use Rattle.definition.specs.Kind.{INSTANCE-VARIABLES, OBJECT, USER-DEFINED}
+use lib.Dec.{eqb}
+use lib.ListN.{length, replicate, getD, set, take}
+use Rattle.definition.specs.Run.{Outcome, refused, pure, pick}
+use Rattle.definition.specs.Kind.{INSTANCE-VARIABLES}
 use Rattle.definition.specs.Node.{kind, row-of}
 use Rattle.definition.specs.Arena.{Arena, node, range}
-use Rattle.definition.specs.Dump.{Written, Writer, _>>_, write, number-in, write-elements, write-default, write-instance-variables, write-name, write-object-or-link}
+use Rattle.definition.specs.Dump.{Written, Writer, _>>_, write, number-in, write-elements, write-default, write-object-or-link}
 use Rattle.definition.specs.declared.Refusal.{Refusal}
-use Rattle.dump_forest.specs.Right.{Right, ListIn, PairsIn}
-use Rattle.dumper.specs.declared.Write.{Write}
-use Rattle.dumper.specs.declared.Write.the-variants.{Done, Refused}
-use Rattle.dumper.specs.declared.Opening.{Opening}
-use Rattle.dumper.specs.declared.Opening.the-variants.{Linked, Opened, Unopened}
-use Rattle.dumper.specs.declared.Head.{Head}
-use Rattle.dumper.specs.declared.Head.the-variants.{Whole, Elements, Variables, Unwritten}
+use Rattle.definition.specs.declared.Refusal.the-variants.{TooDeep, NoSpace}
+use Rattle.dump_forest.specs.Right.{Right, ListIn}
 
 -- the two slices that the writers change
 pub record Buffers : Type 0 where
@@ -39,6 +35,12 @@ marked (suc n) = 1
 unfoldable pub marks : List ℕ → ℕ
 marks [] = 0
 marks (x ∷ l) = marked x + marks l
+
+-- A's rows are those of the table
+pub record Noded (A : Arena) (no : List ℕ) : Type 0 where
+  pub nodes-small : length no ≤ 2147483647
+  pub nodes-fit : length (A .nodes) * 7 ≤ length no
+  pub row-at : (i : ℕ) → i < length (A .nodes) → node A i ≡ row-of (getD no (i * 7) 0) (getD no (i * 7 + 1) 0) (getD no (i * 7 + 2) 0) (getD no (i * 7 + 3) 0) (getD no (i * 7 + 4) 0) (getD no (i * 7 + 5) 0) (getD no (i * 7 + 6) 0)
 
 -- A is well formed, and its rows and bytes are those of the tables
 pub record Lent (A : Arena) (no by : List ℕ) : Type 0 where
@@ -103,32 +105,60 @@ pub record Goes (A : Arena) (room : ℕ) (m : Writer) (B : Buffers) (c : List �
 abbrev pub Refuses : Arena → ℕ → Writer → Buffers → List ℕ → Refusal → Type 0
 Refuses A room m B c q = (s : Written) → Holds A room s B c → m s ≡ refused q
 
-abbrev pub Case : Arena → ℕ → Writer → Buffers → List ℕ → Write → Buffers → List ℕ → Type 0
-Case A room m B c Done B' c' = Goes A room m B c (pure tt) B' c'
-Case A room m B c (Refused q) B' c' = Refuses A room m B c q
+-- the refusal that an answer of 2 or more says
+unfoldable pub stopped : ℕ → ℕ → Refusal
+stopped limit zero = NoSpace 6
+stopped limit (suc k) = TooDeep limit
 
--- the answer r, with what is lent as it then stands, is what the definition's writer m gives
-pub record Meets (A : Arena) (room : ℕ) (m : Writer) (B : Buffers) (c : List ℕ) (r : Write) (B' : Buffers) (c' : List ℕ) : Type 0 where
-  pub meets : Case A room m B c r B' c'
+-- by the answer: 0, m has come to m'; 2 and more, m is refused
+abbrev pub LeadCase : Arena → ℕ → ℕ → Writer → Writer → Buffers → List ℕ → ℕ → Buffers → List ℕ → Type 0
+LeadCase A room limit m m' B c zero B' c' = Goes A room m B c m' B' c'
+LeadCase A room limit m m' B c (suc zero) B' c' = ⊥
+LeadCase A room limit m m' B c (suc (suc k)) B' c' = Refuses A room m B c (stopped limit k)
 
--- an object's beginning, which the writer m puts before any rest: a link was written and that is all, or the rest comes next
-abbrev pub OpenCase : Arena → ℕ → (Writer → Writer) → Buffers → List ℕ → Opening → Buffers → List ℕ → Type 0
-OpenCase A room m B c Linked B' c' = (rest : Writer) → Goes A room (m rest) B c (pure tt) B' c'
-OpenCase A room m B c Opened B' c' = (rest : Writer) → Goes A room (m rest) B c rest B' c'
-OpenCase A room m B c (Unopened q) B' c' = (rest : Writer) → Refuses A room (m rest) B c q
+-- the answer r, with what is lent as it then stands, is what m gives up to m'
+pub record Leads (A : Arena) (room limit : ℕ) (m m' : Writer) (B : Buffers) (c : List ℕ) (r : ℕ) (B' : Buffers) (c' : List ℕ) : Type 0 where
+  pub leads : LeadCase A room limit m m' B c r B' c'
 
-pub record Opens (A : Arena) (room : ℕ) (m : Writer → Writer) (B : Buffers) (c : List ℕ) (r : Opening) (B' : Buffers) (c' : List ℕ) : Type 0 where
-  pub opens : OpenCase A room m B c r B' c'
+-- the same for the whole of m
+abbrev pub Meets : Arena → ℕ → ℕ → Writer → Buffers → List ℕ → ℕ → Buffers → List ℕ → Type 0
+Meets A room limit m B c r B' c' = Leads A room limit m (pure tt) B c r B' c'
 
--- a value up to its members: it is whole, or elements and a default come next, or variables
-abbrev pub HeadCase : Arena → ℕ → ((ℕ → Writer) → Writer) → Buffers → List ℕ → Head → Buffers → List ℕ → Type 0
-HeadCase A room m B c Whole B' c' = (inner : ℕ → Writer) → Goes A room (m inner) B c (pure tt) B' c'
-HeadCase A room m B c (Elements start n d) B' c' = ListIn A start n × (d ≤ length (A .nodes)) × ((inner : ℕ → Writer) → Goes A room (m inner) B c (write-elements inner (range (A .references) start n) >> write-default room A inner d) B' c')
-HeadCase A room m B c (Variables start n) B' c' = PairsIn A start n × ((inner : ℕ → Writer) → Goes A room (m inner) B c (write-instance-variables room A inner start n) B' c')
-HeadCase A room m B c (Unwritten q) B' c' = (inner : ℕ → Writer) → Refuses A room (m inner) B c q
+-- the same, where the answer 1 says that m is done: a link was written
+abbrev pub HeadCase : Arena → ℕ → ℕ → Writer → Writer → Buffers → List ℕ → ℕ → Buffers → List ℕ → Type 0
+HeadCase A room limit m m' B c zero B' c' = Goes A room m B c m' B' c'
+HeadCase A room limit m m' B c (suc zero) B' c' = Goes A room m B c (pure tt) B' c'
+HeadCase A room limit m m' B c (suc (suc k)) B' c' = Refuses A room m B c (stopped limit k)
 
-pub record Heads (A : Arena) (room : ℕ) (m : (ℕ → Writer) → Writer) (B : Buffers) (c : List ℕ) (r : Head) (B' : Buffers) (c' : List ℕ) : Type 0 where
-  pub heads : HeadCase A room m B c r B' c'
+pub record Heads (A : Arena) (room limit : ℕ) (m m' : Writer) (B : Buffers) (c : List ℕ) (r : ℕ) (B' : Buffers) (c' : List ℕ) : Type 0 where
+  pub heads : HeadCase A room limit m m' B c r B' c'
+
+-- an object's beginning, which m puts before any rest
+abbrev pub Opens : Arena → ℕ → ℕ → (Writer → Writer) → Buffers → List ℕ → ℕ → Buffers → List ℕ → Type 0
+Opens A room limit m B c r B' c' = (rest : Writer) → Heads A room limit (m rest) rest B c r B' c'
+
+-- by the place answered: 0, nothing is stored; else m is done, and so many bytes are written
+abbrev pub ShortCase : Arena → ℕ → Writer → List ℕ → List ℕ → List ℕ → ℕ → List ℕ → Type 0
+ShortCase A room m sc out c zero out' = out' ≡ out
+ShortCase A room m sc out c (suc p) out' = Goes A room m (buffers sc out) c (pure tt) (buffers sc out') (set c 0 (suc p))
+
+pub record Shorts (A : Arena) (room : ℕ) (m : Writer) (sc out c : List ℕ) (p : ℕ) (out' : List ℕ) : Type 0 where
+  pub shorts : ShortCase A room m sc out c p out'
+
+-- how many words a list of n elements or pairs has, by the kind; the default, as word 6 has it
+unfoldable pub listed : ℕ → ℕ → ℕ
+listed k n = pick (eqb k 4) n (n * 2)
+
+unfoldable pub default-of : ℕ → ℕ → ℕ
+default-of k f = pick (eqb k 5) f 0
+
+-- what of a value of kinds 4 to 8 comes after its beginning: k, start, n and f are its words 0, 3, 4 and 6
+abbrev pub members-of : ℕ → Arena → (ℕ → Writer) → ℕ → ℕ → ℕ → ℕ → Writer
+members-of room A inner k start n f = write-elements inner (range (A .references) start (listed k n)) >> write-default room A inner (default-of k f)
+
+-- its list is inside the references, its default below the node count
+abbrev pub MembersIn : Arena → List ℕ → ℕ → Type 0
+MembersIn A t v = ListIn A (getD t (v * 7 + 3) 0) (listed (getD t (v * 7) 0) (getD t (v * 7 + 4) 0)) × (default-of (getD t (v * 7) 0) (getD t (v * 7 + 6) 0) ≤ length (A .nodes))
 
 -- the value after `I` where the mark f says that there is one, and then the rest
 unfoldable pub begun : ℕ → Writer → ℕ → Writer → Writer → Writer
@@ -138,13 +168,6 @@ begun room level (suc f) body rest = write room (INSTANCE-VARIABLES ∷ []) >> l
 -- the bytes first given of an object that is not linked, and then the rest
 abbrev pub opened : ℕ → ℕ → List ℕ → Writer → Writer
 opened room v bs rest = write-object-or-link room v (write room bs >> rest)
-
-abbrev pub opened-name : ℕ → Arena → ℕ → ℕ → Writer → Writer
-opened-name room A v name rest = write-object-or-link room v (write room (OBJECT ∷ []) >> write-name room A name >> rest)
-
--- a user-defined value's byte, its name and its byte string bs
-abbrev pub user-defined : ℕ → Arena → ℕ → List ℕ → Writer
-user-defined room A name bs = write room (USER-DEFINED ∷ []) >> write-name room A name >> write room bs
 
 -- lengths that a dump takes
 pub record Allowed (nodes references bytes output scratch : ℕ) : Type 0 where

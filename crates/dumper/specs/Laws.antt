@@ -1,5 +1,5 @@
 -- Laws of the definition's writers, and how writers in code compose.
-use Prim.Native.Nat.{ℕ, _+_, _-_}
+use Prim.Native.Nat.{ℕ, zero, suc, _+_, _-_}
 use native.Mathlib.Omega.{arith}
 use mathlib.Core.Bool.{Bool, true, false}
 use mathlib.Core.Path.{_≡_, refl, sym, ap, _∙_, subst}
@@ -12,11 +12,7 @@ use Rattle.definition.specs.Arena.{Arena}
 use Rattle.definition.specs.Dump.{Written, Writer, _>>_, write}
 use Rattle.definition.specs.declared.Refusal.{Refusal}
 use Rattle.definition.specs.declared.Refusal.the-variants.{TooDeep}
-use Rattle.dumper.specs.Held.{Buffers, Ready, Goes, Meets, Opens}
-use Rattle.dumper.specs.declared.Write.{Write}
-use Rattle.dumper.specs.declared.Write.the-variants.{Done, Refused}
-use Rattle.dumper.specs.declared.Opening.{Opening}
-use Rattle.dumper.specs.declared.Opening.the-variants.{Linked, Opened, Unopened}
+use Rattle.dumper.specs.Held.{Buffers, Ready, Goes, stopped, Leads, Meets, Heads}
 
 -- ---- equal writers
 
@@ -79,9 +75,6 @@ unfolding _>>_ _>>=_ next
 then-refused m f s q e = ap (λ (o : Out). next o (λ _. f)) e
 
 module _ {A : Arena} {room : ℕ} where
-  pub told : {m : Writer} {B B' : Buffers} {c c' : List ℕ} {r r' : Write} → r ≡ r' → Meets A room m B c r B' c' → Meets A room m B c r' B' c'
-  told {m} {B} {B'} {c} {c'} e k = subst (λ (r : Write). Meets A room m B c r B' c') e k
-
   pub then : {m m' m'' : Writer} {B B' B'' : Buffers} {c c' c'' : List ℕ} → Goes A room m B c m' B' c' → Goes A room m' B' c' m'' B'' c'' → Goes A room m B c m'' B'' c''
   then a b = record {
     goes = λ s H.
@@ -97,87 +90,107 @@ module _ {A : Arena} {room : ℕ} where
   pub goes-as : {m n m' : Writer} {B B' : Buffers} {c c' : List ℕ} → m ≡ n → Goes A room n B c m' B' c' → Goes A room m B c m' B' c'
   goes-as {m' = m'} {B} {B'} {c} {c'} e k = subst (λ (x : Writer). Goes A room x B c m' B' c') (sym e) k
 
-  pub meets-as : {m n : Writer} {B B' : Buffers} {c c' : List ℕ} {r : Write} → m ≡ n → Meets A room n B c r B' c' → Meets A room m B c r B' c'
-  meets-as {B = B} {B'} {c} {c'} {r} e k = subst (λ (x : Writer). Meets A room x B c r B' c') (sym e) k
+  pub goes-to : {m n m' : Writer} {B B' : Buffers} {c c' : List ℕ} → m' ≡ n → Goes A room m B c m' B' c' → Goes A room m B c n B' c'
+  goes-to {m} {B = B} {B'} {c} {c'} e k = subst (λ (x : Writer). Goes A room m B c x B' c') e k
 
-  -- m is done, and f comes next
-  pub bind : {m : Writer} {B B' : Buffers} {c c' : List ℕ} {r : Write} (f : Writer) → r ≡ Done → Meets A room m B c r B' c' → Goes A room (m >> f) B c f B' c'
-  bind {m} f e k = record { goes = λ s H. let w = told e k .meets .goes s H in record { state = w .state; holds = w .holds; same = then-ok m f s (w .state) (w .same) } }
+  -- f is done, and g comes next
+  pub goes-first : {f : Writer} {B B' : Buffers} {c c' : List ℕ} (g : Writer) → Goes A room f B c (pure tt) B' c' → Goes A room (f >> g) B c g B' c'
+  goes-first {f} g k = record { goes = λ s H. let w = k .goes s H in record { state = w .state; holds = w .holds; same = then-ok f g s (w .state) (w .same) } }
 
-  pub stop : {m : Writer} {B B' B'' : Buffers} {c c' c'' : List ℕ} {r : Write} {q : Refusal} (f : Writer) → r ≡ Refused q → Meets A room m B c r B' c' → Meets A room (m >> f) B c (Refused q) B'' c''
-  stop {m} {q = q} f e k = record { meets = λ s H. then-refused m f s q (told e k .meets s H) }
+module _ {A : Arena} {room limit : ℕ} where
+  -- ---- an answer by what it says
 
-  -- the same with what is lent as it then stands
-  pub stop-at : {m : Writer} {B B' : Buffers} {c c' : List ℕ} {r : Write} {q : Refusal} (f : Writer) → r ≡ Refused q → Meets A room m B c r B' c' → Meets A room (m >> f) B c (Refused q) B' c'
-  stop-at f e k = stop f e k
+  pub lead-as : {m n m' : Writer} {B B' : Buffers} {c c' : List ℕ} {r : ℕ} → m ≡ n → Leads A room limit n m' B c r B' c' → Leads A room limit m m' B c r B' c'
+  lead-as {m' = m'} {B} {B'} {c} {c'} {r} e k = subst (λ (x : Writer). Leads A room limit x m' B c r B' c') (sym e) k
 
-  pub ends : {m m' : Writer} {B B' B'' : Buffers} {c c' c'' : List ℕ} {r : Write} → Goes A room m B c m' B' c' → Meets A room m' B' c' r B'' c'' → Meets A room m B c r B'' c''
-  ends {r = Done} a k = record { meets = then a (k .meets) }
-  ends {r = Refused q} a k = record { meets = λ s H. let w = a .goes s H in w .same ∙ k .meets (w .state) (w .holds) }
+  pub lead-to : {m n m' : Writer} {B B' : Buffers} {c c' : List ℕ} {r : ℕ} → m' ≡ n → Leads A room limit m m' B c r B' c' → Leads A room limit m n B c r B' c'
+  lead-to {m} {B = B} {B'} {c} {c'} {r} e k = subst (λ (x : Writer). Leads A room limit m x B c r B' c') e k
 
-  pub refuses : {B B' : Buffers} {c c' : List ℕ} (q : Refusal) → Meets A room (refuse q) B c (Refused q) B' c'
-  unfolding refuse
-  refuses q = record { meets = λ s H. refl }
+  pub head-as : {m n m' : Writer} {B B' : Buffers} {c c' : List ℕ} {r : ℕ} → m ≡ n → Heads A room limit n m' B c r B' c' → Heads A room limit m m' B c r B' c'
+  head-as {m' = m'} {B} {B'} {c} {c'} {r} e k = subst (λ (x : Writer). Heads A room limit x m' B c r B' c') (sym e) k
 
-  pub done : {B : Buffers} {c : List ℕ} → Meets A room (pure tt) B c Done B c
-  done = record { meets = still }
+  pub head-to : {m n m' : Writer} {B B' : Buffers} {c c' : List ℕ} {r : ℕ} → m' ≡ n → Heads A room limit m m' B c r B' c' → Heads A room limit m n B c r B' c'
+  head-to {m} {B = B} {B'} {c} {c'} {r} e k = subst (λ (x : Writer). Heads A room limit m x B c r B' c') e k
 
-  -- ---- beginnings of objects
+  pub lead-goes : {m m' : Writer} {B B' : Buffers} {c c' : List ℕ} {r : ℕ} → r ≡ 0 → Leads A room limit m m' B c r B' c' → Goes A room m B c m' B' c'
+  lead-goes {m} {m'} {B} {B'} {c} {c'} e k = subst (λ (x : ℕ). Leads A room limit m m' B c x B' c') e k .leads
 
-  pub open-told : {m : Writer → Writer} {B B' : Buffers} {c c' : List ℕ} {r r' : Opening} → r ≡ r' → Opens A room m B c r B' c' → Opens A room m B c r' B' c'
-  open-told {m} {B} {B'} {c} {c'} e k = subst (λ (r : Opening). Opens A room m B c r B' c') e k
+  pub head-goes : {m m' : Writer} {B B' : Buffers} {c c' : List ℕ} {r : ℕ} → r ≡ 0 → Heads A room limit m m' B c r B' c' → Goes A room m B c m' B' c'
+  head-goes {m} {m'} {B} {B'} {c} {c'} e k = subst (λ (x : ℕ). Heads A room limit m m' B c x B' c') e k .heads
 
-  -- m' begins as m does, which is left with f of the rest
-  module _ {m m' : Writer → Writer} {B B' : Buffers} {c c' : List ℕ} {r : Opening} (f : Writer → Writer) (same : (rest : Writer) → m' rest ≡ m (f rest)) (k : Opens A room m B c r B' c') where
-    pub open-linked : r ≡ Linked → Opens A room m' B c Linked B' c'
-    open-linked e = record { opens = λ rest. goes-as (same rest) (open-told e k .opens (f rest)) }
+  -- a link was written
+  pub head-linked : {m m' : Writer} {B B' : Buffers} {c c' : List ℕ} {r : ℕ} → r ≡ 1 → Heads A room limit m m' B c r B' c' → Meets A room limit m B c 0 B' c'
+  head-linked {m} {m'} {B} {B'} {c} {c'} e k = record { leads = subst (λ (x : ℕ). Heads A room limit m m' B c x B' c') e k .heads }
 
-    pub open-refused : {B'' : Buffers} {c'' : List ℕ} {q : Refusal} → r ≡ Unopened q → Opens A room m' B c (Unopened q) B'' c''
-    open-refused e = record { opens = λ rest s H. ap (λ (x : Writer). x s) (same rest) ∙ open-told e k .opens (f rest) s H }
+  pub linked : {m m' : Writer} {B B' : Buffers} {c c' : List ℕ} → Goes A room m B c (pure tt) B' c' → Heads A room limit m m' B c 1 B' c'
+  linked k = record { heads = k }
 
-    pub open-goes : r ≡ Opened → (rest : Writer) → Goes A room (m' rest) B c (f rest) B' c'
-    open-goes e rest = goes-as (same rest) (open-told e k .opens (f rest))
+  pub went : {m m' : Writer} {B B' : Buffers} {c c' : List ℕ} → Goes A room m B c m' B' c' → Leads A room limit m m' B c 0 B' c'
+  went k = record { leads = k }
 
-  -- and the rest goes on with b
-  module _ {m m' : Writer → Writer} {b : Writer} {B B' B'' : Buffers} {c c' c'' : List ℕ} {r : Opening} {r₂ : Write} (same : (rest : Writer) → m' rest ≡ m (b >> rest)) (k : Opens A room m B c r B' c') (e : r ≡ Opened) (k₂ : Meets A room b B' c' r₂ B'' c'') where
-    pub open-more : r₂ ≡ Done → Opens A room m' B c Opened B'' c''
-    open-more e₂ = record { opens = λ rest. then (open-goes (λ x. b >> x) same k e rest) (bind rest e₂ k₂) }
+  -- ---- after one another
 
-    pub open-stop : {B₃ : Buffers} {c₃ : List ℕ} {q : Refusal} → r₂ ≡ Refused q → Opens A room m' B c (Unopened q) B₃ c₃
-    open-stop e₂ = record {
-      opens = λ rest s H.
-          let w = open-goes (λ x. b >> x) same k e rest .goes s H in
-          w .same ∙ then-refused b rest (w .state) _ (told e₂ k₂ .meets (w .state) (w .holds));
-    }
+  pub lead-after : {m n m' : Writer} {B B' B'' : Buffers} {c c' c'' : List ℕ} {r : ℕ} → Goes A room m B c n B' c' → Leads A room limit n m' B' c' r B'' c'' → Leads A room limit m m' B c r B'' c''
+  lead-after {r = zero} a k = record { leads = then a (k .leads) }
+  lead-after {r = suc zero} a k = absurd (k .leads)
+  lead-after {r = suc (suc q)} a k = record { leads = λ s H. let w = a .goes s H in w .same ∙ k .leads (w .state) (w .holds) }
+
+  pub head-after : {m n m' : Writer} {B B' B'' : Buffers} {c c' c'' : List ℕ} {r : ℕ} → Goes A room m B c n B' c' → Heads A room limit n m' B' c' r B'' c'' → Heads A room limit m m' B c r B'' c''
+  head-after {r = zero} a k = record { heads = then a (k .heads) }
+  head-after {r = suc zero} a k = record { heads = then a (k .heads) }
+  head-after {r = suc (suc q)} a k = record { heads = λ s H. let w = a .goes s H in w .same ∙ k .heads (w .state) (w .holds) }
+
+  -- f, before g
+  pub lead-first : {f : Writer} {B B' : Buffers} {c c' : List ℕ} {r : ℕ} (g : Writer) → Meets A room limit f B c r B' c' → Leads A room limit (f >> g) g B c r B' c'
+  lead-first {r = zero} g k = record { leads = goes-first g (k .leads) }
+  lead-first {r = suc zero} g k = absurd (k .leads)
+  lead-first {f} {r = suc (suc q)} g k = record { leads = λ s H. then-refused f g s _ (k .leads s H) }
+
+  pub lead-head : {m m' : Writer} {B B' : Buffers} {c c' : List ℕ} {r : ℕ} → Leads A room limit m m' B c r B' c' → Heads A room limit m m' B c r B' c'
+  lead-head {r = zero} k = record { heads = k .leads }
+  lead-head {r = suc zero} k = absurd (k .leads)
+  lead-head {r = suc (suc q)} k = record { heads = k .leads }
+
+  -- ---- an answer that is passed on
+
+  pub lead-stop : {m m' n : Writer} {B B' B'' : Buffers} {c c' c'' : List ℕ} {r : ℕ} → (r ≡ 0 → ⊥) → Leads A room limit m m' B c r B' c' → Leads A room limit m n B c r B'' c''
+  lead-stop {r = zero} e k = absurd (e refl)
+  lead-stop {r = suc zero} e k = absurd (k .leads)
+  lead-stop {r = suc (suc q)} e k = record { leads = k .leads }
+
+  pub head-stop : {m m' n : Writer} {B B' B'' : Buffers} {c c' c'' : List ℕ} {r : ℕ} → (r ≡ 0 → ⊥) → (r ≡ 1 → ⊥) → Heads A room limit m m' B c r B' c' → Leads A room limit m n B c r B'' c''
+  head-stop {r = zero} e f k = absurd (e refl)
+  head-stop {r = suc zero} e f k = absurd (f refl)
+  head-stop {r = suc (suc q)} e f k = record { leads = k .heads }
+
+  -- whatever would have come next
+  pub head-keep : {m m' n : Writer} {B B' : Buffers} {c c' : List ℕ} {r : ℕ} → (r ≡ 0 → ⊥) → Heads A room limit m m' B c r B' c' → Heads A room limit m n B c r B' c'
+  head-keep {r = zero} e k = absurd (e refl)
+  head-keep {r = suc zero} e k = record { heads = k .heads }
+  head-keep {r = suc (suc q)} e k = record { heads = k .heads }
+
+  -- no level is left
+  pub deep : {m' : Writer} {B B' : Buffers} {c c' : List ℕ} (rest : Writer) → Leads A room limit (refuse (TooDeep limit) >> rest) m' B c 3 B' c'
+  unfolding refuse stopped
+  deep rest = record { leads = λ s H. then-refused (λ _. refused (TooDeep limit)) rest s (TooDeep limit) refl }
+
+  pub deep-here : {m' : Writer} {B B' : Buffers} {c c' : List ℕ} → Leads A room limit (refuse (TooDeep limit)) m' B c 3 B' c'
+  unfolding refuse stopped
+  deep-here = record { leads = λ s H. refl }
 
 -- ---- what is held goes on to be held
 
-pub ready : {P : Arena → Type 0} {B B' : Buffers} {c c' : List ℕ} {r : Write} (m : Arena → ℕ → Writer) → Ready P B c → r ≡ Done → ((A : Arena) (room : ℕ) → P A → Meets A room (m A room) B c r B' c') → Ready P B' c'
-ready m d e k =
-    let w = told e (k (d .arena) (d .room) (d .fact)) .meets .goes (d .state) (d .holds) in
+pub ready-goes : {P : Arena → Type 0} {B B' : Buffers} {c c' : List ℕ} {m m' : Writer} (d : Ready P B c) → Goes (d .arena) (d .room) m B c m' B' c' → Ready P B' c'
+ready-goes d k =
+    let w = k .goes (d .state) (d .holds) in
     record { arena = d .arena; room = d .room; state = w .state; fact = d .fact; holds = w .holds }
 
-pub ready-open : {P : Arena → Type 0} {B B' : Buffers} {c c' : List ℕ} {r : Opening} (m : Arena → ℕ → Writer → Writer) → Ready P B c → r ≡ Opened → ((A : Arena) (room : ℕ) → P A → Opens A room (m A room) B c r B' c') → Ready P B' c'
-ready-open m d e k =
-    let w = open-told e (k (d .arena) (d .room) (d .fact)) .opens (pure tt) .goes (d .state) (d .holds) in
-    record { arena = d .arena; room = d .room; state = w .state; fact = d .fact; holds = w .holds }
+pub ready : {P : Arena → Type 0} {B B' : Buffers} {c c' : List ℕ} {r : ℕ} (m m' : Arena → ℕ → Writer) → Ready P B c → r ≡ 0 → ((A : Arena) (room : ℕ) → P A → Leads A room 0 (m A room) (m' A room) B c r B' c') → Ready P B' c'
+ready m m' d e k = ready-goes d (lead-goes e (k (d .arena) (d .room) (d .fact)))
+
+pub ready-head : {P : Arena → Type 0} {B B' : Buffers} {c c' : List ℕ} {r : ℕ} (m m' : Arena → ℕ → Writer) → Ready P B c → r ≡ 0 → ((A : Arena) (room : ℕ) → P A → Heads A room 0 (m A room) (m' A room) B c r B' c') → Ready P B' c'
+ready-head m m' d e k = ready-goes d (head-goes e (k (d .arena) (d .room) (d .fact)))
 
 -- less is known, or more
 pub ready-as : {P Q : Arena → Type 0} {B : Buffers} {c : List ℕ} → ((A : Arena) → P A → Q A) → Ready P B c → Ready Q B c
 ready-as f d = record { arena = d .arena; room = d .room; state = d .state; fact = f (d .arena) (d .fact); holds = d .holds }
-
--- ---- an answer of Opening from its cases
-
-module _ {A : Arena} {room : ℕ} {m : Writer → Writer} {B B' : Buffers} {c c' : List ℕ} where
-  pub by-linked : ((rest : Writer) → Meets A room (m rest) B c Done B' c') → Opens A room m B c Linked B' c'
-  by-linked k = record { opens = λ rest. k rest .meets }
-
-  pub by-opened : ((rest : Writer) → Goes A room (m rest) B c rest B' c') → Opens A room m B c Opened B' c'
-  by-opened k = record { opens = k }
-
-  pub by-refused : {q : Refusal} → ((rest : Writer) → Meets A room (m rest) B c (Refused q) B' c') → Opens A room m B c (Unopened q) B' c'
-  by-refused k = record { opens = λ rest. k rest .meets }
-
--- no level is left
-pub deep : {A : Arena} {room : ℕ} {B B' : Buffers} {c c' : List ℕ} (limit : ℕ) (rest : Writer) → Meets A room (refuse (TooDeep limit) >> rest) B c (Refused (TooDeep limit)) B' c'
-deep {B = B} {c = c} limit rest = stop {B' = B} {c' = c} rest refl (refuses (TooDeep limit))

@@ -1,59 +1,48 @@
 // What dump's writers do before a value's members: bytes, integers, numbers and links.
 use arena_check::size;
-use definition::Refusal;
 use definition::ValueKind;
 use store::copy_bytes;
 ghost use mathlib.Core.Path.{_≡_};
 ghost use mathlib.Core.List.{List, [], _∷_, _++_};
-ghost use Prim.Native.Nat.{ℕ, _+_, _-_, _*_, _/_, _<_, _≤_};
-ghost use lib.ListN.{length, take, drop};
+ghost use Prim.Native.Nat.{ℕ, suc, _+_, _-_, _*_, _/_, _<_, _≤_};
+ghost use lib.ListN.{length, getD, take, drop};
 ghost use lib.Seq.{sets};
 ghost use Rattle.definition.specs.Integer.{integer-bytes, low-bytes, fewest};
-ghost use Rattle.definition.specs.Kind.{STRING};
 ghost use Rattle.definition.specs.Node.{kind};
-ghost use Rattle.definition.specs.Arena.{Arena, Tables, node};
-ghost use Rattle.definition.specs.Dump.{Writer, write, write-level, write-name, write-object-or-link, write-row, dump-wrong};
-ghost use Rattle.dumper.specs.Held.{buffers, Lent, Ready, IsObject, IsSymbol, Meets, Opens, Heads, begun, opened, opened-name, user-defined, Allowed};
+ghost use Rattle.definition.specs.Arena.{Arena, Tables, node, range};
+ghost use Rattle.definition.specs.Dump.{Writer, write, write-level, write-name, write-object-or-link, write-elements, write-instance-variables, write-row, write-value, dump-wrong};
+ghost use Rattle.dump_forest.specs.Right.{ListIn, PairsIn};
+ghost use Rattle.dumper.specs.Held.{buffers, Noded, Lent, Listed, Ready, IsObject, IsSymbol, Meets, Leads, Heads, Opens, Shorts, Goes, begun, opened, members-of, MembersIn, listed, Allowed};
 
 // The places of the three counts: bytes written, symbols and objects numbered.
 pub const WRITTEN: usize = 0;
 
-pub const SYMBOLS: usize = 1;
+const SYMBOLS: usize = 1;
 
-pub const OBJECTS: usize = 2;
+const OBJECTS: usize = 2;
 
-// Answers are taken apart and made anew where they are passed on: a block copy after narrow stores stalls.
-pub enum Write {
-    Done,
-    Refused(Refusal),
-}
+// What a writer answers: done; done with the whole value, of which more could have come; no space; no level. They are numbers,
+// which come back in a register: an enum comes back in memory.
+pub const DONE: u32 = 0;
 
-// An object's beginning: a link, which is all, or its number and what stands before the rest.
-pub enum Opening {
-    Linked,
-    Opened,
-    Unopened(Refusal),
-}
+pub const WHOLE: u32 = 1;
 
-// A value up to its members: nothing more; elements from a start on and a default as word 6 has it; a variable list's start and pairs.
-pub enum Head {
-    Whole,
-    Elements(usize, usize, u32),
-    Variables(usize, u32),
-    Unwritten(Refusal),
-}
+pub const FULL: u32 = 2;
 
-pub fn write_byte(output: &mut [u8], c: &mut [usize; 3], b: u8) -> Write
-    ensures { λ r. ⌜ ((A : Arena) (room : ℕ) (sc : List ℕ) → Meets A room (write room (b ∷ [])) (buffers sc (now (output .entry))) (now (c .entry)) r (buffers sc (now (output .exit))) (now (c .exit))) ⌝ }
+pub const DEEP: u32 = 3;
+
+// ---- bytes and integers
+
+pub fn write_byte(output: &mut [u8], c: &mut [usize; 3], b: u8) -> u32
+    ensures { λ r. ⌜ ((A : Arena) (room limit : ℕ) (sc : List ℕ) → Meets A room limit (write room (b ∷ [])) (buffers sc (now (output .entry))) (now (c .entry)) r (buffers sc (now (output .exit))) (now (c .exit))) ⌝ }
 {
     let at = c[WRITTEN];
     if at < output.len() {
         output[at] = b;
         c[WRITTEN] = at + 1;
-        Write::Done
-    } else {
-        Write::Refused(Refusal::NoSpace(6))
+        return DONE;
     }
+    FULL
 }
 
 // The lowest n bytes of v, lowest first, from byte `at` on.
@@ -70,22 +59,6 @@ fn store_low(output: &mut [u8], at: usize, n: usize, v: u32)
     }
 }
 
-// A size byte and n data bytes.
-fn write_data(output: &mut [u8], c: &mut [usize; 3], k: u8, n: usize, v: u32) -> Write
-    ensures { λ r. ⌜ ((A : Arena) (room : ℕ) (sc : List ℕ) → Meets A room (write room (k ∷ low-bytes n v)) (buffers sc (now (output .entry))) (now (c .entry)) r (buffers sc (now (output .exit))) (now (c .exit))) ⌝ }
-{
-    let at = c[WRITTEN];
-    if at < output.len() {
-        if n < output.len() - at {
-            output[at] = k;
-            store_low(output, at + 1, n, v);
-            c[WRITTEN] = at + 1 + n;
-            return Write::Done;
-        }
-    }
-    Write::Refused(Refusal::NoSpace(6))
-}
-
 // The fewest data bytes, from the leading zero bits.
 fn data_bytes(v: u32) -> u32
     ensures { λ r. ⌜ r ≡ fewest v ⌝ }
@@ -94,440 +67,544 @@ fn data_bytes(v: u32) -> u32
     (39 - u32::leading_zeros(v)) / 8
 }
 
-pub fn write_fixnum(output: &mut [u8], c: &mut [usize; 3], v: u32) -> Write
-    ensures { λ r. ⌜ ((A : Arena) (room : ℕ) (sc : List ℕ) → Meets A room (write room (integer-bytes v)) (buffers sc (now (output .entry))) (now (c .entry)) r (buffers sc (now (output .exit))) (now (c .exit))) ⌝ }
+// How many bytes an integer takes.
+fn fixnum_size(v: u32) -> usize
+    ensures { λ r. ⌜ r ≡ length (integer-bytes v) ⌝ }
+{
+    if v < 123 {
+        return 1;
+    }
+    if v < 2147483648 {
+        return 1 + size(data_bytes(v));
+    }
+    if v < 4294967173 {
+        return 1 + size(data_bytes(4294967295 - v));
+    }
+    1
+}
+
+// A size byte k and n data bytes; how many bytes that is.
+fn store_data(output: &mut [u8], at: usize, k: u8, n: usize, v: u32) -> usize
+    requires { ⌜ at + (n + 1) ≤ length (now output) ⌝ }
+    ensures { λ r. ⌜ now (output .exit) ≡ sets (now (output .entry)) at (k ∷ low-bytes n v) ⌝ }
+    ensures { λ r. ⌜ r ≡ n + 1 ⌝ }
+{
+    output[at] = k;
+    store_low(output, at + 1, n, v);
+    n + 1
+}
+
+// An integer from byte `at` on; how many bytes it takes.
+fn store_fixnum(output: &mut [u8], at: usize, v: u32) -> usize
+    requires { ⌜ at + length (integer-bytes v) ≤ length (now output) ⌝ }
+    ensures { λ r. ⌜ now (output .exit) ≡ sets (now (output .entry)) at (integer-bytes v) ⌝ }
+    ensures { λ r. ⌜ r ≡ length (integer-bytes v) ⌝ }
 {
     if v == 0 {
-        return match write_byte(output, c, 0) {
-            Write::Done => Write::Done,
-            Write::Refused(r) => Write::Refused(r),
-        };
+        output[at] = 0;
+        return 1;
     }
     if v <= 122 {
-        return match write_byte(output, c, (v + 5) as u8) {
-            Write::Done => Write::Done,
-            Write::Refused(r) => Write::Refused(r),
-        };
+        output[at] = (v + 5) as u8;
+        return 1;
     }
     if v < 2147483648 {
         let n = data_bytes(v);
-        return match write_data(output, c, n as u8, size(n), v) {
-            Write::Done => Write::Done,
-            Write::Refused(r) => Write::Refused(r),
-        };
+        return store_data(output, at, n as u8, size(n), v);
     }
     if v < 4294967173 {
         let n = data_bytes(4294967295 - v);
-        return match write_data(output, c, (256 - n) as u8, size(n), v) {
-            Write::Done => Write::Done,
-            Write::Refused(r) => Write::Refused(r),
-        };
+        return store_data(output, at, (256 - n) as u8, size(n), v);
     }
-    match write_byte(output, c, ((v - 5) % 256) as u8) {
-        Write::Done => Write::Done,
-        Write::Refused(r) => Write::Refused(r),
-    }
+    output[at] = ((v - 5) % 256) as u8;
+    1
 }
 
-// A kind byte and an integer.
-pub fn write_tagged(output: &mut [u8], c: &mut [usize; 3], k: u8, v: u32) -> Write
-    ensures { λ r. ⌜ ((A : Arena) (room : ℕ) (sc : List ℕ) → Meets A room (write room (k ∷ integer-bytes v)) (buffers sc (now (output .entry))) (now (c .entry)) r (buffers sc (now (output .exit))) (now (c .exit))) ⌝ }
+fn write_fixnum(output: &mut [u8], c: &mut [usize; 3], v: u32) -> u32
+    ensures { λ r. ⌜ ((A : Arena) (room limit : ℕ) (sc : List ℕ) → Meets A room limit (write room (integer-bytes v)) (buffers sc (now (output .entry))) (now (c .entry)) r (buffers sc (now (output .exit))) (now (c .exit))) ⌝ }
 {
-    match write_byte(output, c, k) {
-        Write::Done => match write_fixnum(output, c, v) {
-            Write::Done => Write::Done,
-            Write::Refused(r) => Write::Refused(r),
-        },
-        Write::Refused(r) => Write::Refused(r),
+    let at = c[WRITTEN];
+    let n = fixnum_size(v);
+    if n <= output.len() {
+        if at <= output.len() - n {
+            store_fixnum(output, at, v);
+            c[WRITTEN] = at + n;
+            return DONE;
+        }
     }
+    FULL
+}
+
+// A kind byte and an integer from byte `at` on; the place after them.
+fn store_tagged(output: &mut [u8], at: usize, k: u8, v: u32) -> usize
+    requires { ⌜ at + 1 + length (integer-bytes v) ≤ length (now output) ⌝ }
+    ensures { λ r. ⌜ now (output .exit) ≡ sets (now (output .entry)) at (k ∷ integer-bytes v) ⌝ }
+    ensures { λ r. ⌜ r ≡ at + 1 + length (integer-bytes v) ⌝ }
+{
+    output[at] = k;
+    at + 1 + store_fixnum(output, at + 1, v)
+}
+
+fn write_tagged(output: &mut [u8], c: &mut [usize; 3], k: u8, v: u32) -> u32
+    ensures { λ r. ⌜ ((A : Arena) (room limit : ℕ) (sc : List ℕ) → Meets A room limit (write room (k ∷ integer-bytes v)) (buffers sc (now (output .entry))) (now (c .entry)) r (buffers sc (now (output .exit))) (now (c .exit))) ⌝ }
+{
+    let at = c[WRITTEN];
+    let n = fixnum_size(v);
+    if n < output.len() {
+        if at < output.len() - n {
+            c[WRITTEN] = store_tagged(output, at, k, v);
+            return DONE;
+        }
+    }
+    FULL
 }
 
 // The length n and n bytes from `start` on.
-pub fn write_byte_string(
-    bytes: &[u8],
-    output: &mut [u8],
-    c: &mut [usize; 3],
-    start: u32,
-    n: u32,
-) -> Write
+fn write_byte_string(bytes: &[u8], output: &mut [u8], c: &mut [usize; 3], start: u32, n: u32) -> u32
     requires { ⌜ start + n ≤ length (now bytes) ⌝ }
-    ensures { λ r. ⌜ ((A : Arena) (room : ℕ) (sc : List ℕ) → Meets A room (write room (integer-bytes n ++ take n (drop start (now (bytes .entry))))) (buffers sc (now (output .entry))) (now (c .entry)) r (buffers sc (now (output .exit))) (now (c .exit))) ⌝ }
+    ensures { λ r. ⌜ ((A : Arena) (room limit : ℕ) (sc : List ℕ) → Meets A room limit (write room (integer-bytes n ++ take n (drop start (now (bytes .entry))))) (buffers sc (now (output .entry))) (now (c .entry)) r (buffers sc (now (output .exit))) (now (c .exit))) ⌝ }
 {
-    match write_fixnum(output, c, n) {
-        Write::Done => {
-            let at = c[WRITTEN];
-            let count = size(n);
-            if count <= output.len() {
-                if at <= output.len() - count {
-                    copy_bytes(&bytes[..], size(start), output, at, count);
-                    c[WRITTEN] = at + count;
-                    return Write::Done;
-                }
-            }
-            Write::Refused(Refusal::NoSpace(6))
-        }
-        Write::Refused(r) => Write::Refused(r),
+    let w = write_fixnum(output, c, n);
+    if w != DONE {
+        return w;
     }
+    let at = c[WRITTEN];
+    let count = size(n);
+    if count <= output.len() {
+        if at <= output.len() - count {
+            copy_bytes(&bytes[..], size(start), output, at, count);
+            c[WRITTEN] = at + count;
+            return DONE;
+        }
+    }
+    FULL
 }
+
+// ---- symbols and scalars
 
 // A symbol, or a link where it has a number.
-pub fn write_symbol(
+fn write_symbol(
     nodes: &[u32],
     bytes: &[u8],
     scratch: &mut [u32],
     output: &mut [u8],
     c: &mut [usize; 3],
     v: usize,
-) -> Write
+) -> u32
     requires { ⌜ Ready (λ A. Lent A (now nodes) (now bytes) × IsSymbol A v) (buffers (now scratch) (now output)) (now c) ⌝ }
-    ensures { λ r. ⌜ ((A : Arena) (room : ℕ) → Lent A (now (nodes .entry)) (now (bytes .entry)) → IsSymbol A v → Meets A room (write-name room A v) (buffers (now (scratch .entry)) (now (output .entry))) (now (c .entry)) r (buffers (now (scratch .exit)) (now (output .exit))) (now (c .exit))) ⌝ }
+    ensures { λ r. ⌜ ((A : Arena) (room limit : ℕ) → Lent A (now (nodes .entry)) (now (bytes .entry)) → IsSymbol A v → Meets A room limit (write-name room A v) (buffers (now (scratch .entry)) (now (output .entry))) (now (c .entry)) r (buffers (now (scratch .exit)) (now (output .exit))) (now (c .exit))) ⌝ }
 {
     let seen = scratch[v];
-    if seen == 0 {
-        let number = c[SYMBOLS] + 1;
-        scratch[v] = number as u32;
-        c[SYMBOLS] = number;
-        match write_byte(output, c, ValueKind::SYMBOL) {
-            Write::Done => match write_byte_string(
-                &bytes[..],
-                output,
-                c,
-                nodes[v * 7 + 1],
-                nodes[v * 7 + 2],
-            ) {
-                Write::Done => Write::Done,
-                Write::Refused(r) => Write::Refused(r),
-            },
-            Write::Refused(r) => Write::Refused(r),
-        }
-    } else {
-        match write_tagged(output, c, ValueKind::SYMBOL_LINK, seen - 1) {
-            Write::Done => Write::Done,
-            Write::Refused(r) => Write::Refused(r),
-        }
+    if seen != 0 {
+        return write_tagged(output, c, ValueKind::SYMBOL_LINK, seen - 1);
     }
-}
-
-// A link where node v has a number; else its number, and byte k.
-pub fn open_object(
-    scratch: &mut [u32],
-    output: &mut [u8],
-    c: &mut [usize; 3],
-    v: usize,
-    k: u8,
-) -> Opening
-    requires { ⌜ Ready (λ A. IsObject A v) (buffers (now scratch) (now output)) (now c) ⌝ }
-    ensures { λ r. ⌜ ((A : Arena) (room : ℕ) → IsObject A v → Opens A room (opened room v (k ∷ [])) (buffers (now (scratch .entry)) (now (output .entry))) (now (c .entry)) r (buffers (now (scratch .exit)) (now (output .exit))) (now (c .exit))) ⌝ }
-{
-    let seen = scratch[v];
-    if seen == 0 {
-        let number = c[OBJECTS] + 1;
-        scratch[v] = number as u32;
-        c[OBJECTS] = number;
-        match write_byte(output, c, k) {
-            Write::Done => Opening::Opened,
-            Write::Refused(r) => Opening::Unopened(r),
-        }
-    } else {
-        match write_tagged(output, c, ValueKind::OBJECT_LINK, seen - 1) {
-            Write::Done => Opening::Linked,
-            Write::Refused(r) => Opening::Unopened(r),
-        }
+    let number = c[SYMBOLS] + 1;
+    scratch[v] = number as u32;
+    c[SYMBOLS] = number;
+    let w = write_byte(output, c, ValueKind::SYMBOL);
+    if w != DONE {
+        return w;
     }
-}
-
-// Arrays and hashes: byte k and the count.
-pub fn open_list(
-    scratch: &mut [u32],
-    output: &mut [u8],
-    c: &mut [usize; 3],
-    v: usize,
-    k: u8,
-    n: u32,
-) -> Opening
-    requires { ⌜ Ready (λ A. IsObject A v) (buffers (now scratch) (now output)) (now c) ⌝ }
-    ensures { λ r. ⌜ ((A : Arena) (room : ℕ) → IsObject A v → Opens A room (opened room v (k ∷ integer-bytes n)) (buffers (now (scratch .entry)) (now (output .entry))) (now (c .entry)) r (buffers (now (scratch .exit)) (now (output .exit))) (now (c .exit))) ⌝ }
-{
-    match open_object(scratch, output, c, v, k) {
-        Opening::Linked => Opening::Linked,
-        Opening::Opened => match write_fixnum(output, c, n) {
-            Write::Done => Opening::Opened,
-            Write::Refused(r) => Opening::Unopened(r),
-        },
-        Opening::Unopened(r) => Opening::Unopened(r),
-    }
-}
-
-// An object's byte and its name.
-pub fn open_named(
-    nodes: &[u32],
-    bytes: &[u8],
-    scratch: &mut [u32],
-    output: &mut [u8],
-    c: &mut [usize; 3],
-    v: usize,
-    name: usize,
-) -> Opening
-    requires { ⌜ Ready (λ A. Lent A (now nodes) (now bytes) × IsSymbol A name × IsObject A v) (buffers (now scratch) (now output)) (now c) ⌝ }
-    ensures { λ r. ⌜ ((A : Arena) (room : ℕ) → Lent A (now (nodes .entry)) (now (bytes .entry)) → IsSymbol A name → IsObject A v → Opens A room (opened-name room A v name) (buffers (now (scratch .entry)) (now (output .entry))) (now (c .entry)) r (buffers (now (scratch .exit)) (now (output .exit))) (now (c .exit))) ⌝ }
-{
-    match open_object(scratch, output, c, v, ValueKind::OBJECT) {
-        Opening::Linked => Opening::Linked,
-        Opening::Opened => match write_symbol(&nodes[..], &bytes[..], scratch, output, c, name) {
-            Write::Done => Opening::Opened,
-            Write::Refused(r) => Opening::Unopened(r),
-        },
-        Opening::Unopened(r) => Opening::Unopened(r),
-    }
-}
-
-// Byte k, after `I` and a test of the level where the mark f says that there are variables.
-pub fn open_marked(
-    scratch: &mut [u32],
-    output: &mut [u8],
-    c: &mut [usize; 3],
-    v: usize,
-    k: u8,
-    f: u32,
-    limit: u32,
-    levels: u32,
-) -> Opening
-    requires { ⌜ Ready (λ A. IsObject A v) (buffers (now scratch) (now output)) (now c) ⌝ }
-    ensures { λ r. ⌜ ((A : Arena) (room : ℕ) → IsObject A v → Opens A room (λ rest. write-object-or-link room v (begun room (write-level limit levels) f (write room (k ∷ [])) rest)) (buffers (now (scratch .entry)) (now (output .entry))) (now (c .entry)) r (buffers (now (scratch .exit)) (now (output .exit))) (now (c .exit))) ⌝ }
-{
-    if f == 0 {
-        return match open_object(scratch, output, c, v, k) {
-            Opening::Linked => Opening::Linked,
-            Opening::Opened => Opening::Opened,
-            Opening::Unopened(r) => Opening::Unopened(r),
-        };
-    }
-    match open_object(scratch, output, c, v, ValueKind::INSTANCE_VARIABLES) {
-        Opening::Linked => Opening::Linked,
-        Opening::Opened => {
-            if levels == 0 {
-                return Opening::Unopened(Refusal::TooDeep(limit));
-            }
-            match write_byte(output, c, k) {
-                Write::Done => Opening::Opened,
-                Write::Refused(r) => Opening::Unopened(r),
-            }
-        }
-        Opening::Unopened(r) => Opening::Unopened(r),
-    }
-}
-
-// A string up to its variables.
-pub fn open_string(
-    bytes: &[u8],
-    scratch: &mut [u32],
-    output: &mut [u8],
-    c: &mut [usize; 3],
-    v: usize,
-    start: u32,
-    n: u32,
-    f: u32,
-    limit: u32,
-    levels: u32,
-) -> Opening
-    requires { ⌜ (start + n ≤ length (now bytes)) × Ready (λ A. IsObject A v) (buffers (now scratch) (now output)) (now c) ⌝ }
-    ensures { λ r. ⌜ ((A : Arena) (room : ℕ) → IsObject A v → Opens A room (λ rest. write-object-or-link room v (begun room (write-level limit levels) f (write room (STRING ∷ (integer-bytes n ++ take n (drop start (now (bytes .entry)))))) rest)) (buffers (now (scratch .entry)) (now (output .entry))) (now (c .entry)) r (buffers (now (scratch .exit)) (now (output .exit))) (now (c .exit))) ⌝ }
-{
-    match open_marked(scratch, output, c, v, ValueKind::STRING, f, limit, levels) {
-        Opening::Linked => Opening::Linked,
-        Opening::Opened => match write_byte_string(&bytes[..], output, c, start, n) {
-            Write::Done => Opening::Opened,
-            Write::Refused(r) => Opening::Unopened(r),
-        },
-        Opening::Unopened(r) => Opening::Unopened(r),
-    }
-}
-
-// A user-defined value up to its variables.
-pub fn open_user_defined(
-    nodes: &[u32],
-    bytes: &[u8],
-    scratch: &mut [u32],
-    output: &mut [u8],
-    c: &mut [usize; 3],
-    v: usize,
-    name: usize,
-    start: u32,
-    n: u32,
-    f: u32,
-    limit: u32,
-    levels: u32,
-) -> Opening
-    requires { ⌜ (start + n ≤ length (now bytes)) × Ready (λ A. Lent A (now nodes) (now bytes) × IsSymbol A name × IsObject A v) (buffers (now scratch) (now output)) (now c) ⌝ }
-    ensures { λ r. ⌜ ((A : Arena) (room : ℕ) → Lent A (now (nodes .entry)) (now (bytes .entry)) → IsSymbol A name → IsObject A v → Opens A room (λ rest. write-object-or-link room v (begun room (write-level limit levels) f (user-defined room A name (integer-bytes n ++ take n (drop start (now (bytes .entry))))) rest)) (buffers (now (scratch .entry)) (now (output .entry))) (now (c .entry)) r (buffers (now (scratch .exit)) (now (output .exit))) (now (c .exit))) ⌝ }
-{
-    match open_marked(
-        scratch,
-        output,
-        c,
-        v,
-        ValueKind::USER_DEFINED,
-        f,
-        limit,
-        levels,
-    ) {
-        Opening::Linked => Opening::Linked,
-        Opening::Opened => match write_symbol(&nodes[..], &bytes[..], scratch, output, c, name) {
-            Write::Done => match write_byte_string(&bytes[..], output, c, start, n) {
-                Write::Done => Opening::Opened,
-                Write::Refused(r) => Opening::Unopened(r),
-            },
-            Write::Refused(r) => Opening::Unopened(r),
-        },
-        Opening::Unopened(r) => Opening::Unopened(r),
-    }
+    write_byte_string(&bytes[..], output, c, nodes[v * 7 + 1], nodes[v * 7 + 2])
 }
 
 // nil, a bool, an integer or a symbol.
-pub fn write_scalar(
+fn write_scalar(
     nodes: &[u32],
     bytes: &[u8],
     scratch: &mut [u32],
     output: &mut [u8],
     c: &mut [usize; 3],
     v: usize,
-) -> Write
+) -> u32
     requires { ⌜ Ready (λ A. Lent A (now nodes) (now bytes) × (v < length (A .nodes))) (buffers (now scratch) (now output)) (now c) ⌝ }
-    ensures { λ r. ⌜ ((A : Arena) (room : ℕ) (level : Writer) (inner : ℕ → Writer) → Lent A (now (nodes .entry)) (now (bytes .entry)) → v < length (A .nodes) → kind (node A v) ≤ 3 → Meets A room (write-row room A level inner v (node A v)) (buffers (now (scratch .entry)) (now (output .entry))) (now (c .entry)) r (buffers (now (scratch .exit)) (now (output .exit))) (now (c .exit))) ⌝ }
+    ensures { λ r. ⌜ ((A : Arena) (room limit : ℕ) (level : Writer) (inner : ℕ → Writer) → Lent A (now (nodes .entry)) (now (bytes .entry)) → v < length (A .nodes) → kind (node A v) ≤ 3 → Meets A room limit (write-row room A level inner v (node A v)) (buffers (now (scratch .entry)) (now (output .entry))) (now (c .entry)) r (buffers (now (scratch .exit)) (now (output .exit))) (now (c .exit))) ⌝ }
 {
     match nodes[v * 7] {
-        2 => match write_tagged(output, c, ValueKind::FIXNUM, nodes[v * 7 + 1]) {
-            Write::Done => Write::Done,
-            Write::Refused(r) => Write::Refused(r),
-        },
-        3 => match write_symbol(&nodes[..], &bytes[..], scratch, output, c, v) {
-            Write::Done => Write::Done,
-            Write::Refused(r) => Write::Refused(r),
-        },
+        2 => write_tagged(output, c, ValueKind::FIXNUM, nodes[v * 7 + 1]),
+        3 => write_symbol(&nodes[..], &bytes[..], scratch, output, c, v),
         1 => {
             let k = if nodes[v * 7 + 1] == 1 {
                 ValueKind::TRUE
             } else {
                 ValueKind::FALSE
             };
-            match write_byte(output, c, k) {
-                Write::Done => Write::Done,
-                Write::Refused(r) => Write::Refused(r),
-            }
+            write_byte(output, c, k)
         }
-        _ => match write_byte(output, c, ValueKind::NIL) {
-            Write::Done => Write::Done,
-            Write::Refused(r) => Write::Refused(r),
-        },
+        _ => write_byte(output, c, ValueKind::NIL),
     }
 }
 
-// A value up to its members; `levels` are those left for them.
-pub fn write_head(
+// Node v from byte `at` on, where it is an integer or a symbol with a number and six bytes are free: the place after it, else 0.
+fn write_short(nodes: &[u32], scratch: &[u32], output: &mut [u8], at: usize, v: usize) -> usize
+    requires { ⌜ (v * 7 + 7 ≤ length (now nodes)) × (v < length (now scratch)) ⌝ }
+    ensures { λ r. ⌜ ((A : Arena) (room limit levels : ℕ) (counts : List ℕ) → Noded A (now (nodes .entry)) → v < length (A .nodes) → getD counts 0 0 ≡ at → Shorts A room (write-value room A limit (suc levels) v) (now (scratch .entry)) (now (output .entry)) counts r (now (output .exit))) ⌝ }
+{
+    if output.len() < 6 {
+        return 0;
+    }
+    if output.len() - 6 < at {
+        return 0;
+    }
+    let k = nodes[v * 7];
+    if k == 2 {
+        return store_tagged(output, at, ValueKind::FIXNUM, nodes[v * 7 + 1]);
+    }
+    if k != 3 {
+        return 0;
+    }
+    let seen = scratch[v];
+    if seen == 0 {
+        return 0;
+    }
+    store_tagged(output, at, ValueKind::SYMBOL_LINK, seen - 1)
+}
+
+// Integers and links to symbols among the n values from reference `start` on, as far as they come one after the other: how many.
+pub fn write_shorts(
     nodes: &[u32],
+    references: &[u32],
+    scratch: &[u32],
+    output: &mut [u8],
+    c: &mut [usize; 3],
+    start: usize,
+    n: usize,
+) -> usize
+    requires { ⌜ Ready (λ A. Noded A (now nodes) × Listed A (now references) × ListIn A start n) (buffers (now scratch) (now output)) (now c) ⌝ }
+    ensures { λ r. ⌜ r ≤ n ⌝ }
+    ensures { λ r. ⌜ ((A : Arena) (room limit levels : ℕ) → Noded A (now (nodes .entry)) → Listed A (now (references .entry)) → ListIn A start n → Goes A room (write-elements (write-value room A limit (suc levels)) (range (A .references) start n)) (buffers (now (scratch .entry)) (now (output .entry))) (now (c .entry)) (write-elements (write-value room A limit (suc levels)) (range (A .references) (start + r) (n - r))) (buffers (now (scratch .entry)) (now (output .exit))) (now (c .exit))) ⌝ }
+{
+    let mut at = c[WRITTEN];
+    let mut i = 0;
+    while i < n {
+        let p = write_short(
+            &nodes[..],
+            &scratch[..],
+            output,
+            at,
+            size(references[start + i]),
+        );
+        if p == 0 {
+            c[WRITTEN] = at;
+            return i;
+        }
+        at = p;
+        i = i + 1;
+    }
+    c[WRITTEN] = at;
+    i
+}
+
+// ---- values up to their members
+
+// A link where node v has a number; else its number, and byte k.
+fn open_object(scratch: &mut [u32], output: &mut [u8], c: &mut [usize; 3], v: usize, k: u8) -> u32
+    requires { ⌜ Ready (λ A. IsObject A v) (buffers (now scratch) (now output)) (now c) ⌝ }
+    ensures { λ r. ⌜ ((A : Arena) (room limit : ℕ) → IsObject A v → Opens A room limit (opened room v (k ∷ [])) (buffers (now (scratch .entry)) (now (output .entry))) (now (c .entry)) r (buffers (now (scratch .exit)) (now (output .exit))) (now (c .exit))) ⌝ }
+{
+    let seen = scratch[v];
+    if seen == 0 {
+        let number = c[OBJECTS] + 1;
+        scratch[v] = number as u32;
+        c[OBJECTS] = number;
+        return write_byte(output, c, k);
+    }
+    let w = write_tagged(output, c, ValueKind::OBJECT_LINK, seen - 1);
+    if w != DONE {
+        return w;
+    }
+    WHOLE
+}
+
+// Arrays and hashes: byte k and the count.
+fn open_list(
+    scratch: &mut [u32],
+    output: &mut [u8],
+    c: &mut [usize; 3],
+    v: usize,
+    k: u8,
+    n: u32,
+) -> u32
+    requires { ⌜ Ready (λ A. IsObject A v) (buffers (now scratch) (now output)) (now c) ⌝ }
+    ensures { λ r. ⌜ ((A : Arena) (room limit : ℕ) → IsObject A v → Opens A room limit (opened room v (k ∷ integer-bytes n)) (buffers (now (scratch .entry)) (now (output .entry))) (now (c .entry)) r (buffers (now (scratch .exit)) (now (output .exit))) (now (c .exit))) ⌝ }
+{
+    let w = open_object(scratch, output, c, v, k);
+    if w != DONE {
+        return w;
+    }
+    write_fixnum(output, c, n)
+}
+
+// Byte k, after `I` and a test of the level where the mark f says that there are variables.
+fn open_marked(
+    scratch: &mut [u32],
+    output: &mut [u8],
+    c: &mut [usize; 3],
+    v: usize,
+    k: u8,
+    f: u32,
+    levels: u32,
+) -> u32
+    requires { ⌜ Ready (λ A. IsObject A v) (buffers (now scratch) (now output)) (now c) ⌝ }
+    ensures { λ r. ⌜ ((A : Arena) (room limit : ℕ) → IsObject A v → Opens A room limit (λ rest. write-object-or-link room v (begun room (write-level limit levels) f (write room (k ∷ [])) rest)) (buffers (now (scratch .entry)) (now (output .entry))) (now (c .entry)) r (buffers (now (scratch .exit)) (now (output .exit))) (now (c .exit))) ⌝ }
+{
+    if f == 0 {
+        return open_object(scratch, output, c, v, k);
+    }
+    let w = open_object(scratch, output, c, v, ValueKind::INSTANCE_VARIABLES);
+    if w != DONE {
+        return w;
+    }
+    if levels == 0 {
+        return DEEP;
+    }
+    write_byte(output, c, k)
+}
+
+// The number of pairs. A pair's words are a name and a value, so the pairs are then written as elements; but names have no
+// level: where none is left for the first value, its name still comes before the refusal.
+fn open_variables(
+    nodes: &[u32],
+    references: &[u32],
+    bytes: &[u8],
+    scratch: &mut [u32],
+    output: &mut [u8],
+    c: &mut [usize; 3],
+    start: u32,
+    n: u32,
+    levels: u32,
+) -> u32
+    requires { ⌜ Ready (λ A. Lent A (now nodes) (now bytes) × Listed A (now references) × PairsIn A start n) (buffers (now scratch) (now output)) (now c) ⌝ }
+    ensures { λ r. ⌜ ((A : Arena) (room limit : ℕ) → Lent A (now (nodes .entry)) (now (bytes .entry)) → Listed A (now (references .entry)) → PairsIn A start n → Leads A room limit (write-instance-variables room A (write-value room A limit levels) start n) (write-elements (write-value room A limit levels) (range (A .references) start (n * 2))) (buffers (now (scratch .entry)) (now (output .entry))) (now (c .entry)) r (buffers (now (scratch .exit)) (now (output .exit))) (now (c .exit))) ⌝ }
+{
+    let w = write_fixnum(output, c, n);
+    if w != DONE {
+        return w;
+    }
+    if levels != 0 {
+        return DONE;
+    }
+    if n == 0 {
+        return DONE;
+    }
+    let s = write_symbol(
+        &nodes[..],
+        &bytes[..],
+        scratch,
+        output,
+        c,
+        size(references[size(start)]),
+    );
+    if s != DONE {
+        return s;
+    }
+    DEEP
+}
+
+// An object: its byte, its name, the number of its variables.
+fn open_named(
+    nodes: &[u32],
+    references: &[u32],
     bytes: &[u8],
     scratch: &mut [u32],
     output: &mut [u8],
     c: &mut [usize; 3],
     v: usize,
-    limit: u32,
     levels: u32,
-) -> Head
-    requires { ⌜ Ready (λ A. Lent A (now nodes) (now bytes) × (v < length (A .nodes))) (buffers (now scratch) (now output)) (now c) ⌝ }
-    ensures { λ r. ⌜ ((A : Arena) (room : ℕ) → Lent A (now (nodes .entry)) (now (bytes .entry)) → v < length (A .nodes) → Heads A room (λ inner. write-row room A (write-level limit levels) inner v (node A v)) (buffers (now (scratch .entry)) (now (output .entry))) (now (c .entry)) r (buffers (now (scratch .exit)) (now (output .exit))) (now (c .exit))) ⌝ }
+) -> u32
+    requires { ⌜ (getD (now nodes) (v * 7) 0 ≡ 6) × Ready (λ A. Lent A (now nodes) (now bytes) × Listed A (now references) × (v < length (A .nodes))) (buffers (now scratch) (now output)) (now c) ⌝ }
+    ensures { λ r. ⌜ ((A : Arena) (room limit : ℕ) → Lent A (now (nodes .entry)) (now (bytes .entry)) → Listed A (now (references .entry)) → v < length (A .nodes) → Heads A room limit (write-row room A (write-level limit levels) (write-value room A limit levels) v (node A v)) (members-of room A (write-value room A limit levels) 6 (getD (now (nodes .entry)) (v * 7 + 3) 0) (getD (now (nodes .entry)) (v * 7 + 4) 0) (getD (now (nodes .entry)) (v * 7 + 6) 0)) (buffers (now (scratch .entry)) (now (output .entry))) (now (c .entry)) r (buffers (now (scratch .exit)) (now (output .exit))) (now (c .exit))) ⌝ }
+    ensures { λ r. ⌜ ((A : Arena) → Lent A (now (nodes .entry)) (now (bytes .entry)) → v < length (A .nodes) → r ≡ 0 → MembersIn A (now (nodes .entry)) v) ⌝ }
 {
-    let at = v * 7;
-    match nodes[at] {
-        4 => {
-            let n = nodes[at + 4];
-            match open_list(scratch, output, c, v, ValueKind::ARRAY, n) {
-                Opening::Linked => Head::Whole,
-                Opening::Opened => Head::Elements(size(nodes[at + 3]), size(n), 0),
-                Opening::Unopened(r) => Head::Unwritten(r),
-            }
-        }
+    let w = open_object(scratch, output, c, v, ValueKind::OBJECT);
+    if w != DONE {
+        return w;
+    }
+    let s = write_symbol(
+        &nodes[..],
+        &bytes[..],
+        scratch,
+        output,
+        c,
+        size(nodes[v * 7 + 5]),
+    );
+    if s != DONE {
+        return s;
+    }
+    open_variables(
+        &nodes[..],
+        &references[..],
+        &bytes[..],
+        scratch,
+        output,
+        c,
+        nodes[v * 7 + 3],
+        nodes[v * 7 + 4],
+        levels,
+    )
+}
+
+// A string, and the number of its variables where it has a list.
+fn open_string(
+    nodes: &[u32],
+    references: &[u32],
+    bytes: &[u8],
+    scratch: &mut [u32],
+    output: &mut [u8],
+    c: &mut [usize; 3],
+    v: usize,
+    levels: u32,
+) -> u32
+    requires { ⌜ (getD (now nodes) (v * 7) 0 ≡ 7) × Ready (λ A. Lent A (now nodes) (now bytes) × Listed A (now references) × (v < length (A .nodes))) (buffers (now scratch) (now output)) (now c) ⌝ }
+    ensures { λ r. ⌜ ((A : Arena) (room limit : ℕ) → Lent A (now (nodes .entry)) (now (bytes .entry)) → Listed A (now (references .entry)) → v < length (A .nodes) → Heads A room limit (write-row room A (write-level limit levels) (write-value room A limit levels) v (node A v)) (members-of room A (write-value room A limit levels) 7 (getD (now (nodes .entry)) (v * 7 + 3) 0) (getD (now (nodes .entry)) (v * 7 + 4) 0) (getD (now (nodes .entry)) (v * 7 + 6) 0)) (buffers (now (scratch .entry)) (now (output .entry))) (now (c .entry)) r (buffers (now (scratch .exit)) (now (output .exit))) (now (c .exit))) ⌝ }
+    ensures { λ r. ⌜ ((A : Arena) → Lent A (now (nodes .entry)) (now (bytes .entry)) → v < length (A .nodes) → r ≡ 0 → MembersIn A (now (nodes .entry)) v) ⌝ }
+{
+    let f = nodes[v * 7 + 6];
+    let w = open_marked(scratch, output, c, v, ValueKind::STRING, f, levels);
+    if w != DONE {
+        return w;
+    }
+    let s = write_byte_string(&bytes[..], output, c, nodes[v * 7 + 1], nodes[v * 7 + 2]);
+    if s != DONE {
+        return s;
+    }
+    if f == 0 {
+        return WHOLE;
+    }
+    open_variables(
+        &nodes[..],
+        &references[..],
+        &bytes[..],
+        scratch,
+        output,
+        c,
+        nodes[v * 7 + 3],
+        nodes[v * 7 + 4],
+        levels,
+    )
+}
+
+// A user-defined value, likewise.
+fn open_user_defined(
+    nodes: &[u32],
+    references: &[u32],
+    bytes: &[u8],
+    scratch: &mut [u32],
+    output: &mut [u8],
+    c: &mut [usize; 3],
+    v: usize,
+    levels: u32,
+) -> u32
+    requires { ⌜ (getD (now nodes) (v * 7) 0 ≡ 8) × Ready (λ A. Lent A (now nodes) (now bytes) × Listed A (now references) × (v < length (A .nodes))) (buffers (now scratch) (now output)) (now c) ⌝ }
+    ensures { λ r. ⌜ ((A : Arena) (room limit : ℕ) → Lent A (now (nodes .entry)) (now (bytes .entry)) → Listed A (now (references .entry)) → v < length (A .nodes) → Heads A room limit (write-row room A (write-level limit levels) (write-value room A limit levels) v (node A v)) (members-of room A (write-value room A limit levels) 8 (getD (now (nodes .entry)) (v * 7 + 3) 0) (getD (now (nodes .entry)) (v * 7 + 4) 0) (getD (now (nodes .entry)) (v * 7 + 6) 0)) (buffers (now (scratch .entry)) (now (output .entry))) (now (c .entry)) r (buffers (now (scratch .exit)) (now (output .exit))) (now (c .exit))) ⌝ }
+    ensures { λ r. ⌜ ((A : Arena) → Lent A (now (nodes .entry)) (now (bytes .entry)) → v < length (A .nodes) → r ≡ 0 → MembersIn A (now (nodes .entry)) v) ⌝ }
+{
+    let f = nodes[v * 7 + 6];
+    let w = open_marked(scratch, output, c, v, ValueKind::USER_DEFINED, f, levels);
+    if w != DONE {
+        return w;
+    }
+    let x = write_symbol(
+        &nodes[..],
+        &bytes[..],
+        scratch,
+        output,
+        c,
+        size(nodes[v * 7 + 5]),
+    );
+    if x != DONE {
+        return x;
+    }
+    let s = write_byte_string(&bytes[..], output, c, nodes[v * 7 + 1], nodes[v * 7 + 2]);
+    if s != DONE {
+        return s;
+    }
+    if f == 0 {
+        return WHOLE;
+    }
+    open_variables(
+        &nodes[..],
+        &references[..],
+        &bytes[..],
+        scratch,
+        output,
+        c,
+        nodes[v * 7 + 3],
+        nodes[v * 7 + 4],
+        levels,
+    )
+}
+
+// A value up to its members; `levels` are those left for them.
+pub fn open_value(
+    nodes: &[u32],
+    references: &[u32],
+    bytes: &[u8],
+    scratch: &mut [u32],
+    output: &mut [u8],
+    c: &mut [usize; 3],
+    v: usize,
+    levels: u32,
+) -> u32
+    requires { ⌜ Ready (λ A. Lent A (now nodes) (now bytes) × Listed A (now references) × (v < length (A .nodes))) (buffers (now scratch) (now output)) (now c) ⌝ }
+    ensures { λ r. ⌜ ((A : Arena) (room limit : ℕ) → Lent A (now (nodes .entry)) (now (bytes .entry)) → Listed A (now (references .entry)) → v < length (A .nodes) → Heads A room limit (write-row room A (write-level limit levels) (write-value room A limit levels) v (node A v)) (members-of room A (write-value room A limit levels) (getD (now (nodes .entry)) (v * 7) 0) (getD (now (nodes .entry)) (v * 7 + 3) 0) (getD (now (nodes .entry)) (v * 7 + 4) 0) (getD (now (nodes .entry)) (v * 7 + 6) 0)) (buffers (now (scratch .entry)) (now (output .entry))) (now (c .entry)) r (buffers (now (scratch .exit)) (now (output .exit))) (now (c .exit))) ⌝ }
+    ensures { λ r. ⌜ ((A : Arena) → Lent A (now (nodes .entry)) (now (bytes .entry)) → v < length (A .nodes) → r ≡ 0 → MembersIn A (now (nodes .entry)) v) ⌝ }
+{
+    match nodes[v * 7] {
+        4 => open_list(scratch, output, c, v, ValueKind::ARRAY, nodes[v * 7 + 4]),
         5 => {
-            let n = nodes[at + 4];
-            let d = nodes[at + 6];
-            let k = if d == 0 {
+            let k = if nodes[v * 7 + 6] == 0 {
                 ValueKind::HASH
             } else {
                 ValueKind::HASH_DEFAULT
             };
-            match open_list(scratch, output, c, v, k, n) {
-                Opening::Linked => Head::Whole,
-                Opening::Opened => Head::Elements(size(nodes[at + 3]), size(n) * 2, d),
-                Opening::Unopened(r) => Head::Unwritten(r),
-            }
+            open_list(scratch, output, c, v, k, nodes[v * 7 + 4])
         }
-        6 => match open_named(
+        6 => open_named(
             &nodes[..],
+            &references[..],
             &bytes[..],
             scratch,
             output,
             c,
             v,
-            size(nodes[at + 5]),
-        ) {
-            Opening::Linked => Head::Whole,
-            Opening::Opened => Head::Variables(size(nodes[at + 3]), nodes[at + 4]),
-            Opening::Unopened(r) => Head::Unwritten(r),
-        },
-        7 => {
-            let f = nodes[at + 6];
-            match open_string(
-                &bytes[..],
-                scratch,
-                output,
-                c,
-                v,
-                nodes[at + 1],
-                nodes[at + 2],
-                f,
-                limit,
-                levels,
-            ) {
-                Opening::Linked => Head::Whole,
-                Opening::Opened => {
-                    if f == 0 {
-                        return Head::Whole;
-                    }
-                    Head::Variables(size(nodes[at + 3]), nodes[at + 4])
-                }
-                Opening::Unopened(r) => Head::Unwritten(r),
+            levels,
+        ),
+        7 => open_string(
+            &nodes[..],
+            &references[..],
+            &bytes[..],
+            scratch,
+            output,
+            c,
+            v,
+            levels,
+        ),
+        8 => open_user_defined(
+            &nodes[..],
+            &references[..],
+            &bytes[..],
+            scratch,
+            output,
+            c,
+            v,
+            levels,
+        ),
+        _ => {
+            let w = write_scalar(&nodes[..], &bytes[..], scratch, output, c, v);
+            if w != DONE {
+                return w;
             }
+            WHOLE
         }
-        8 => {
-            let f = nodes[at + 6];
-            match open_user_defined(
-                &nodes[..],
-                &bytes[..],
-                scratch,
-                output,
-                c,
-                v,
-                size(nodes[at + 5]),
-                nodes[at + 1],
-                nodes[at + 2],
-                f,
-                limit,
-                levels,
-            ) {
-                Opening::Linked => Head::Whole,
-                Opening::Opened => {
-                    if f == 0 {
-                        return Head::Whole;
-                    }
-                    Head::Variables(size(nodes[at + 3]), nodes[at + 4])
-                }
-                Opening::Unopened(r) => Head::Unwritten(r),
-            }
-        }
-        _ => match write_scalar(&nodes[..], &bytes[..], scratch, output, c, v) {
-            Write::Done => Head::Whole,
-            Write::Refused(r) => Head::Unwritten(r),
-        },
     }
+}
+
+// How many words a list of n elements or pairs has, by the kind.
+pub fn list_words(k: u32, n: u32) -> usize
+    ensures { λ r. ⌜ r ≡ listed k n ⌝ }
+{
+    if k == 4 { size(n) } else { size(n) * 2 }
 }
 
 // BAD-TABLES: the lowest wrong slice's number, or 0.

@@ -1,5 +1,4 @@
 -- Graphs, the forests that describe them, and building.
-pub mod Lists
 pub mod Sums
 pub mod Forest
 pub mod Describe

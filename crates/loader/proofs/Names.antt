@@ -267,6 +267,19 @@ same-cons : (X Y : List ℕ) (i : ℕ) → i < length X → i < length Y → equ
 unfolding equal
 same-cons X Y i l m = ap (λ (a : List ℕ). equal a (drop i Y)) (drop-cons X i 0 l) ∙ ap (λ (b : List ℕ). equal (getD X i 0 ∷ drop (suc i) X) b) (drop-cons Y i 0 m)
 
+never : (t : Bool) → pick t false false ≡ false
+unfolding pick
+never true = refl
+never false = refl
+
+-- a byte differs
+same-apart : (X Y : List ℕ) (i : ℕ) → i < length X → i < length Y → (getD X i 0 ≡ getD Y i 0 → ⊥) → equal X Y ≡ false
+unfolding equal pick
+same-apart [] Y i l m e = absurd (omega (arith, l))
+same-apart (a ∷ X) [] i l m e = absurd (omega (arith, m))
+same-apart (a ∷ X) (b ∷ Y) zero l m e = rw (ne-eqb a b e) refl
+same-apart (a ∷ X) (b ∷ Y) (suc i) l m e = ap (λ (t : Bool). pick (eqb a b) t false) (same-apart X Y i (omega (arith, l)) (omega (arith, m)) e) ∙ never (eqb a b)
+
 module _ (input bytes : List ℕ) (from to n i : ℕ) (a : from + n ≤ length input) (b : to + n ≤ length bytes) where
   abbrev lhs : List ℕ
   lhs = take n (drop from input)
@@ -294,6 +307,12 @@ module _ (input bytes : List ℕ) (from to n i : ℕ) (a : from + n ≤ length i
   unfolding pick
   same-not l e p = sym (p ∙ turn l ∙ ap (λ (t : Bool). pick t (equal (drop (suc i) lhs) (drop (suc i) rhs)) false) (ne-eqb _ _ e))
 
+  pub same-apart-at : i < n → (getD input (from + i) 0 ≡ getD bytes (to + i) 0 → ⊥) → false ≡ equal lhs rhs
+  same-apart-at l e =
+      let x : i < length lhs = simp (length-take, length-drop) (omega arith) in
+      let y : i < length rhs = simp (length-take, length-drop) (omega arith) in
+      sym (same-apart lhs rhs i x y (λ q. e (sym (at-lhs l) ∙ q ∙ at-rhs l)))
+
   pub same-all : n ≤ i → equal lhs rhs ≡ equal (drop i lhs) (drop i rhs) → true ≡ equal lhs rhs
   unfolding equal
   same-all l p =
@@ -307,8 +326,4 @@ unfolding equal pick
 same-length [] [] n = absurd (n refl)
 same-length [] (b ∷ Y) n = refl
 same-length (a ∷ X) [] n = refl
-same-length (a ∷ X) (b ∷ Y) n = ap (λ (t : Bool). pick (eqb a b) t false) (same-length X Y (λ e. n (ap suc e))) ∙ both (eqb a b)
-  where
-    both : (t : Bool) → pick t false false ≡ false
-    both true = refl
-    both false = refl
+same-length (a ∷ X) (b ∷ Y) n = ap (λ (t : Bool). pick (eqb a b) t false) (same-length X Y (λ e. n (ap suc e))) ∙ never (eqb a b)

@@ -273,7 +273,7 @@ fn add_bytes(input: &[u8], bytes: &mut [u8], c: &mut [usize; 6], n: u32) -> Read
     }
 }
 
-pub fn read_object_link(input: &[u8], objects: &[u32], c: &mut [usize; 6]) -> Read
+fn read_object_link(input: &[u8], objects: &[u32], c: &mut [usize; 6]) -> Read
     requires { ⌜ ((no : List ℕ) × (re : List ℕ) × (by : List ℕ) × (sy : List ℕ) × Held (now input) (lists no re by sy (now objects)) (now c)) ⌝ }
     ensures { λ r. ⌜ ((room : Room) (no re by sy : List ℕ) → Meets (now (input .entry)) room (read-object-link (now (input .entry))) (lists no re by sy (now (objects .entry))) (now (c .entry)) r (lists no re by sy (now (objects .entry))) (now (c .exit))) ⌝ }
     ensures { λ r. ⌜ Below (now (c .exit)) r ⌝ }
@@ -292,7 +292,7 @@ pub fn read_object_link(input: &[u8], objects: &[u32], c: &mut [usize; 6]) -> Re
     }
 }
 
-pub fn read_symbol_link(input: &[u8], symbols: &[u32], c: &mut [usize; 6]) -> Read
+fn read_symbol_link(input: &[u8], symbols: &[u32], c: &mut [usize; 6]) -> Read
     requires { ⌜ ((no : List ℕ) × (re : List ℕ) × (by : List ℕ) × (ob : List ℕ) × Held (now input) (lists no re by (now symbols) ob) (now c)) ⌝ }
     ensures { λ r. ⌜ ((room : Room) (no re by ob : List ℕ) → Meets (now (input .entry)) room (read-symbol-link (now (input .entry))) (lists no re by (now (symbols .entry)) ob) (now (c .entry)) r (lists no re by (now (symbols .entry)) ob) (now (c .exit))) ⌝ }
     ensures { λ r. ⌜ Below (now (c .exit)) r ⌝ }
@@ -311,7 +311,7 @@ pub fn read_symbol_link(input: &[u8], symbols: &[u32], c: &mut [usize; 6]) -> Re
     }
 }
 
-pub fn read_fixnum(input: &[u8], nodes: &mut [u32], c: &mut [usize; 6]) -> Read
+fn read_fixnum(input: &[u8], nodes: &mut [u32], c: &mut [usize; 6]) -> Read
     requires { ⌜ ((re : List ℕ) × (by : List ℕ) × (sy : List ℕ) × (ob : List ℕ) × Held (now input) (lists (now nodes) re by sy ob) (now c)) ⌝ }
     ensures { λ r. ⌜ ((room : Room) (re by sy ob : List ℕ) → Meets (now (input .entry)) room (read-fixnum (now (input .entry)) room) (lists (now (nodes .entry)) re by sy ob) (now (c .entry)) r (lists (now (nodes .exit)) re by sy ob) (now (c .exit))) ⌝ }
     ensures { λ r. ⌜ Below (now (c .exit)) r ⌝ }
@@ -351,10 +351,16 @@ fn read_text(
     }
 }
 
+// The last byte first: names of one length mostly differ at their end.
 fn same_bytes(input: &[u8], from: usize, bytes: &[u8], to: usize, n: usize) -> bool
     requires { ⌜ (from + n ≤ length (now input)) × (to + n ≤ length (now bytes)) ⌝ }
     ensures { λ r. ⌜ r ≡ equal (take n (drop from (now (input .entry)))) (take n (drop to (now (bytes .entry)))) ⌝ }
 {
+    if 0 < n {
+        if input[from + (n - 1)] != bytes[to + (n - 1)] {
+            return false;
+        }
+    }
     let mut i = 0;
     while i < n {
         if input[from + i] != bytes[to + i] {
@@ -447,7 +453,7 @@ fn new_symbol(
     }
 }
 
-pub fn read_symbol(
+fn read_symbol(
     input: &[u8],
     nodes: &mut [u32],
     bytes: &mut [u8],

@@ -6,3 +6,4 @@ pub mod Loaded
 pub mod Graphs
 pub mod Print
 pub mod Equal
+pub mod Called

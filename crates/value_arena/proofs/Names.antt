@@ -21,6 +21,7 @@ use Rattle.lists.specs.Ranges.{length-range, range-step, range-end}
 use Rattle.lists.specs.Tables.{length-rows, rows-at}
 use Rattle.arena_check.proofs.Lists.{kind-three}
 use Rattle.arena_check.proofs.Rights.{node-words, range-take}
+use Rattle.graph.specs.View.{at-node}
 use Rattle.dump_forest.specs.Right as R
 use Rattle.value_arena.specs.Calls.{SymbolsIn}
 use Rattle.value_arena.proofs.Tests.{no-refusal, one-right, one-wrong}
@@ -156,7 +157,7 @@ symbols-in L ts e i s l q = go (decLt i (length (held L .nodes)))
     past h = out (held L) i h
 
     go : Dec (i < length (held L .nodes)) → s + l ≤ length (held L .bytes)
-    go (yes h) = R.fault-right (L .tables) (L .counts) (fault-free L ts e) .rows-right i (symbol s l) (R.at-node (held L) i h ∙ ap some q)
+    go (yes h) = R.fault-right (L .tables) (L .counts) (fault-free L ts e) .rows-right i (symbol s l) (at-node (held L) i h ∙ ap some q)
     go (no h) = let z : _≡_ {A = ℕ} 0 3 = kinds (sym (past (omega arith)) ∙ q) in absurd (omega arith)
 
 -- ---- slices

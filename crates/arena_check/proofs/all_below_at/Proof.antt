@@ -1,3 +1,4 @@
+-- The proof of all_below_at.
 use borrow.Author.Needs.{needs}
 use native.Mathlib.Omega.{arith}
 use Prim.Native.Nat.{_-_, _≤_}
@@ -16,48 +17,38 @@ abbrev μ-loop : tie.MeasureT-loop
 μ-loop references start n count i₀ i =
     n - i
 
--- src/lib.rt:95:5
 loop-holds : tie.Need-loop-holds Inv-loop μ-loop
 loop-holds c =
     (omega arith, refl)
 
--- src/lib.rt:96:33
 add-size : tie.Need-add-size Inv-loop μ-loop
 add-size c = search needs
 
--- src/lib.rt:96:22
 mul-size : tie.Need-mul-size Inv-loop μ-loop
 mul-size c = search needs
 
--- src/lib.rt:96:22
 shared-slice-read-size : tie.Need-shared-slice-read-size Inv-loop μ-loop
 shared-slice-read-size c = search needs
 
--- src/lib.rt:96:13
 size-requires : tie.Need-size-requires Inv-loop μ-loop
 size-requires c κs = search needs
 
--- src/lib.rt:98:17
 add-i : tie.Need-add-i Inv-loop μ-loop
 add-i c = search needs
 
--- src/lib.rt:95:5
 loop-less : tie.Need-loop-less Inv-loop μ-loop
 loop-less c = search needs
 
--- src/lib.rt:95:5
 loop-again : tie.Need-loop-again Inv-loop μ-loop
 loop-again c =
     let a = c .before .before .before .before .before .before .args in
     (omega (arith, c .before .before .before .loop-test .taken), c .before .before .before .before .loop .inv .1 ∙ below-on (a .references .now) (a .start) (a .n) (a .count) (c .before .before .before .before .loop .i) (c .before .before .before .before .before .before .pre) (c .before .before .before .loop-test .taken) (rw (c .before .size .ensures) at (c .if1 .taken)))
 
--- src/lib.rt:100:13
 returns : tie.Need-returns Inv-loop μ-loop
 returns c =
     let a = c .before .before .before .before .before .before .args in
     below-not (a .references .now) (a .start) (a .n) (a .count) (c .before .before .before .before .loop .i) (c .before .before .before .before .before .before .pre) (c .before .before .before .loop-test .taken) (rw (c .before .size .ensures) at (c .if1 .left)) ∙ sym (c .before .before .before .before .loop .inv .1)
 
--- src/lib.rt:90:1
 returns-2 : tie.Need-returns-2 Inv-loop μ-loop
 returns-2 c =
     let a = c .before .before .before .args in

@@ -1,3 +1,4 @@
+-- The proof of all_names_at.
 use borrow.Author.Needs.{needs}
 use native.Mathlib.Omega.{arith}
 use Prim.Native.Nat.{_-_, _*_, _≤_}
@@ -17,52 +18,41 @@ abbrev μ-loop : tie.MeasureT-loop
 μ-loop nodes count references start n i₀ i =
     n - i
 
--- src/lib.rt:112:5
 loop-holds : tie.Need-loop-holds Inv-loop μ-loop
 loop-holds c =
     (omega arith, λ A e. refl)
 
--- src/lib.rt:113:61
 mul-is-name-at : tie.Need-mul-is-name-at Inv-loop μ-loop
 mul-is-name-at c = search needs
 
--- src/lib.rt:113:53
 add-is-name-at : tie.Need-add-is-name-at Inv-loop μ-loop
 add-is-name-at c = search needs
 
--- src/lib.rt:113:42
 mul-is-name-at-2 : tie.Need-mul-is-name-at-2 Inv-loop μ-loop
 mul-is-name-at-2 c = search needs
 
--- src/lib.rt:113:42
 shared-slice-read-is-name-at : tie.Need-shared-slice-read-is-name-at Inv-loop μ-loop
 shared-slice-read-is-name-at c = search needs
 
--- src/lib.rt:113:12
 is-name-at-requires : tie.Need-is-name-at-requires Inv-loop μ-loop
 is-name-at-requires c κs = search needs
 
--- src/lib.rt:114:17
 add-i : tie.Need-add-i Inv-loop μ-loop
 add-i c = search needs
 
--- src/lib.rt:112:5
 loop-less : tie.Need-loop-less Inv-loop μ-loop
 loop-less c = search needs
 
--- src/lib.rt:112:5
 loop-again : tie.Need-loop-again Inv-loop μ-loop
 loop-again c =
     let a = c .before .before .before .before .before .before .before .args in
     (omega (arith, c .before .before .before .loop-test .taken), λ A e. c .before .before .before .before .loop .inv .1 A e ∙ names-on A (a .references .now) (a .start) (a .n) (c .before .before .before .before .loop .i) (c .before .before .before .before .before .before .before .pre .1) (c .before .before .before .loop-test .taken) (sym (c .if1 .taken) ∙ c .before .is-name-at .ensures A e))
 
--- src/lib.rt:116:13
 returns : tie.Need-returns Inv-loop μ-loop
 returns c =
     let a = c .before .before .before .before .before .before .before .args in
     λ A e. names-not A (a .references .now) (a .start) (a .n) (c .before .before .before .before .loop .i) (c .before .before .before .before .before .before .before .pre .1) (c .before .before .before .loop-test .taken) (sym (c .if1 .left) ∙ c .before .is-name-at .ensures A e) ∙ sym (c .before .before .before .before .loop .inv .1 A e)
 
--- src/lib.rt:107:1
 returns-2 : tie.Need-returns-2 Inv-loop μ-loop
 returns-2 c =
     let a = c .before .before .before .before .args in

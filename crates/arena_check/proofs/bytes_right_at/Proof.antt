@@ -1,21 +1,18 @@
+-- The proof of bytes_right_at.
 use borrow.Author.Needs.{needs}
 use Rattle.arena_check.proofs.Rights.{bytes-at}
 use Rattle.arena_check.proofs.bytes_right_at.Statement.{statement}
 use Rattle.arena_check.proofs.bytes_right_at.Tie as tie
 
--- src/lib.rt:126:5
 size-requires : tie.Need-size-requires
 size-requires c κs = search needs
 
--- src/lib.rt:126:19
 size-requires-2 : tie.Need-size-requires-2
 size-requires-2 c κs = search needs
 
--- src/lib.rt:126:5
 add-result : tie.Need-add-result
 add-result c = search needs
 
--- src/lib.rt:123:1
 returns : tie.Need-returns
 returns c =
     let a = c .before .before .args in

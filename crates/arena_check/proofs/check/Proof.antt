@@ -1,3 +1,4 @@
+-- The proof of check.
 use borrow.Author.Needs.{needs}
 use mathlib.Core.Path.{refl, sym, ap, _∙_}
 use Rattle.definition.specs.Arena.{arena}
@@ -7,25 +8,20 @@ use Rattle.arena_check.proofs.Rights.{held, checked-in, checked-out}
 use Rattle.arena_check.proofs.check.Statement.{statement}
 use Rattle.arena_check.proofs.check.Tie as tie
 
--- src/lib.rt:274:8
 counts-fit-at-requires : tie.Need-counts-fit-at-requires
 counts-fit-at-requires c κs = search needs
 
--- src/lib.rt:275:15
 first-faulty-requires : tie.Need-first-faulty-requires
 first-faulty-requires c κs =
     let f = c .before .counts-fit-at .ensures .1 (c .if1 .taken) in
     (c .before .before .before .before .before .pre, f .nodes-fit, f .references-fit)
 
--- src/lib.rt:276:31
 enum-told : tie.Need-enum-told
 enum-told c = search needs
 
--- src/lib.rt:277:28
 enum-known-f : tie.Need-enum-known-f
 enum-known-f c = search needs
 
--- src/lib.rt:265:1
 returns : tie.Need-returns
 returns c =
     let a = c .before .before .before .before .before .before .before .before .args in
@@ -33,7 +29,6 @@ returns c =
     let f = c .before .before .before .before .counts-fit-at .ensures .1 (c .before .before .before .if1 .taken) in
     (checked-in T (a .counts) _ (sym (c .before .before .before .if1 .taken) ∙ c .before .before .before .before .counts-fit-at .ensures .0 T refl refl refl) (ap checked (sym (c .enum-told .given .1)) ∙ c .before .before .first-faulty .ensures (arena T (a .counts)) (held T (a .counts) f)), f)
 
--- src/lib.rt:265:1
 returns-2 : tie.Need-returns-2
 returns-2 c =
     let a = c .before .before .before .before .before .before .before .before .before .args in
@@ -41,7 +36,6 @@ returns-2 c =
     let f = c .before .before .before .before .before .counts-fit-at .ensures .1 (c .before .before .before .before .if1 .taken) in
     (checked-in T (a .counts) _ (sym (c .before .before .before .before .if1 .taken) ∙ c .before .before .before .before .before .counts-fit-at .ensures .0 T refl refl refl) (ap checked (sym (c .before .f .given .1)) ∙ c .before .before .before .first-faulty .ensures (arena T (a .counts)) (held T (a .counts) f)), tt)
 
--- src/lib.rt:265:1
 returns-3 : tie.Need-returns-3
 returns-3 c =
     let a = c .before .before .before .before .before .args in

@@ -1,38 +1,33 @@
+-- The proof of counts_fit_at.
 use borrow.Author.Needs.{needs}
 use borrow.Author.Tests.{ltb-true}
 use Rattle.arena_check.proofs.Rights.{no-nodes, nodes-past, references-past, bytes-past, counts-in, fits, not-so}
 use Rattle.arena_check.proofs.counts_fit_at.Statement.{statement}
 use Rattle.arena_check.proofs.counts_fit_at.Tie as tie
 
--- src/lib.rt:250:9
 returns : tie.Need-returns
 returns c =
     let a = c .before .args in
     (no-nodes (a .nodes) (a .references) (a .bytes) (a .count) (a .used) (a .stored) (a .root) (c .if1 .taken), λ t. not-so t)
 
--- src/lib.rt:253:9
 returns-2 : tie.Need-returns-2
 returns-2 c =
     let a = c .before .before .args in
     (nodes-past (a .nodes) (a .references) (a .bytes) (a .count) (a .used) (a .stored) (a .root) (c .if2 .taken), λ t. not-so t)
 
--- src/lib.rt:256:9
 returns-3 : tie.Need-returns-3
 returns-3 c =
     let a = c .before .before .before .args in
     (references-past (a .nodes) (a .references) (a .bytes) (a .count) (a .used) (a .stored) (a .root) (c .if3 .taken), λ t. not-so t)
 
--- src/lib.rt:259:9
 returns-4 : tie.Need-returns-4
 returns-4 c =
     let a = c .before .before .before .before .args in
     (bytes-past (a .nodes) (a .references) (a .bytes) (a .count) (a .used) (a .stored) (a .root) (c .if4 .taken), λ t. not-so t)
 
--- src/lib.rt:261:5
 size-requires : tie.Need-size-requires
 size-requires c κs = search needs
 
--- src/lib.rt:245:1
 returns-5 : tie.Need-returns-5
 returns-5 c =
     let a = c .before .before .before .before .before .args in

@@ -1,3 +1,4 @@
+-- The proof of first_faulty.
 use borrow.Author.Needs.{needs}
 use native.Mathlib.Omega.{arith}
 use Prim.Native.Nat.{_-_, _*_, _≤_}
@@ -17,43 +18,35 @@ abbrev μ-loop : tie.MeasureT-loop
 μ-loop nodes references count used stored i₀ i =
     count - i
 
--- src/lib.rt:235:5
 loop-holds : tie.Need-loop-holds Inv-loop μ-loop
 loop-holds c =
     let a = c .before .before .args in
     (omega arith, λ A H. faulty-start A (a .nodes .now) (a .count))
 
--- src/lib.rt:236:12
 node-right-at-requires : tie.Need-node-right-at-requires Inv-loop μ-loop
 node-right-at-requires c κs =
     (c .loop-test .taken, c .before .before .before .before .pre .1, c .before .before .before .before .pre .2)
 
--- src/lib.rt:237:17
 add-i : tie.Need-add-i Inv-loop μ-loop
 add-i c = search needs
 
--- src/lib.rt:235:5
 loop-less : tie.Need-loop-less Inv-loop μ-loop
 loop-less c = search needs
 
--- src/lib.rt:235:5
 loop-again : tie.Need-loop-again Inv-loop μ-loop
 loop-again c =
     let a = c .before .before .before .before .before .before .args in
     (omega (arith, c .before .before .loop-test .taken), λ A H. c .before .before .before .loop .inv .1 A H ∙ faulty-on A (a .nodes .now) (a .count) (c .before .before .before .loop .i) (c .before .before .loop-test .taken) (sym (c .if1 .taken) ∙ c .before .node-right-at .ensures A H))
 
--- src/lib.rt:239:47
 cast-t13 : tie.Need-cast-t13 Inv-loop μ-loop
 cast-t13 c =
     omega (arith, c .before .before .loop-test .taken, c .before .before .before .before .before .before .pre .0, c .before .before .before .before .before .before .pre .1)
 
--- src/lib.rt:239:13
 returns : tie.Need-returns Inv-loop μ-loop
 returns c =
     let a = c .before .before .before .before .before .before .args in
     λ A H. faulty-here A (a .nodes .now) (a .count) (c .before .before .before .loop .i) (c .before .before .loop-test .taken) (sym (c .if1 .left) ∙ c .before .node-right-at .ensures A H) ∙ sym (c .before .before .before .loop .inv .1 A H)
 
--- src/lib.rt:230:1
 returns-2 : tie.Need-returns-2 Inv-loop μ-loop
 returns-2 c =
     let a = c .before .before .before .before .args in

@@ -1,31 +1,26 @@
+-- The proof of is_name_at.
 use borrow.Author.Needs.{needs}
 use Rattle.arena_check.proofs.Lists.{name-at, no-name}
 use Rattle.arena_check.proofs.is_name_at.Statement.{statement}
 use Rattle.arena_check.proofs.is_name_at.Tie as tie
 
--- src/lib.rt:81:9
 size-requires : tie.Need-size-requires
 size-requires c κs = search needs
 
--- src/lib.rt:83:15
 mul-result : tie.Need-mul-result
 mul-result c = search needs
 
--- src/lib.rt:83:9
 mul-result-2 : tie.Need-mul-result-2
 mul-result-2 c = search needs
 
--- src/lib.rt:83:9
 shared-slice-read-result : tie.Need-shared-slice-read-result
 shared-slice-read-result c = search needs
 
--- src/lib.rt:77:1
 returns : tie.Need-returns
 returns c =
     let a = c .before .before .before .before .args in
     λ A e. rw (c .before .before .size .ensures) (name-at A (a .count) (a .nodes .now) (a .i) e (rw (c .before .before .size .ensures) at (c .before .if1 .taken)))
 
--- src/lib.rt:77:1
 returns-2 : tie.Need-returns-2
 returns-2 c =
     let a = c .before .before .before .args in

@@ -1,3 +1,4 @@
+-- The proof of list_right_at.
 use borrow.Author.Needs.{needs}
 use native.Mathlib.Omega.{arith}
 use mathlib.Core.Path.{_∙_}
@@ -5,25 +6,20 @@ use Rattle.arena_check.proofs.Rights.{list-in, list-out, not-so}
 use Rattle.arena_check.proofs.list_right_at.Statement.{statement}
 use Rattle.arena_check.proofs.list_right_at.Tie as tie
 
--- src/lib.rt:135:9
 size-requires : tie.Need-size-requires
 size-requires c κs = search needs
 
--- src/lib.rt:136:8
 add-if1 : tie.Need-add-if1
 add-if1 c = search needs
 
--- src/lib.rt:137:9
 all-below-at-requires : tie.Need-all-below-at-requires
 all-below-at-requires c κs = search needs
 
--- src/lib.rt:130:1
 returns : tie.Need-returns
 returns c =
     let a = c .before .before .before .before .args in
     (λ A e g. c .all-below-at .ensures ∙ list-in A (a .references .now) (a .used) (a .count) e g (c .before .before .before .before .pre .0) (a .start) (a .n) _ (c .before .before .size .ensures) (c .before .if1 .taken), λ t. omega (arith, c .before .before .size .ensures, c .before .if1 .taken))
 
--- src/lib.rt:130:1
 returns-2 : tie.Need-returns-2
 returns-2 c =
     let a = c .before .before .before .args in

@@ -1,3 +1,4 @@
+-- The proof of node_right_at.
 use borrow.Author.Needs.{needs}
 use native.Mathlib.Omega.{arith}
 use Prim.Native.Nat.{_*_}
@@ -7,106 +8,81 @@ use Rattle.arena_check.proofs.Rights.{node-words, node-in, node-out}
 use Rattle.arena_check.proofs.node_right_at.Statement.{statement}
 use Rattle.arena_check.proofs.node_right_at.Tie as tie
 
--- src/lib.rt:214:14
 mul-at : tie.Need-mul-at
 mul-at c = search needs
 
--- src/lib.rt:215:13
 mul-k : tie.Need-mul-k
 mul-k c = search needs
 
--- src/lib.rt:215:13
 shared-slice-read-k : tie.Need-shared-slice-read-k
 shared-slice-read-k c = search needs
 
--- src/lib.rt:216:19
 add-a : tie.Need-add-a
 add-a c = search needs
 
--- src/lib.rt:216:13
 mul-a : tie.Need-mul-a
 mul-a c = search needs
 
--- src/lib.rt:216:13
 shared-slice-read-a : tie.Need-shared-slice-read-a
 shared-slice-read-a c = search needs
 
--- src/lib.rt:217:19
 add-b : tie.Need-add-b
 add-b c = search needs
 
--- src/lib.rt:217:13
 mul-b : tie.Need-mul-b
 mul-b c = search needs
 
--- src/lib.rt:217:13
 shared-slice-read-b : tie.Need-shared-slice-read-b
 shared-slice-read-b c = search needs
 
--- src/lib.rt:218:19
 add-s : tie.Need-add-s
 add-s c = search needs
 
--- src/lib.rt:218:13
 mul-s : tie.Need-mul-s
 mul-s c = search needs
 
--- src/lib.rt:218:13
 shared-slice-read-s : tie.Need-shared-slice-read-s
 shared-slice-read-s c = search needs
 
--- src/lib.rt:219:19
 add-n : tie.Need-add-n
 add-n c = search needs
 
--- src/lib.rt:219:13
 mul-n : tie.Need-mul-n
 mul-n c = search needs
 
--- src/lib.rt:219:13
 shared-slice-read-n : tie.Need-shared-slice-read-n
 shared-slice-read-n c = search needs
 
--- src/lib.rt:220:19
 add-c : tie.Need-add-c
 add-c c = search needs
 
--- src/lib.rt:220:13
 mul-c : tie.Need-mul-c
 mul-c c = search needs
 
--- src/lib.rt:220:13
 shared-slice-read-c : tie.Need-shared-slice-read-c
 shared-slice-read-c c = search needs
 
--- src/lib.rt:221:19
 add-f : tie.Need-add-f
 add-f c = search needs
 
--- src/lib.rt:221:13
 mul-f : tie.Need-mul-f
 mul-f c = search needs
 
--- src/lib.rt:221:13
 shared-slice-read-f : tie.Need-shared-slice-read-f
 shared-slice-read-f c = search needs
 
--- src/lib.rt:222:8
 is-row-of-requires : tie.Need-is-row-of-requires
 is-row-of-requires c κs = search needs
 
--- src/lib.rt:223:9
 row-right-at-requires : tie.Need-row-right-at-requires
 row-right-at-requires c κs = search needs
 
--- src/lib.rt:210:1
 returns : tie.Need-returns
 returns c =
     let a = c .before .before .before .before .before .before .before .before .before .before .before .before .args in
     let t = a .nodes .now in
     λ A H. c .row-right-at .ensures A H ∙ node-in A (take 7 (drop (a .i * 7) t)) _ _ _ _ _ _ _ (node-words t (a .i * 7) (omega (arith, c .before .before .before .before .before .before .before .before .before .before .before .before .pre .0, c .before .before .before .before .before .before .before .before .before .before .before .before .pre .1))) (sym (c .before .if1 .taken) ∙ c .before .before .is-row-of .ensures)
 
--- src/lib.rt:210:1
 returns-2 : tie.Need-returns-2
 returns-2 c =
     let a = c .before .before .before .before .before .before .before .before .before .before .before .args in

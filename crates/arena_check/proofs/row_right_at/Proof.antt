@@ -1,3 +1,4 @@
+-- The proof of row_right_at.
 use borrow.Author.Needs.{needs}
 use Prim.Native.Nat.{ℕ, _*_}
 use mathlib.Core.Bool.{true, false, _&&_}
@@ -11,69 +12,53 @@ use Rattle.arena_check.proofs.Rights.{right-3, right-4, right-5, right-
 use Rattle.arena_check.proofs.row_right_at.Statement.{statement}
 use Rattle.arena_check.proofs.row_right_at.Tie as tie
 
--- src/lib.rt:172:14
 bytes-right-at-requires : tie.Need-bytes-right-at-requires
 bytes-right-at-requires c κs = search needs
 
--- src/lib.rt:173:61
 size-requires : tie.Need-size-requires
 size-requires c κs = search needs
 
--- src/lib.rt:173:14
 list-right-at-requires : tie.Need-list-right-at-requires
 list-right-at-requires c κs = search needs
 
--- src/lib.rt:175:63
 size-requires-2 : tie.Need-size-requires-2
 size-requires-2 c κs = search needs
 
--- src/lib.rt:175:63
 mul-list-right-at : tie.Need-mul-list-right-at
 mul-list-right-at c = search needs
 
--- src/lib.rt:175:16
 list-right-at-requires-2 : tie.Need-list-right-at-requires-2
 list-right-at-requires-2 c κs = search needs
 
--- src/lib.rt:176:17
 size-requires-3 : tie.Need-size-requires-3
 size-requires-3 c κs = search needs
 
--- src/lib.rt:182:16
 is-name-at-requires : tie.Need-is-name-at-requires
 is-name-at-requires c κs = search needs
 
--- src/lib.rt:183:17
 pairs-right-at-requires : tie.Need-pairs-right-at-requires
 pairs-right-at-requires c κs = search needs
 
--- src/lib.rt:189:16
 bytes-right-at-requires-2 : tie.Need-bytes-right-at-requires-2
 bytes-right-at-requires-2 c κs = search needs
 
--- src/lib.rt:190:17
 vars-right-at-requires : tie.Need-vars-right-at-requires
 vars-right-at-requires c κs = search needs
 
--- src/lib.rt:196:16
 bytes-right-at-requires-3 : tie.Need-bytes-right-at-requires-3
 bytes-right-at-requires-3 c κs = search needs
 
--- src/lib.rt:197:20
 is-name-at-requires-2 : tie.Need-is-name-at-requires-2
 is-name-at-requires-2 c κs = search needs
 
--- src/lib.rt:198:21
 vars-right-at-requires-2 : tie.Need-vars-right-at-requires-2
 vars-right-at-requires-2 c κs = search needs
 
--- src/lib.rt:167:1
 returns : tie.Need-returns
 returns c =
     let a = c .before .before .before .before .args in
     λ A H. c .bytes-right-at .ensures A (H .bytes-same) ∙ right-3 A (a .a) (a .b) (a .s) (a .n) (a .c) (a .f) (a .k) (c .before .match .keys1)
 
--- src/lib.rt:167:1
 returns-2 : tie.Need-returns-2
 returns-2 c =
     let a = c .before .before .before .before .before .args in
@@ -81,7 +66,6 @@ returns-2 c =
     let l : length (A .nodes) ≡ a .count = ap length (H .nodes-same) ∙ length-rows (a .count) (a .nodes .now) in
     c .list-right-at .ensures .0 A (H .references-same) l ∙ ap (λ (k : ℕ). list-right A (a .s) k) (c .before .size .ensures) ∙ right-4 A (a .a) (a .b) (a .s) (a .n) (a .c) (a .f) (a .k) (c .before .before .match .keys2)
 
--- src/lib.rt:167:1
 returns-3 : tie.Need-returns-3
 returns-3 c =
     let a = c .before .before .before .before .before .before .before .args in
@@ -90,7 +74,6 @@ returns-3 c =
     let t : true ≡ list-right A (a .s) (a .n * 2) = sym (c .before .if1 .taken) ∙ c .before .before .list-right-at2 .ensures .0 A (H .references-same) l ∙ ap (λ (k : ℕ). list-right A (a .s) (k * 2)) (c .before .before .before .size2 .ensures) in
     (λ i. leb (c .size3 .ensures i) (sym l i)) ∙ and-in (list-right A (a .s) (a .n * 2)) (leb (a .f) (length (A .nodes))) t ∙ right-5 A (a .a) (a .b) (a .s) (a .n) (a .c) (a .f) (a .k) (c .before .before .before .before .match .keys3)
 
--- src/lib.rt:167:1
 returns-4 : tie.Need-returns-4
 returns-4 c =
     let a = c .before .before .before .before .before .before .args in
@@ -99,31 +82,26 @@ returns-4 c =
     let t : false ≡ list-right A (a .s) (a .n * 2) = sym (c .if1 .left) ∙ c .before .list-right-at2 .ensures .0 A (H .references-same) l ∙ ap (λ (k : ℕ). list-right A (a .s) (k * 2)) (c .before .before .size2 .ensures) in
     and-out (list-right A (a .s) (a .n * 2)) (leb (a .f) (length (A .nodes))) t ∙ right-5 A (a .a) (a .b) (a .s) (a .n) (a .c) (a .f) (a .k) (c .before .before .before .match .keys3)
 
--- src/lib.rt:167:1
 returns-5 : tie.Need-returns-5
 returns-5 c =
     let a = c .before .before .before .before .before .before .args in
     λ A H. c .pairs-right-at .ensures A (H .nodes-same) (H .references-same) ∙ and-in (is-name A (a .c)) (pairs-right A (a .s) (a .n)) (sym (c .before .if2 .taken) ∙ c .before .before .is-name-at .ensures A (H .nodes-same)) ∙ right-6 A (a .a) (a .b) (a .s) (a .n) (a .c) (a .f) (a .k) (c .before .before .before .match .keys4)
 
--- src/lib.rt:167:1
 returns-6 : tie.Need-returns-6
 returns-6 c =
     let a = c .before .before .before .before .before .args in
     λ A H. and-out (is-name A (a .c)) (pairs-right A (a .s) (a .n)) (sym (c .if2 .left) ∙ c .before .is-name-at .ensures A (H .nodes-same)) ∙ right-6 A (a .a) (a .b) (a .s) (a .n) (a .c) (a .f) (a .k) (c .before .before .match .keys4)
 
--- src/lib.rt:167:1
 returns-7 : tie.Need-returns-7
 returns-7 c =
     let a = c .before .before .before .before .before .before .args in
     λ A H. c .vars-right-at .ensures A (H .nodes-same) (H .references-same) ∙ and-in (bytes-right A (a .a) (a .b)) (vars-right A (vars (a .f) (a .s) (a .n))) (sym (c .before .if3 .taken) ∙ c .before .before .bytes-right-at2 .ensures A (H .bytes-same)) ∙ right-7 A (a .a) (a .b) (a .s) (a .n) (a .c) (a .f) (a .k) (c .before .before .before .match .keys5)
 
--- src/lib.rt:167:1
 returns-8 : tie.Need-returns-8
 returns-8 c =
     let a = c .before .before .before .before .before .args in
     λ A H. and-out (bytes-right A (a .a) (a .b)) (vars-right A (vars (a .f) (a .s) (a .n))) (sym (c .if3 .left) ∙ c .before .bytes-right-at2 .ensures A (H .bytes-same)) ∙ right-7 A (a .a) (a .b) (a .s) (a .n) (a .c) (a .f) (a .k) (c .before .before .match .keys5)
 
--- src/lib.rt:167:1
 returns-9 : tie.Need-returns-9
 returns-9 c =
     let a = c .before .before .before .before .before .before .before .before .args in
@@ -132,7 +110,6 @@ returns-9 c =
     let q : true ≡ is-name A (a .c) = sym (c .before .if5 .taken) ∙ c .before .before .is-name-at2 .ensures A (H .nodes-same) in
     c .vars-right-at2 .ensures A (H .nodes-same) (H .references-same) ∙ and-in (bytes-right A (a .a) (a .b) && is-name A (a .c)) (vars-right A (vars (a .f) (a .s) (a .n))) (q ∙ and-in (bytes-right A (a .a) (a .b)) (is-name A (a .c)) p) ∙ right-8 A (a .a) (a .b) (a .s) (a .n) (a .c) (a .f) (a .k) (c .before .before .before .before .before .match .keys6)
 
--- src/lib.rt:167:1
 returns-10 : tie.Need-returns-10
 returns-10 c =
     let a = c .before .before .before .before .before .before .before .args in
@@ -141,7 +118,6 @@ returns-10 c =
     let q : false ≡ is-name A (a .c) = sym (c .if5 .left) ∙ c .before .is-name-at2 .ensures A (H .nodes-same) in
     and-out (bytes-right A (a .a) (a .b) && is-name A (a .c)) (vars-right A (vars (a .f) (a .s) (a .n))) (q ∙ and-in (bytes-right A (a .a) (a .b)) (is-name A (a .c)) p) ∙ right-8 A (a .a) (a .b) (a .s) (a .n) (a .c) (a .f) (a .k) (c .before .before .before .before .match .keys6)
 
--- src/lib.rt:167:1
 returns-11 : tie.Need-returns-11
 returns-11 c =
     let a = c .before .before .before .before .before .args in
@@ -149,7 +125,6 @@ returns-11 c =
     let p : false ≡ bytes-right A (a .a) (a .b) = sym (c .if4 .left) ∙ c .before .bytes-right-at3 .ensures A (H .bytes-same) in
     and-out (bytes-right A (a .a) (a .b) && is-name A (a .c)) (vars-right A (vars (a .f) (a .s) (a .n))) (and-out (bytes-right A (a .a) (a .b)) (is-name A (a .c)) p) ∙ right-8 A (a .a) (a .b) (a .s) (a .n) (a .c) (a .f) (a .k) (c .before .before .match .keys6)
 
--- src/lib.rt:167:1
 returns-12 : tie.Need-returns-12
 returns-12 c =
     let a = c .before .before .before .args in

@@ -1,20 +1,18 @@
+-- The proof of vars_right_at.
 use borrow.Author.Needs.{needs}
 use mathlib.Core.Path.{_∙_}
 use Rattle.arena_check.proofs.Rights.{vars-none, vars-some}
 use Rattle.arena_check.proofs.vars_right_at.Statement.{statement}
 use Rattle.arena_check.proofs.vars_right_at.Tie as tie
 
--- src/lib.rt:162:9
 pairs-right-at-requires : tie.Need-pairs-right-at-requires
 pairs-right-at-requires c κs = search needs
 
--- src/lib.rt:155:1
 returns : tie.Need-returns
 returns c =
     let a = c .before .before .before .args in
     λ A e g. vars-none A (a .f) (a .start) (a .n) (c .if1 .taken)
 
--- src/lib.rt:155:1
 returns-2 : tie.Need-returns-2
 returns-2 c =
     let a = c .before .before .before .before .args in

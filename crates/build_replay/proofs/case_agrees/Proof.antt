@@ -1,159 +1,123 @@
+-- The proof of case_agrees.
 use borrow.Author.Needs.{needs}
 use lib.Seq.{length-take-le}
 use mathlib.Core.Path.{sym}
 use Rattle.build_replay.proofs.case_agrees.Statement.{statement}
 use Rattle.build_replay.proofs.case_agrees.Tie as tie
 
--- src/main.rt:169:29
 plus-requires : tie.Need-plus-requires
 plus-requires c κs = search needs
 
--- src/main.rt:169:13
 word-requires : tie.Need-word-requires
 word-requires c κs = search needs
 
--- src/main.rt:169:13
 cast-n : tie.Need-cast-n
 cast-n c = search needs
 
--- src/main.rt:170:29
 plus-requires-2 : tie.Need-plus-requires-2
 plus-requires-2 c κs = search needs
 
--- src/main.rt:170:13
 word-requires-2 : tie.Need-word-requires-2
 word-requires-2 c κs = search needs
 
--- src/main.rt:170:13
 cast-r : tie.Need-cast-r
 cast-r c = search needs
 
--- src/main.rt:171:29
 plus-requires-3 : tie.Need-plus-requires-3
 plus-requires-3 c κs = search needs
 
--- src/main.rt:171:13
 word-requires-3 : tie.Need-word-requires-3
 word-requires-3 c κs = search needs
 
--- src/main.rt:171:13
 cast-b : tie.Need-cast-b
 cast-b c = search needs
 
--- src/main.rt:172:29
 plus-requires-4 : tie.Need-plus-requires-4
 plus-requires-4 c κs = search needs
 
--- src/main.rt:172:13
 word-requires-4 : tie.Need-word-requires-4
 word-requires-4 c κs = search needs
 
--- src/main.rt:172:13
 cast-l : tie.Need-cast-l
 cast-l c = search needs
 
--- src/main.rt:173:29
 plus-requires-5 : tie.Need-plus-requires-5
 plus-requires-5 c κs = search needs
 
--- src/main.rt:173:13
 word-requires-5 : tie.Need-word-requires-5
 word-requires-5 c κs = search needs
 
--- src/main.rt:173:13
 cast-t : tie.Need-cast-t
 cast-t c = search needs
 
--- src/main.rt:179:61
 slice-relend-prefix-fitted-agrees : tie.Need-slice-relend-prefix-fitted-agrees
 slice-relend-prefix-fitted-agrees c = search needs
 
--- src/main.rt:179:61
 slice-aggregate-fitted-agrees : tie.Need-slice-aggregate-fitted-agrees
 slice-aggregate-fitted-agrees c =
     sym (length-take-le _ _ (c .before .before .before .before .before .if1 .taken))
 
--- src/main.rt:179:78
 slice-relend-prefix-fitted-agrees-2 : tie.Need-slice-relend-prefix-fitted-agrees-2
 slice-relend-prefix-fitted-agrees-2 c = search needs
 
--- src/main.rt:179:78
 slice-aggregate-fitted-agrees-2 : tie.Need-slice-aggregate-fitted-agrees-2
 slice-aggregate-fitted-agrees-2 c =
     sym (length-take-le _ _ (c .before .before .before .before .before .if2 .taken))
 
--- src/main.rt:179:100
 slice-relend-prefix-fitted-agrees-3 : tie.Need-slice-relend-prefix-fitted-agrees-3
 slice-relend-prefix-fitted-agrees-3 c = search needs
 
--- src/main.rt:179:100
 slice-aggregate-fitted-agrees-3 : tie.Need-slice-aggregate-fitted-agrees-3
 slice-aggregate-fitted-agrees-3 c =
     sym (length-take-le _ _ (c .before .before .before .before .before .if3 .taken))
 
--- src/main.rt:179:117
 slice-relend-prefix-fitted-agrees-4 : tie.Need-slice-relend-prefix-fitted-agrees-4
 slice-relend-prefix-fitted-agrees-4 c = search needs
 
--- src/main.rt:179:117
 slice-aggregate-fitted-agrees-4 : tie.Need-slice-aggregate-fitted-agrees-4
 slice-aggregate-fitted-agrees-4 c =
     sym (length-take-le _ _ (c .before .before .before .before .before .if4 .taken))
 
--- src/main.rt:179:133
 slice-relend-prefix-fitted-agrees-5 : tie.Need-slice-relend-prefix-fitted-agrees-5
 slice-relend-prefix-fitted-agrees-5 c = search needs
 
--- src/main.rt:179:133
 slice-aggregate-fitted-agrees-5 : tie.Need-slice-aggregate-fitted-agrees-5
 slice-aggregate-fitted-agrees-5 c =
     sym (length-take-le _ _ (c .before .before .before .before .before .if5 .taken))
 
--- src/main.rt:179:25
 fitted-agrees-requires : tie.Need-fitted-agrees-requires
 fitted-agrees-requires c κs = search needs
 
--- src/main.rt:179:25
 same-length : tie.Need-same-length
 same-length c = search needs
 
--- src/main.rt:179:25
 same-length-2 : tie.Need-same-length-2
 same-length-2 c = search needs
 
--- src/main.rt:179:25
 same-length-3 : tie.Need-same-length-3
 same-length-3 c = search needs
 
--- src/main.rt:179:25
 same-length-4 : tie.Need-same-length-4
 same-length-4 c = search needs
 
--- src/main.rt:179:25
 same-length-5 : tie.Need-same-length-5
 same-length-5 c = search needs
 
--- src/main.rt:179:25
 returns : tie.Need-returns
 returns c = search needs
 
--- src/main.rt:168:1
 returns-2 : tie.Need-returns-2
 returns-2 c = search needs
 
--- src/main.rt:168:1
 returns-3 : tie.Need-returns-3
 returns-3 c = search needs
 
--- src/main.rt:168:1
 returns-4 : tie.Need-returns-4
 returns-4 c = search needs
 
--- src/main.rt:168:1
 returns-5 : tie.Need-returns-5
 returns-5 c = search needs
 
--- src/main.rt:168:1
 returns-6 : tie.Need-returns-6
 returns-6 c = search needs
 

@@ -1,3 +1,4 @@
+-- The proof of signed.
 use borrow.Author.Needs.{needs}
 use native.Mathlib.Omega.{arith}
 use Prim.Native.Nat.{_-_}
@@ -5,28 +6,22 @@ use Rattle.build_replay.proofs.Minus.{fits}
 use Rattle.build_replay.proofs.signed.Statement.{statement}
 use Rattle.build_replay.proofs.signed.Tie as tie
 
--- src/main.rt:49:9
 cast-result : tie.Need-cast-result
 cast-result c = search needs
 
--- src/main.rt:51:16
 sub-result : tie.Need-sub-result
 sub-result c = search needs
 
--- src/main.rt:51:15
 cast-result-2 : tie.Need-cast-result-2
 cast-result-2 c = search needs
 
--- src/main.rt:51:9
 sub-result-2 : tie.Need-sub-result-2
 sub-result-2 c =
     fits (4294967295 - c .before .args .x) (omega (arith, c .if1 .left))
 
--- src/main.rt:47:1
 returns : tie.Need-returns
 returns c = search needs
 
--- src/main.rt:47:1
 returns-2 : tie.Need-returns-2
 returns-2 c = search needs
 

@@ -1,31 +1,26 @@
+-- The proof of read_part.
 use borrow.Author.Needs.{needs}
 use mathlib.Core.Path.{sym}
 use lib.Seq.{length-take-le}
 use Rattle.console.proofs.read_part.Statement.{statement}
 use Rattle.console.proofs.read_part.Tie as tie
 
--- src/lib.rt:169:33
 slice-relend-prefix-read-full : tie.Need-slice-relend-prefix-read-full
 slice-relend-prefix-read-full c = search needs
 
--- src/lib.rt:169:33
 slice-aggregate-read-full : tie.Need-slice-aggregate-read-full
 slice-aggregate-read-full c =
     sym (length-take-le _ _ (c .before .if1 .taken))
 
--- src/lib.rt:169:16
 read-full-requires : tie.Need-read-full-requires
 read-full-requires c κs = search needs
 
--- src/lib.rt:169:9
 same-length : tie.Need-same-length
 same-length c = search needs
 
--- src/lib.rt:169:9
 returns : tie.Need-returns
 returns c = search needs
 
--- src/lib.rt:167:1
 returns-2 : tie.Need-returns-2
 returns-2 c = search needs
 

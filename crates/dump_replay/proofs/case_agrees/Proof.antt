@@ -1,146 +1,113 @@
+-- The proof of case_agrees.
 use borrow.Author.Needs.{needs}
 use mathlib.Core.Path.{sym}
 use lib.Seq.{length-take-le}
 use Rattle.dump_replay.proofs.case_agrees.Statement.{statement}
 use Rattle.dump_replay.proofs.case_agrees.Tie as tie
 
--- src/main.rt:102:13
 word-requires : tie.Need-word-requires
 word-requires c κs = search needs
 
--- src/main.rt:102:13
 cast-n : tie.Need-cast-n
 cast-n c = search needs
 
--- src/main.rt:103:13
 word-requires-2 : tie.Need-word-requires-2
 word-requires-2 c κs = search needs
 
--- src/main.rt:103:13
 cast-r : tie.Need-cast-r
 cast-r c = search needs
 
--- src/main.rt:104:13
 word-requires-3 : tie.Need-word-requires-3
 word-requires-3 c κs = search needs
 
--- src/main.rt:104:13
 cast-s : tie.Need-cast-s
 cast-s c = search needs
 
--- src/main.rt:105:13
 word-requires-4 : tie.Need-word-requires-4
 word-requires-4 c κs = search needs
 
--- src/main.rt:105:13
 cast-o : tie.Need-cast-o
 cast-o c = search needs
 
--- src/main.rt:106:9
 bytes-start-requires : tie.Need-bytes-start-requires
 bytes-start-requires c κs = search needs
 
--- src/main.rt:107:27
 word-requires-5 : tie.Need-word-requires-5
 word-requires-5 c κs = search needs
 
--- src/main.rt:107:27
 cast-plus : tie.Need-cast-plus
 cast-plus c = search needs
 
--- src/main.rt:107:9
 plus-requires : tie.Need-plus-requires
 plus-requires c κs = search needs
 
--- src/main.rt:116:33
 part-fitted-agrees-start : tie.Need-part-fitted-agrees-start
 part-fitted-agrees-start c = search needs
 
--- src/main.rt:116:33
 part-fitted-agrees-end : tie.Need-part-fitted-agrees-end
 part-fitted-agrees-end c = search needs
 
--- src/main.rt:117:33
 slice-relend-prefix-fitted-agrees : tie.Need-slice-relend-prefix-fitted-agrees
 slice-relend-prefix-fitted-agrees c = search needs
 
--- src/main.rt:117:33
 slice-aggregate-fitted-agrees : tie.Need-slice-aggregate-fitted-agrees
 slice-aggregate-fitted-agrees c =
     sym (length-take-le _ _ (c .before .before .before .before .before .before .before .if1 .taken))
 
--- src/main.rt:118:33
 slice-relend-prefix-fitted-agrees-2 : tie.Need-slice-relend-prefix-fitted-agrees-2
 slice-relend-prefix-fitted-agrees-2 c = search needs
 
--- src/main.rt:118:33
 slice-aggregate-fitted-agrees-2 : tie.Need-slice-aggregate-fitted-agrees-2
 slice-aggregate-fitted-agrees-2 c =
     sym (length-take-le _ _ (c .before .before .before .before .before .before .before .if2 .taken))
 
--- src/main.rt:119:33
 slice-relend-prefix-fitted-agrees-3 : tie.Need-slice-relend-prefix-fitted-agrees-3
 slice-relend-prefix-fitted-agrees-3 c = search needs
 
--- src/main.rt:119:33
 slice-aggregate-fitted-agrees-3 : tie.Need-slice-aggregate-fitted-agrees-3
 slice-aggregate-fitted-agrees-3 c =
     sym (length-take-le _ _ (c .before .before .before .before .before .before .before .if3 .taken))
 
--- src/main.rt:120:33
 slice-relend-prefix-fitted-agrees-4 : tie.Need-slice-relend-prefix-fitted-agrees-4
 slice-relend-prefix-fitted-agrees-4 c = search needs
 
--- src/main.rt:120:33
 slice-aggregate-fitted-agrees-4 : tie.Need-slice-aggregate-fitted-agrees-4
 slice-aggregate-fitted-agrees-4 c =
     sym (length-take-le _ _ (c .before .before .before .before .before .before .before .if4 .taken))
 
--- src/main.rt:114:29
 fitted-agrees-requires : tie.Need-fitted-agrees-requires
 fitted-agrees-requires c κs = search needs
 
--- src/main.rt:114:29
 same-length : tie.Need-same-length
 same-length c = search needs
 
--- src/main.rt:114:29
 same-length-2 : tie.Need-same-length-2
 same-length-2 c = search needs
 
--- src/main.rt:114:29
 same-length-3 : tie.Need-same-length-3
 same-length-3 c = search needs
 
--- src/main.rt:114:29
 same-length-4 : tie.Need-same-length-4
 same-length-4 c = search needs
 
--- src/main.rt:114:29
 returns : tie.Need-returns
 returns c = search needs
 
--- src/main.rt:95:1
 returns-2 : tie.Need-returns-2
 returns-2 c = search needs
 
--- src/main.rt:95:1
 returns-3 : tie.Need-returns-3
 returns-3 c = search needs
 
--- src/main.rt:95:1
 returns-4 : tie.Need-returns-4
 returns-4 c = search needs
 
--- src/main.rt:95:1
 returns-5 : tie.Need-returns-5
 returns-5 c = search needs
 
--- src/main.rt:95:1
 returns-6 : tie.Need-returns-6
 returns-6 c = search needs
 
--- src/main.rt:95:1
 returns-7 : tie.Need-returns-7
 returns-7 c = search needs
 

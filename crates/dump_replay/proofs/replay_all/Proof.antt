@@ -1,3 +1,4 @@
+-- The proof of replay_all.
 use borrow.Author.Needs.{needs}
 use native.Mathlib.Omega.{arith}
 use Prim.Native.Nat.{_-_, _≤_}
@@ -14,101 +15,81 @@ abbrev μ-loop : tie.MeasureT-loop
 μ-loop data₀ nodes₀ references₀ scratch₀ output₀ wrong₀ i₀ «data» nodes references scratch output wrong i =
     10000 - i
 
--- src/main.rt:156:5
 loop-holds : tie.Need-loop-holds Inv-loop μ-loop
 loop-holds c =
     (omega arith, refl, refl, refl, refl, refl)
 
--- src/main.rt:157:13
 step-requires : tie.Need-step-requires Inv-loop μ-loop
 step-requires c κs = search needs
 
--- src/main.rt:159:13
 print-counts-requires : tie.Need-print-counts-requires Inv-loop μ-loop
 print-counts-requires c κs = search needs
 
--- src/main.rt:160:13
 same-length : tie.Need-same-length Inv-loop μ-loop
 same-length c =
     let v = c .before .before .before .before .before .before .before .before .before .before .before .before .before .before .before .before .before .before .before .loop .inv in
     omega (arith, v .1, c .before .before .before .before .before .before .before .before .before .before .before .before .step .kept)
 
--- src/main.rt:160:13
 same-length-2 : tie.Need-same-length-2 Inv-loop μ-loop
 same-length-2 c =
     let v = c .before .before .before .before .before .before .before .before .before .before .before .before .before .before .before .before .before .before .before .loop .inv in
     omega (arith, v .2, c .before .before .before .before .before .before .before .before .before .before .before .before .step .kept)
 
--- src/main.rt:160:13
 same-length-3 : tie.Need-same-length-3 Inv-loop μ-loop
 same-length-3 c =
     let v = c .before .before .before .before .before .before .before .before .before .before .before .before .before .before .before .before .before .before .before .loop .inv in
     omega (arith, v .3, c .before .before .before .before .before .before .before .before .before .before .before .before .step .kept)
 
--- src/main.rt:160:13
 same-length-4 : tie.Need-same-length-4 Inv-loop μ-loop
 same-length-4 c =
     let v = c .before .before .before .before .before .before .before .before .before .before .before .before .before .before .before .before .before .before .before .loop .inv in
     omega (arith, v .4, c .before .before .before .before .before .before .before .before .before .before .before .before .step .kept)
 
--- src/main.rt:160:13
 same-length-5 : tie.Need-same-length-5 Inv-loop μ-loop
 same-length-5 c =
     let v = c .before .before .before .before .before .before .before .before .before .before .before .before .before .before .before .before .before .before .before .loop .inv in
     omega (arith, v .5, c .before .before .before .before .before .before .before .before .before .before .before .before .step .kept)
 
--- src/main.rt:160:13
 returns : tie.Need-returns Inv-loop μ-loop
 returns c = search needs
 
--- src/main.rt:163:13
 print-case-requires : tie.Need-print-case-requires Inv-loop μ-loop
 print-case-requires c κs = search needs
 
--- src/main.rt:164:13
 next-requires : tie.Need-next-requires Inv-loop μ-loop
 next-requires c κs = search needs
 
--- src/main.rt:156:9
 add-i : tie.Need-add-i Inv-loop μ-loop
 add-i c = search needs
 
--- src/main.rt:156:5
 loop-less : tie.Need-loop-less Inv-loop μ-loop
 loop-less c = search needs
 
--- src/main.rt:156:5
 loop-again : tie.Need-loop-again Inv-loop μ-loop
 loop-again c =
     let v = c .before .before .before .before .before .before .before .before .before .before .before .before .before .before .before .before .before .before .before .loop .inv in
     omega (arith, c .before .before .before .before .before .before .before .before .before .before .before .before .before .before .before .before .before .before .loop-test .taken, v .0, v .1, v .2, v .3, v .4, v .5, c .before .before .before .before .before .before .before .before .before .before .before .before .step .kept)
 
--- src/main.rt:148:1
 same-length-6 : tie.Need-same-length-6 Inv-loop μ-loop
 same-length-6 c =
     c .before .loop .inv .1
 
--- src/main.rt:148:1
 same-length-7 : tie.Need-same-length-7 Inv-loop μ-loop
 same-length-7 c =
     c .before .loop .inv .2
 
--- src/main.rt:148:1
 same-length-8 : tie.Need-same-length-8 Inv-loop μ-loop
 same-length-8 c =
     c .before .loop .inv .3
 
--- src/main.rt:148:1
 same-length-9 : tie.Need-same-length-9 Inv-loop μ-loop
 same-length-9 c =
     c .before .loop .inv .4
 
--- src/main.rt:148:1
 same-length-10 : tie.Need-same-length-10 Inv-loop μ-loop
 same-length-10 c =
     c .before .loop .inv .5
 
--- src/main.rt:148:1
 returns-2 : tie.Need-returns-2 Inv-loop μ-loop
 returns-2 c = search needs
 

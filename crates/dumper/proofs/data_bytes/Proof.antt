@@ -1,3 +1,4 @@
+-- The proof of data_bytes.
 use native.Mathlib.Omega.{arith}
 use mathlib.Core.Path.{refl}
 use lib.Count.{leading-le}
@@ -5,16 +6,12 @@ use Rattle.definition.specs.Integer.{fewest}
 use Rattle.dumper.proofs.Integers.{fewest-most, fewest-some}
 use Rattle.dumper.proofs.data_bytes.Statement.{statement}
 use Rattle.dumper.proofs.data_bytes.Tie as tie
-use Rattle.dumper.proofs.data_bytes.Reads as reads
-use Rattle.dumper.proofs.data_bytes.Lts as lts
 
--- src/lib.rt:93:6
 sub-result : tie.Need-sub-result
 sub-result c =
     let l = leading-le 32 (c .args .v) in
     omega (arith, l)
 
--- src/lib.rt:89:1
 returns : tie.Need-returns
 unfolding fewest
 returns c =

@@ -1,125 +1,213 @@
+-- The proof of open_string.
+use native.Mathlib.Omega.{arith}
+use mathlib.Core.Path.{sym}
+use Rattle.definition.specs.Run.{pure}
+use Rattle.definition.specs.Dump.{write-level, write-value}
+use Rattle.dumper.specs.Laws.{lead-first, lead-goes, lead-stop, lead-head, lead-to, linked, goes-to, head-as, head-after, head-goes, head-keep, ready, ready-head, ready-as}
+use Rattle.dumper.proofs.Heads.{noded, is-object, string-row, right-row, bytes-inside, string-open, after-none, after-some, vars-present, members-pairs, in-pairs}
 use borrow.Author.Needs.{needs}
-use mathlib.Core.List.{_++_}
-use lib.ListN.{take, drop}
-use Rattle.definition.specs.Integer.{integer-bytes}
-use Rattle.definition.specs.Dump.{_>>_, write}
-use Rattle.dumper.specs.Laws.{open-linked, open-more, open-stop, open-refused}
-use Rattle.dumper.proofs.Openings.{string-same}
 use Rattle.dumper.proofs.open_string.Statement.{statement}
 use Rattle.dumper.proofs.open_string.Tie as tie
-use Rattle.dumper.proofs.open_string.Reads as reads
-use Rattle.dumper.proofs.open_string.Lts as lts
-use Rattle.dumper.proofs.open_marked.Reads as open-marked-reads
-use Rattle.dumper.proofs.write_byte_string.Reads as write-byte-string-reads
 
--- src/lib.rt:274:11
+mul-f : tie.Need-mul-f
+mul-f c = search needs
+
+add-f : tie.Need-add-f
+add-f c = search needs
+
+mul-f-2 : tie.Need-mul-f-2
+mul-f-2 c = search needs
+
+shared-slice-read-f : tie.Need-shared-slice-read-f
+shared-slice-read-f c = search needs
+
 open-marked-requires : tie.Need-open-marked-requires
-open-marked-requires c κs = search needs
+open-marked-requires c κs =
+    let args = c .before .before .before .before .before .before .before .before .before .args in
+    let pre = c .before .before .before .before .before .before .before .before .before .pre in
+    ready-as (λ A f. is-object (noded (f .0)) (args .v) (f .2) 7 (pre .0) (omega arith) (omega arith)) (pre .1)
 
--- src/lib.rt:275:28
-enum-told : tie.Need-enum-told
-enum-told c = search needs
-
--- src/lib.rt:276:52
-enum-told-2 : tie.Need-enum-told-2
-enum-told-2 c = search needs
-
--- src/lib.rt:276:34
-write-byte-string-requires : tie.Need-write-byte-string-requires
-write-byte-string-requires c κs = search needs
-
--- src/lib.rt:277:28
-enum-told-3 : tie.Need-enum-told-3
-enum-told-3 c = search needs
-
--- src/lib.rt:278:28
-enum-known-r : tie.Need-enum-known-r
-enum-known-r c = search needs
-
--- src/lib.rt:280:27
-enum-known-r-2 : tie.Need-enum-known-r-2
-enum-known-r-2 c = search needs
-
--- src/lib.rt:270:1
 same-length : tie.Need-same-length
 same-length c = search needs
 
--- src/lib.rt:270:1
 same-length-2 : tie.Need-same-length-2
 same-length-2 c = search needs
 
--- src/lib.rt:270:1
 returns : tie.Need-returns
 returns c =
-    let a = c .before .before .before .before .before .before .before .before .before .before .before .before .before .args in
-    let bs = integer-bytes (a .n) ++ take (a .n) (drop (a .start) (a .bytes .now)) in
-    λ A room o. open-linked (λ rest. write room bs >> rest) (string-same room (a .v) (a .limit) (a .levels) (a .f) bs) (c .before .before .before .before .before .before .open-marked .ensures A room o) (c .enum-told .given .1)
+    let a = c .before .before .before .before .before .before .before .before .before .before .before .before .before .before .before .args in
+    let pre = c .before .before .before .before .before .before .before .before .before .before .before .before .before .before .before .pre in
+    let open-marked = c .before .before .before .before .before .open-marked in (
+      λ A room limit l li b.
+          let row = string-row (noded l) (a .v) b (pre .0) in
+          head-as (string-open room A (write-level limit (a .levels)) (write-value room A limit (a .levels)) (a .v) l _ _ _ _ _ (right-row l (a .v) b _ row .0) row) (head-keep (c .if1 .taken) (open-marked .ensures A room limit (is-object (noded l) (a .v) b 7 (pre .0) (omega arith) (omega arith)) _)),
+      λ A l b e. absurd (c .if1 .taken e),
+    )
 
--- src/lib.rt:270:1
+mul-write-byte-string : tie.Need-mul-write-byte-string
+mul-write-byte-string c = search needs
+
+add-write-byte-string : tie.Need-add-write-byte-string
+add-write-byte-string c = search needs
+
+mul-write-byte-string-2 : tie.Need-mul-write-byte-string-2
+mul-write-byte-string-2 c = search needs
+
+shared-slice-read-write-byte-string : tie.Need-shared-slice-read-write-byte-string
+shared-slice-read-write-byte-string c = search needs
+
+mul-write-byte-string-3 : tie.Need-mul-write-byte-string-3
+mul-write-byte-string-3 c = search needs
+
+add-write-byte-string-2 : tie.Need-add-write-byte-string-2
+add-write-byte-string-2 c = search needs
+
+mul-write-byte-string-4 : tie.Need-mul-write-byte-string-4
+mul-write-byte-string-4 c = search needs
+
+shared-slice-read-write-byte-string-2 : tie.Need-shared-slice-read-write-byte-string-2
+shared-slice-read-write-byte-string-2 c = search needs
+
+write-byte-string-requires : tie.Need-write-byte-string-requires
+write-byte-string-requires c κs =
+    let a = c .before .before .before .before .before .before .before .before .before .before .before .before .before .before .before .before .before .before .before .args in
+    let pre = c .before .before .before .before .before .before .before .before .before .before .before .before .before .before .before .before .before .before .before .pre in
+    let f = pre .1 .fact in
+    bytes-inside _ _ (f .0) (right-row (f .0) (a .v) (f .2) _ (string-row (noded (f .0)) (a .v) (f .2) (pre .0)) .0)
+
 same-length-3 : tie.Need-same-length-3
 same-length-3 c = search needs
 
--- src/lib.rt:270:1
 same-length-4 : tie.Need-same-length-4
 same-length-4 c = search needs
 
--- src/lib.rt:270:1
 returns-2 : tie.Need-returns-2
 returns-2 c =
-    let a = c .before .before .before .before .before .before .before .before .before .before .before .before .before .before .before .before .before .before .before .before .args in
-    let bs = integer-bytes (a .n) ++ take (a .n) (drop (a .start) (a .bytes .now)) in
-    λ A room o. open-more (string-same room (a .v) (a .limit) (a .levels) (a .f) bs) (c .before .before .before .before .before .before .before .before .before .before .before .before .before .open-marked .ensures A room o) (c .before .before .before .before .before .before .before .enum-told2 .given .1) (c .before .before .before .before .write-byte-string .ensures A room _) (c .enum-told3 .given .1)
+    let a = c .before .before .before .before .before .before .before .before .before .before .before .before .before .before .before .before .before .before .before .before .before .before .before .args in
+    let pre = c .before .before .before .before .before .before .before .before .before .before .before .before .before .before .before .before .before .before .before .before .before .before .before .pre in
+    let if1 = c .before .before .before .before .before .before .before .before .if1 in
+    let open-marked = c .before .before .before .before .before .before .before .before .before .before .before .before .before .open-marked in
+    let write-byte-string = c .before .before .before .write-byte-string in (
+      λ A room limit l li b.
+          let row = string-row (noded l) (a .v) b (pre .0) in
+          head-as (string-open room A (write-level limit (a .levels)) (write-value room A limit (a .levels)) (a .v) l _ _ _ _ _ (right-row l (a .v) b _ row .0) row) (head-after (head-goes (if1 .left) (open-marked .ensures A room limit (is-object (noded l) (a .v) b 7 (pre .0) (omega arith) (omega arith)) _)) (lead-head (lead-stop (c .if2 .taken) (lead-first _ (write-byte-string .ensures A room limit _))))),
+      λ A l b e. absurd (c .if2 .taken e),
+    )
 
--- src/lib.rt:270:1
 same-length-5 : tie.Need-same-length-5
 same-length-5 c = search needs
 
--- src/lib.rt:270:1
 same-length-6 : tie.Need-same-length-6
 same-length-6 c = search needs
 
--- src/lib.rt:270:1
 returns-3 : tie.Need-returns-3
 returns-3 c =
-    let a = c .before .before .before .before .before .before .before .before .before .before .before .before .before .before .before .before .before .before .before .before .before .args in
-    let bs = integer-bytes (a .n) ++ take (a .n) (drop (a .start) (a .bytes .now)) in
-    λ A room o. open-stop (string-same room (a .v) (a .limit) (a .levels) (a .f) bs) (c .before .before .before .before .before .before .before .before .before .before .before .before .before .before .open-marked .ensures A room o) (c .before .before .before .before .before .before .before .before .enum-told2 .given .1) (c .before .before .before .before .before .write-byte-string .ensures A room _) (c .before .r .given .1)
+    let a = c .before .before .before .before .before .before .before .before .before .before .before .before .before .before .before .before .before .before .before .before .before .before .before .before .args in
+    let pre = c .before .before .before .before .before .before .before .before .before .before .before .before .before .before .before .before .before .before .before .before .before .before .before .before .pre in
+    let if1 = c .before .before .before .before .before .before .before .before .before .if1 in
+    let open-marked = c .before .before .before .before .before .before .before .before .before .before .before .before .before .before .open-marked in
+    let if2 = c .before .if2 in
+    let write-byte-string = c .before .before .before .before .write-byte-string in (
+      λ A room limit l li b.
+          let row = string-row (noded l) (a .v) b (pre .0) in
+          head-as (string-open room A (write-level limit (a .levels)) (write-value room A limit (a .levels)) (a .v) l _ _ _ _ _ (right-row l (a .v) b _ row .0) row) (head-after (head-goes (if1 .left) (open-marked .ensures A room limit (is-object (noded l) (a .v) b 7 (pre .0) (omega arith) (omega arith)) _)) (linked (goes-to (after-none room A (write-level limit (a .levels)) (write-value room A limit (a .levels)) (a .v) _ _ _ (c .if3 .taken)) (lead-goes (if2 .left) (lead-first _ (write-byte-string .ensures A room limit _)))))),
+      λ A l b e. absurd (omega (arith, e)),
+    )
 
--- src/lib.rt:270:1
+mul-open-variables : tie.Need-mul-open-variables
+mul-open-variables c = search needs
+
+add-open-variables : tie.Need-add-open-variables
+add-open-variables c = search needs
+
+mul-open-variables-2 : tie.Need-mul-open-variables-2
+mul-open-variables-2 c = search needs
+
+shared-slice-read-open-variables : tie.Need-shared-slice-read-open-variables
+shared-slice-read-open-variables c = search needs
+
+mul-open-variables-3 : tie.Need-mul-open-variables-3
+mul-open-variables-3 c = search needs
+
+add-open-variables-2 : tie.Need-add-open-variables-2
+add-open-variables-2 c = search needs
+
+mul-open-variables-4 : tie.Need-mul-open-variables-4
+mul-open-variables-4 c = search needs
+
+shared-slice-read-open-variables-2 : tie.Need-shared-slice-read-open-variables-2
+shared-slice-read-open-variables-2 c = search needs
+
+open-variables-requires : tie.Need-open-variables-requires
+open-variables-requires c κs =
+    let a = c .before .before .before .before .before .before .before .before .before .before .before .before .before .before .before .before .before .before .before .before .before .before .before .before .before .before .before .before .before .args in
+    let if3 = c .before .before .before .before .before .if3 in
+    let pre = c .before .before .before .before .before .before .before .before .before .before .before .before .before .before .before .before .before .before .before .before .before .before .before .before .before .before .before .before .before .pre in
+    let if1 = c .before .before .before .before .before .before .before .before .before .before .before .before .before .before .if1 in
+    let open-marked = c .before .before .before .before .before .before .before .before .before .before .before .before .before .before .before .before .before .before .before .open-marked in
+    let if2 = c .before .before .before .before .before .before .if2 in
+    let write-byte-string = c .before .before .before .before .before .before .before .before .before .write-byte-string in
+    ready-as (λ A f. (f .0, f .1, vars-present _ _ _ (if3 .left) (right-row (f .0) (a .v) (f .2) _ (string-row (noded (f .0)) (a .v) (f .2) (pre .0)) .1))) (ready _ _ (ready-head _ _ (pre .1) (if1 .left) (λ A room f. open-marked .ensures A room 0 (is-object (noded (f .0)) (a .v) (f .2) 7 (pre .0) (omega arith) (omega arith)) (pure tt))) (if2 .left) (λ A room f. write-byte-string .ensures A room 0 _))
+
 same-length-7 : tie.Need-same-length-7
 same-length-7 c = search needs
 
--- src/lib.rt:270:1
 same-length-8 : tie.Need-same-length-8
 same-length-8 c = search needs
 
--- src/lib.rt:270:1
 returns-4 : tie.Need-returns-4
 returns-4 c =
-    let a = c .before .before .before .before .before .before .before .before .before .before .before .before .before .before .args in
-    let bs = integer-bytes (a .n) ++ take (a .n) (drop (a .start) (a .bytes .now)) in
-    λ A room o. open-refused (λ rest. write room bs >> rest) (string-same room (a .v) (a .limit) (a .levels) (a .f) bs) (c .before .before .before .before .before .before .before .open-marked .ensures A room o) (c .before .r2 .given .1)
+    let a = c .before .before .before .before .before .before .before .before .before .before .before .before .before .before .before .before .before .before .before .before .before .before .before .before .before .before .before .before .before .before .before .before .before .before .args in
+    let pre = c .before .before .before .before .before .before .before .before .before .before .before .before .before .before .before .before .before .before .before .before .before .before .before .before .before .before .before .before .before .before .before .before .before .before .pre in
+    let if1 = c .before .before .before .before .before .before .before .before .before .before .before .before .before .before .before .before .before .before .before .if1 in
+    let open-marked = c .before .before .before .before .before .before .before .before .before .before .before .before .before .before .before .before .before .before .before .before .before .before .before .before .open-marked in
+    let if3 = c .before .before .before .before .before .before .before .before .before .before .if3 in
+    let if2 = c .before .before .before .before .before .before .before .before .before .before .before .if2 in
+    let write-byte-string = c .before .before .before .before .before .before .before .before .before .before .before .before .before .before .write-byte-string in
+    let open-variables = c .before .before .before .before .open-variables in (
+      λ A room limit l li b.
+          let row = string-row (noded l) (a .v) b (pre .0) in
+          let right = right-row l (a .v) b _ row in
+          head-as (string-open room A (write-level limit (a .levels)) (write-value room A limit (a .levels)) (a .v) l _ _ _ _ _ (right .0) row) (head-after (head-goes (if1 .left) (open-marked .ensures A room limit (is-object (noded l) (a .v) b 7 (pre .0) (omega arith) (omega arith)) _)) (head-after (goes-to (after-some room A (write-level limit (a .levels)) (write-value room A limit (a .levels)) (a .v) _ _ _ (if3 .left)) (lead-goes (if2 .left) (lead-first _ (write-byte-string .ensures A room limit _)))) (lead-head (lead-to (sym (members-pairs room A _ 7 _ _ _ (λ q. omega (arith, q)) (λ q. omega (arith, q)))) (open-variables .ensures A room limit l li (vars-present _ _ _ (if3 .left) (right .1))))))),
+      λ A l b e. in-pairs (a .nodes .now) (a .v) (λ q. omega (arith, q, pre .0)) (λ q. omega (arith, q, pre .0)) (vars-present _ _ _ (if3 .left) (right-row l (a .v) b _ (string-row (noded l) (a .v) b (pre .0)) .1)),
+    )
 
 pub open-string-spec : {M : Type 1} → statement M
 open-string-spec =
     tie.close
     (tie.spec
+    mul-f
+    add-f
+    mul-f-2
+    shared-slice-read-f
     open-marked-requires
-    enum-told
-    enum-told-2
-    write-byte-string-requires
-    enum-told-3
-    enum-known-r
-    enum-known-r-2
     same-length
     same-length-2
     returns
+    mul-write-byte-string
+    add-write-byte-string
+    mul-write-byte-string-2
+    shared-slice-read-write-byte-string
+    mul-write-byte-string-3
+    add-write-byte-string-2
+    mul-write-byte-string-4
+    shared-slice-read-write-byte-string-2
+    write-byte-string-requires
     same-length-3
     same-length-4
     returns-2
     same-length-5
     same-length-6
     returns-3
+    mul-open-variables
+    add-open-variables
+    mul-open-variables-2
+    shared-slice-read-open-variables
+    mul-open-variables-3
+    add-open-variables-2
+    mul-open-variables-4
+    shared-slice-read-open-variables-2
+    open-variables-requires
     same-length-7
     same-length-8
     returns-4)

@@ -1,164 +1,300 @@
+-- The proof of open_user_defined.
+use native.Mathlib.Omega.{arith}
+use mathlib.Core.Path.{refl, sym}
+use Rattle.definition.specs.Run.{pure}
+use Rattle.definition.specs.Dump.{write-level, write-value}
+use Rattle.dumper.specs.Laws.{lead-first, lead-goes, lead-stop, lead-head, lead-to, linked, goes-to, head-as, head-after, head-goes, head-keep, ready, ready-head, ready-as}
+use Rattle.dumper.proofs.Heads.{noded, is-object, user-row, right-row, bytes-inside, symbol-as, user-open, after-none, after-some, vars-present, members-pairs, in-pairs}
 use borrow.Author.Needs.{needs}
-use mathlib.Core.Path.{refl}
-use mathlib.Core.List.{[], _∷_, _++_}
-use lib.ListN.{take, drop}
-use Rattle.definition.specs.Integer.{integer-bytes}
-use Rattle.definition.specs.Kind.{USER-DEFINED}
-use Rattle.definition.specs.Dump.{_>>_, write, write-name, write-level, write-object-or-link}
-use Rattle.dumper.specs.Held.{begun}
-use Rattle.dumper.specs.Laws.{bind, ends, stop-at, open-linked, open-more, open-stop, open-refused, ready-open, ready-as}
-use Rattle.dumper.proofs.Openings.{user-same}
 use Rattle.dumper.proofs.open_user_defined.Statement.{statement}
 use Rattle.dumper.proofs.open_user_defined.Tie as tie
-use Rattle.dumper.proofs.open_user_defined.Reads as reads
-use Rattle.dumper.proofs.open_user_defined.Lts as lts
-use Rattle.dumper.proofs.open_marked.Reads as open-marked-reads
-use Rattle.dumper.proofs.write_byte_string.Reads as write-byte-string-reads
-use Rattle.dumper.proofs.write_symbol.Reads as write-symbol-reads
 
--- src/lib.rt:289:11
+mul-f : tie.Need-mul-f
+mul-f c = search needs
+
+add-f : tie.Need-add-f
+add-f c = search needs
+
+mul-f-2 : tie.Need-mul-f-2
+mul-f-2 c = search needs
+
+shared-slice-read-f : tie.Need-shared-slice-read-f
+shared-slice-read-f c = search needs
+
 open-marked-requires : tie.Need-open-marked-requires
-open-marked-requires c κs = search needs
+open-marked-requires c κs =
+    let args = c .before .before .before .before .before .before .before .before .before .args in
+    let pre = c .before .before .before .before .before .before .before .before .before .pre in
+    ready-as (λ A f. is-object (noded (f .0)) (args .v) (f .2) 8 (pre .0) (omega arith) (omega arith)) (pre .1)
 
--- src/lib.rt:290:28
-enum-told : tie.Need-enum-told
-enum-told c = search needs
-
--- src/lib.rt:291:47
-enum-told-2 : tie.Need-enum-told-2
-enum-told-2 c = search needs
-
--- src/lib.rt:291:34
-write-symbol-requires : tie.Need-write-symbol-requires
-write-symbol-requires c κs =
-    let a = c .before .before .before .before .before .before .before .before .before .before .before .before .before .before .before .before .before .args in
-    ready-as (λ A p. (p .0, p .1)) (ready-open (λ A room rest. write-object-or-link room (a .v) (begun room (write-level (a .limit) (a .levels)) (a .f) (write room (USER-DEFINED ∷ [])) rest)) (c .before .before .before .before .before .before .before .before .before .before .before .before .before .before .before .before .before .pre .1) (c .before .before .before .enum-told2 .given .1) (λ A room p. c .before .before .before .before .before .before .before .before .before .open-marked .ensures A room (p .2)))
-
--- src/lib.rt:292:52
-enum-told-3 : tie.Need-enum-told-3
-enum-told-3 c = search needs
-
--- src/lib.rt:292:34
-write-byte-string-requires : tie.Need-write-byte-string-requires
-write-byte-string-requires c κs = search needs
-
--- src/lib.rt:293:32
-enum-told-4 : tie.Need-enum-told-4
-enum-told-4 c = search needs
-
--- src/lib.rt:294:32
-enum-known-r : tie.Need-enum-known-r
-enum-known-r c = search needs
-
--- src/lib.rt:296:28
-enum-known-r-2 : tie.Need-enum-known-r-2
-enum-known-r-2 c = search needs
-
--- src/lib.rt:298:27
-enum-known-r-3 : tie.Need-enum-known-r-3
-enum-known-r-3 c = search needs
-
--- src/lib.rt:285:1
 same-length : tie.Need-same-length
 same-length c = search needs
 
--- src/lib.rt:285:1
 same-length-2 : tie.Need-same-length-2
 same-length-2 c = search needs
 
--- src/lib.rt:285:1
 returns : tie.Need-returns
 returns c =
-    let a = c .before .before .before .before .before .before .before .before .before .before .before .before .before .before .args in
-    let bs = integer-bytes (a .n) ++ take (a .n) (drop (a .start) (a .bytes .now)) in
-    λ A room l s o. open-linked (λ rest. write-name room A (a .name) >> write room bs >> rest) (λ rest. user-same room (a .v) (a .limit) (a .levels) (a .f) bs rest A (a .name)) (c .before .before .before .before .before .before .open-marked .ensures A room o) (c .enum-told .given .1)
+    let a = c .before .before .before .before .before .before .before .before .before .before .before .before .before .before .before .args in
+    let pre = c .before .before .before .before .before .before .before .before .before .before .before .before .before .before .before .pre in
+    let open-marked = c .before .before .before .before .before .open-marked in (
+      λ A room limit l li b.
+          let row = user-row (noded l) (a .v) b (pre .0) in
+          head-as (user-open room A (write-level limit (a .levels)) (write-value room A limit (a .levels)) (a .v) l _ _ _ _ _ (right-row l (a .v) b _ row .0) _ _ refl row) (head-keep (c .if1 .taken) (open-marked .ensures A room limit (is-object (noded l) (a .v) b 8 (pre .0) (omega arith) (omega arith)) _)),
+      λ A l b e. absurd (c .if1 .taken e),
+    )
 
--- src/lib.rt:285:1
+mul-size : tie.Need-mul-size
+mul-size c = search needs
+
+add-size : tie.Need-add-size
+add-size c = search needs
+
+mul-size-2 : tie.Need-mul-size-2
+mul-size-2 c = search needs
+
+shared-slice-read-size : tie.Need-shared-slice-read-size
+shared-slice-read-size c = search needs
+
+size-requires : tie.Need-size-requires
+size-requires c κs = search needs
+
+write-symbol-requires : tie.Need-write-symbol-requires
+write-symbol-requires c κs =
+    let a = c .before .before .before .before .before .before .before .before .before .before .before .before .before .before .before .before .before .before .before .before .args in
+    let pre = c .before .before .before .before .before .before .before .before .before .before .before .before .before .before .before .before .before .before .before .before .pre in
+    let if1 = c .before .before .before .before .before .if1 in
+    let open-marked = c .before .before .before .before .before .before .before .before .before .before .open-marked in
+    ready-as (λ A f. (f .0, symbol-as _ _ (c .size .ensures) (right-row (f .0) (a .v) (f .2) _ (user-row (noded (f .0)) (a .v) (f .2) (pre .0)) .1))) (ready-head _ _ (pre .1) (if1 .left) (λ A room f. open-marked .ensures A room 0 (is-object (noded (f .0)) (a .v) (f .2) 8 (pre .0) (omega arith) (omega arith)) (pure tt)))
+
 same-length-3 : tie.Need-same-length-3
 same-length-3 c = search needs
 
--- src/lib.rt:285:1
 same-length-4 : tie.Need-same-length-4
 same-length-4 c = search needs
 
--- src/lib.rt:285:1
 returns-2 : tie.Need-returns-2
 returns-2 c =
-    let a = c .before .before .before .before .before .before .before .before .before .before .before .before .before .before .before .before .before .before .before .before .before .before .before .before .before .before .before .before .before .before .before .args in
-    let bs = integer-bytes (a .n) ++ take (a .n) (drop (a .start) (a .bytes .now)) in
-    λ A room l s o. open-more (λ rest. user-same room (a .v) (a .limit) (a .levels) (a .f) bs rest A (a .name)) (c .before .before .before .before .before .before .before .before .before .before .before .before .before .before .before .before .before .before .before .before .before .before .before .open-marked .ensures A room o) (c .before .before .before .before .before .before .before .before .before .before .before .before .before .before .before .before .before .enum-told2 .given .1) (ends (bind _ (c .before .before .before .before .before .before .before .enum-told3 .given .1) (c .before .before .before .before .before .before .before .before .before .before .before .before .before .write-symbol .ensures A room l s)) (c .before .before .before .before .write-byte-string .ensures A room _)) (c .enum-told4 .given .1)
+    let a = c .before .before .before .before .before .before .before .before .before .before .before .before .before .before .before .before .before .before .before .before .before .before .before .before .before .before .args in
+    let pre = c .before .before .before .before .before .before .before .before .before .before .before .before .before .before .before .before .before .before .before .before .before .before .before .before .before .before .pre in
+    let size = c .before .before .before .before .before .before .size in
+    let if1 = c .before .before .before .before .before .before .before .before .before .before .before .if1 in
+    let open-marked = c .before .before .before .before .before .before .before .before .before .before .before .before .before .before .before .before .open-marked in
+    let write-symbol = c .before .before .before .before .before .write-symbol in (
+      λ A room limit l li b.
+          let row = user-row (noded l) (a .v) b (pre .0) in
+          let right = right-row l (a .v) b _ row in
+          head-as (user-open room A (write-level limit (a .levels)) (write-value room A limit (a .levels)) (a .v) l _ _ _ _ _ (right .0) _ _ (size .ensures) row) (head-after (head-goes (if1 .left) (open-marked .ensures A room limit (is-object (noded l) (a .v) b 8 (pre .0) (omega arith) (omega arith)) _)) (lead-head (lead-stop (c .if2 .taken) (lead-first _ (write-symbol .ensures A room limit l (symbol-as _ _ (size .ensures) (right .1))))))),
+      λ A l b e. absurd (c .if2 .taken e),
+    )
 
--- src/lib.rt:285:1
+mul-write-byte-string : tie.Need-mul-write-byte-string
+mul-write-byte-string c = search needs
+
+add-write-byte-string : tie.Need-add-write-byte-string
+add-write-byte-string c = search needs
+
+mul-write-byte-string-2 : tie.Need-mul-write-byte-string-2
+mul-write-byte-string-2 c = search needs
+
+shared-slice-read-write-byte-string : tie.Need-shared-slice-read-write-byte-string
+shared-slice-read-write-byte-string c =
+    let pre = c .before .before .before .before .before .before .before .before .before .before .before .before .before .before .before .before .before .before .before .before .before .before .before .before .before .before .before .before .before .pre in
+    omega (arith, pre .1 .fact .2, pre .1 .fact .0 .nodes-fit)
+
+mul-write-byte-string-3 : tie.Need-mul-write-byte-string-3
+mul-write-byte-string-3 c = search needs
+
+add-write-byte-string-2 : tie.Need-add-write-byte-string-2
+add-write-byte-string-2 c = search needs
+
+mul-write-byte-string-4 : tie.Need-mul-write-byte-string-4
+mul-write-byte-string-4 c = search needs
+
+shared-slice-read-write-byte-string-2 : tie.Need-shared-slice-read-write-byte-string-2
+shared-slice-read-write-byte-string-2 c =
+    let pre = c .before .before .before .before .before .before .before .before .before .before .before .before .before .before .before .before .before .before .before .before .before .before .before .before .before .before .before .before .before .before .pre in
+    omega (arith, pre .1 .fact .2, pre .1 .fact .0 .nodes-fit)
+
+write-byte-string-requires : tie.Need-write-byte-string-requires
+write-byte-string-requires c κs =
+    let a = c .before .before .before .before .before .before .before .before .before .before .before .before .before .before .before .before .before .before .before .before .before .before .before .before .before .before .before .before .before .before .args in
+    let pre = c .before .before .before .before .before .before .before .before .before .before .before .before .before .before .before .before .before .before .before .before .before .before .before .before .before .before .before .before .before .before .pre in
+    let f = pre .1 .fact in
+    bytes-inside _ _ (f .0) (right-row (f .0) (a .v) (f .2) _ (user-row (noded (f .0)) (a .v) (f .2) (pre .0)) .0)
+
 same-length-5 : tie.Need-same-length-5
 same-length-5 c = search needs
 
--- src/lib.rt:285:1
 same-length-6 : tie.Need-same-length-6
 same-length-6 c = search needs
 
--- src/lib.rt:285:1
 returns-3 : tie.Need-returns-3
 returns-3 c =
-    let a = c .before .before .before .before .before .before .before .before .before .before .before .before .before .before .before .before .before .before .before .before .before .before .before .before .before .before .before .before .before .before .before .before .args in
-    let bs = integer-bytes (a .n) ++ take (a .n) (drop (a .start) (a .bytes .now)) in
-    λ A room l s o. open-stop (λ rest. user-same room (a .v) (a .limit) (a .levels) (a .f) bs rest A (a .name)) (c .before .before .before .before .before .before .before .before .before .before .before .before .before .before .before .before .before .before .before .before .before .before .before .before .open-marked .ensures A room o) (c .before .before .before .before .before .before .before .before .before .before .before .before .before .before .before .before .before .before .enum-told2 .given .1) (ends (bind _ (c .before .before .before .before .before .before .before .before .enum-told3 .given .1) (c .before .before .before .before .before .before .before .before .before .before .before .before .before .before .write-symbol .ensures A room l s)) (c .before .before .before .before .before .write-byte-string .ensures A room _)) (c .before .r .given .1)
+    let a = c .before .before .before .before .before .before .before .before .before .before .before .before .before .before .before .before .before .before .before .before .before .before .before .before .before .before .before .before .before .before .before .before .before .before .args in
+    let pre = c .before .before .before .before .before .before .before .before .before .before .before .before .before .before .before .before .before .before .before .before .before .before .before .before .before .before .before .before .before .before .before .before .before .before .pre in
+    let size = c .before .before .before .before .before .before .before .before .before .before .before .before .before .before .size in
+    let if1 = c .before .before .before .before .before .before .before .before .before .before .before .before .before .before .before .before .before .before .before .if1 in
+    let open-marked = c .before .before .before .before .before .before .before .before .before .before .before .before .before .before .before .before .before .before .before .before .before .before .before .before .open-marked in
+    let if2 = c .before .before .before .before .before .before .before .before .if2 in
+    let write-symbol = c .before .before .before .before .before .before .before .before .before .before .before .before .before .write-symbol in
+    let write-byte-string = c .before .before .before .write-byte-string in (
+      λ A room limit l li b.
+          let row = user-row (noded l) (a .v) b (pre .0) in
+          let right = right-row l (a .v) b _ row in
+          head-as (user-open room A (write-level limit (a .levels)) (write-value room A limit (a .levels)) (a .v) l _ _ _ _ _ (right .0) _ _ (size .ensures) row) (head-after (head-goes (if1 .left) (open-marked .ensures A room limit (is-object (noded l) (a .v) b 8 (pre .0) (omega arith) (omega arith)) _)) (head-after (lead-goes (if2 .left) (lead-first _ (write-symbol .ensures A room limit l (symbol-as _ _ (size .ensures) (right .1))))) (lead-head (lead-stop (c .if3 .taken) (lead-first _ (write-byte-string .ensures A room limit _)))))),
+      λ A l b e. absurd (c .if3 .taken e),
+    )
 
--- src/lib.rt:285:1
 same-length-7 : tie.Need-same-length-7
 same-length-7 c = search needs
 
--- src/lib.rt:285:1
 same-length-8 : tie.Need-same-length-8
 same-length-8 c = search needs
 
--- src/lib.rt:285:1
 returns-4 : tie.Need-returns-4
 returns-4 c =
-    let a = c .before .before .before .before .before .before .before .before .before .before .before .before .before .before .before .before .before .before .before .before .before .before .before .before .before .args in
-    let bs = integer-bytes (a .n) ++ take (a .n) (drop (a .start) (a .bytes .now)) in
-    λ A room l s o. open-stop (λ rest. user-same room (a .v) (a .limit) (a .levels) (a .f) bs rest A (a .name)) (c .before .before .before .before .before .before .before .before .before .before .before .before .before .before .before .before .before .open-marked .ensures A room o) (c .before .before .before .before .before .before .before .before .before .before .before .enum-told2 .given .1) (stop-at (write room bs) (c .before .r2 .given .1) (c .before .before .before .before .before .before .before .write-symbol .ensures A room l s)) refl
+    let a = c .before .before .before .before .before .before .before .before .before .before .before .before .before .before .before .before .before .before .before .before .before .before .before .before .before .before .before .before .before .before .before .before .before .before .before .args in
+    let pre = c .before .before .before .before .before .before .before .before .before .before .before .before .before .before .before .before .before .before .before .before .before .before .before .before .before .before .before .before .before .before .before .before .before .before .before .pre in
+    let size = c .before .before .before .before .before .before .before .before .before .before .before .before .before .before .before .size in
+    let if1 = c .before .before .before .before .before .before .before .before .before .before .before .before .before .before .before .before .before .before .before .before .if1 in
+    let open-marked = c .before .before .before .before .before .before .before .before .before .before .before .before .before .before .before .before .before .before .before .before .before .before .before .before .before .open-marked in
+    let if2 = c .before .before .before .before .before .before .before .before .before .if2 in
+    let write-symbol = c .before .before .before .before .before .before .before .before .before .before .before .before .before .before .write-symbol in
+    let if3 = c .before .if3 in
+    let write-byte-string = c .before .before .before .before .write-byte-string in (
+      λ A room limit l li b.
+          let row = user-row (noded l) (a .v) b (pre .0) in
+          let right = right-row l (a .v) b _ row in
+          head-as (user-open room A (write-level limit (a .levels)) (write-value room A limit (a .levels)) (a .v) l _ _ _ _ _ (right .0) _ _ (size .ensures) row) (head-after (head-goes (if1 .left) (open-marked .ensures A room limit (is-object (noded l) (a .v) b 8 (pre .0) (omega arith) (omega arith)) _)) (head-after (lead-goes (if2 .left) (lead-first _ (write-symbol .ensures A room limit l (symbol-as _ _ (size .ensures) (right .1))))) (linked (goes-to (after-none room A (write-level limit (a .levels)) (write-value room A limit (a .levels)) (a .v) _ _ _ (c .if4 .taken)) (lead-goes (if3 .left) (lead-first _ (write-byte-string .ensures A room limit _))))))),
+      λ A l b e. absurd (omega (arith, e)),
+    )
 
--- src/lib.rt:285:1
+mul-open-variables : tie.Need-mul-open-variables
+mul-open-variables c =
+    let pre = c .before .before .before .before .before .before .before .before .before .before .before .before .before .before .before .before .before .before .before .before .before .before .before .before .before .before .before .before .before .before .before .before .before .before .before .before .before .before .pre in
+    omega (arith, pre .1 .fact .2, pre .1 .fact .0 .nodes-fit, pre .1 .fact .0 .nodes-small)
+
+add-open-variables : tie.Need-add-open-variables
+add-open-variables c =
+    let pre = c .before .before .before .before .before .before .before .before .before .before .before .before .before .before .before .before .before .before .before .before .before .before .before .before .before .before .before .before .before .before .before .before .before .before .before .before .before .before .pre in
+    omega (arith, pre .1 .fact .2, pre .1 .fact .0 .nodes-fit, pre .1 .fact .0 .nodes-small)
+
+mul-open-variables-2 : tie.Need-mul-open-variables-2
+mul-open-variables-2 c =
+    let pre = c .before .before .before .before .before .before .before .before .before .before .before .before .before .before .before .before .before .before .before .before .before .before .before .before .before .before .before .before .before .before .before .before .before .before .before .before .before .before .pre in
+    omega (arith, pre .1 .fact .2, pre .1 .fact .0 .nodes-fit, pre .1 .fact .0 .nodes-small)
+
+shared-slice-read-open-variables : tie.Need-shared-slice-read-open-variables
+shared-slice-read-open-variables c =
+    let pre = c .before .before .before .before .before .before .before .before .before .before .before .before .before .before .before .before .before .before .before .before .before .before .before .before .before .before .before .before .before .before .before .before .before .before .before .before .before .before .before .pre in
+    omega (arith, pre .1 .fact .2, pre .1 .fact .0 .nodes-fit)
+
+mul-open-variables-3 : tie.Need-mul-open-variables-3
+mul-open-variables-3 c =
+    let pre = c .before .before .before .before .before .before .before .before .before .before .before .before .before .before .before .before .before .before .before .before .before .before .before .before .before .before .before .before .before .before .before .before .before .before .before .before .before .before .before .pre in
+    omega (arith, pre .1 .fact .2, pre .1 .fact .0 .nodes-fit, pre .1 .fact .0 .nodes-small)
+
+add-open-variables-2 : tie.Need-add-open-variables-2
+add-open-variables-2 c =
+    let pre = c .before .before .before .before .before .before .before .before .before .before .before .before .before .before .before .before .before .before .before .before .before .before .before .before .before .before .before .before .before .before .before .before .before .before .before .before .before .before .before .pre in
+    omega (arith, pre .1 .fact .2, pre .1 .fact .0 .nodes-fit, pre .1 .fact .0 .nodes-small)
+
+mul-open-variables-4 : tie.Need-mul-open-variables-4
+mul-open-variables-4 c =
+    let pre = c .before .before .before .before .before .before .before .before .before .before .before .before .before .before .before .before .before .before .before .before .before .before .before .before .before .before .before .before .before .before .before .before .before .before .before .before .before .before .before .pre in
+    omega (arith, pre .1 .fact .2, pre .1 .fact .0 .nodes-fit, pre .1 .fact .0 .nodes-small)
+
+shared-slice-read-open-variables-2 : tie.Need-shared-slice-read-open-variables-2
+shared-slice-read-open-variables-2 c =
+    let pre = c .before .before .before .before .before .before .before .before .before .before .before .before .before .before .before .before .before .before .before .before .before .before .before .before .before .before .before .before .before .before .before .before .before .before .before .before .before .before .before .before .pre in
+    omega (arith, pre .1 .fact .2, pre .1 .fact .0 .nodes-fit)
+
+open-variables-requires : tie.Need-open-variables-requires
+open-variables-requires c κs =
+    let a = c .before .before .before .before .before .before .before .before .before .before .before .before .before .before .before .before .before .before .before .before .before .before .before .before .before .before .before .before .before .before .before .before .before .before .before .before .before .before .before .before .args in
+    let if4 = c .before .before .before .before .before .if4 in
+    let pre = c .before .before .before .before .before .before .before .before .before .before .before .before .before .before .before .before .before .before .before .before .before .before .before .before .before .before .before .before .before .before .before .before .before .before .before .before .before .before .before .before .pre in
+    let if1 = c .before .before .before .before .before .before .before .before .before .before .before .before .before .before .before .before .before .before .before .before .before .before .before .before .before .if1 in
+    let open-marked = c .before .before .before .before .before .before .before .before .before .before .before .before .before .before .before .before .before .before .before .before .before .before .before .before .before .before .before .before .before .before .open-marked in
+    let if2 = c .before .before .before .before .before .before .before .before .before .before .before .before .before .before .if2 in
+    let write-symbol = c .before .before .before .before .before .before .before .before .before .before .before .before .before .before .before .before .before .before .before .write-symbol in
+    let size = c .before .before .before .before .before .before .before .before .before .before .before .before .before .before .before .before .before .before .before .before .size in
+    let if3 = c .before .before .before .before .before .before .if3 in
+    let write-byte-string = c .before .before .before .before .before .before .before .before .before .write-byte-string in
+    ready-as (λ A f. (f .0, f .1, vars-present _ _ _ (if4 .left) (right-row (f .0) (a .v) (f .2) _ (user-row (noded (f .0)) (a .v) (f .2) (pre .0)) .2))) (ready _ _ (ready _ _ (ready-head _ _ (pre .1) (if1 .left) (λ A room f. open-marked .ensures A room 0 (is-object (noded (f .0)) (a .v) (f .2) 8 (pre .0) (omega arith) (omega arith)) (pure tt))) (if2 .left) (λ A room f. write-symbol .ensures A room 0 (f .0) (symbol-as _ _ (size .ensures) (right-row (f .0) (a .v) (f .2) _ (user-row (noded (f .0)) (a .v) (f .2) (pre .0)) .1)))) (if3 .left) (λ A room f. write-byte-string .ensures A room 0 _))
+
 same-length-9 : tie.Need-same-length-9
 same-length-9 c = search needs
 
--- src/lib.rt:285:1
 same-length-10 : tie.Need-same-length-10
 same-length-10 c = search needs
 
--- src/lib.rt:285:1
 returns-5 : tie.Need-returns-5
 returns-5 c =
-    let a = c .before .before .before .before .before .before .before .before .before .before .before .before .before .before .before .args in
-    let bs = integer-bytes (a .n) ++ take (a .n) (drop (a .start) (a .bytes .now)) in
-    λ A room l s o. open-refused (λ rest. write-name room A (a .name) >> write room bs >> rest) (λ rest. user-same room (a .v) (a .limit) (a .levels) (a .f) bs rest A (a .name)) (c .before .before .before .before .before .before .before .open-marked .ensures A room o) (c .before .r3 .given .1)
+    let a = c .before .before .before .before .before .before .before .before .before .before .before .before .before .before .before .before .before .before .before .before .before .before .before .before .before .before .before .before .before .before .before .before .before .before .before .before .before .before .before .before .before .before .before .before .before .args in
+    let pre = c .before .before .before .before .before .before .before .before .before .before .before .before .before .before .before .before .before .before .before .before .before .before .before .before .before .before .before .before .before .before .before .before .before .before .before .before .before .before .before .before .before .before .before .before .before .pre in
+    let size = c .before .before .before .before .before .before .before .before .before .before .before .before .before .before .before .before .before .before .before .before .before .before .before .before .before .size in
+    let if1 = c .before .before .before .before .before .before .before .before .before .before .before .before .before .before .before .before .before .before .before .before .before .before .before .before .before .before .before .before .before .before .if1 in
+    let open-marked = c .before .before .before .before .before .before .before .before .before .before .before .before .before .before .before .before .before .before .before .before .before .before .before .before .before .before .before .before .before .before .before .before .before .before .before .open-marked in
+    let if2 = c .before .before .before .before .before .before .before .before .before .before .before .before .before .before .before .before .before .before .before .if2 in
+    let write-symbol = c .before .before .before .before .before .before .before .before .before .before .before .before .before .before .before .before .before .before .before .before .before .before .before .before .write-symbol in
+    let if4 = c .before .before .before .before .before .before .before .before .before .before .if4 in
+    let if3 = c .before .before .before .before .before .before .before .before .before .before .before .if3 in
+    let write-byte-string = c .before .before .before .before .before .before .before .before .before .before .before .before .before .before .write-byte-string in
+    let open-variables = c .before .before .before .before .open-variables in (
+      λ A room limit l li b.
+          let row = user-row (noded l) (a .v) b (pre .0) in
+          let right = right-row l (a .v) b _ row in
+          head-as (user-open room A (write-level limit (a .levels)) (write-value room A limit (a .levels)) (a .v) l _ _ _ _ _ (right .0) _ _ (size .ensures) row) (head-after (head-goes (if1 .left) (open-marked .ensures A room limit (is-object (noded l) (a .v) b 8 (pre .0) (omega arith) (omega arith)) _)) (head-after (lead-goes (if2 .left) (lead-first _ (write-symbol .ensures A room limit l (symbol-as _ _ (size .ensures) (right .1))))) (head-after (goes-to (after-some room A (write-level limit (a .levels)) (write-value room A limit (a .levels)) (a .v) _ _ _ (if4 .left)) (lead-goes (if3 .left) (lead-first _ (write-byte-string .ensures A room limit _)))) (lead-head (lead-to (sym (members-pairs room A _ 8 _ _ _ (λ q. omega (arith, q)) (λ q. omega (arith, q)))) (open-variables .ensures A room limit l li (vars-present _ _ _ (if4 .left) (right .2)))))))),
+      λ A l b e. in-pairs (a .nodes .now) (a .v) (λ q. omega (arith, q, pre .0)) (λ q. omega (arith, q, pre .0)) (vars-present _ _ _ (if4 .left) (right-row l (a .v) b _ (user-row (noded l) (a .v) b (pre .0)) .2)),
+    )
 
 pub open-user-defined-spec : {M : Type 1} → statement M
 open-user-defined-spec =
     tie.close
     (tie.spec
+    mul-f
+    add-f
+    mul-f-2
+    shared-slice-read-f
     open-marked-requires
-    enum-told
-    enum-told-2
-    write-symbol-requires
-    enum-told-3
-    write-byte-string-requires
-    enum-told-4
-    enum-known-r
-    enum-known-r-2
-    enum-known-r-3
     same-length
     same-length-2
     returns
+    mul-size
+    add-size
+    mul-size-2
+    shared-slice-read-size
+    size-requires
+    write-symbol-requires
     same-length-3
     same-length-4
     returns-2
+    mul-write-byte-string
+    add-write-byte-string
+    mul-write-byte-string-2
+    shared-slice-read-write-byte-string
+    mul-write-byte-string-3
+    add-write-byte-string-2
+    mul-write-byte-string-4
+    shared-slice-read-write-byte-string-2
+    write-byte-string-requires
     same-length-5
     same-length-6
     returns-3
     same-length-7
     same-length-8
     returns-4
+    mul-open-variables
+    add-open-variables
+    mul-open-variables-2
+    shared-slice-read-open-variables
+    mul-open-variables-3
+    add-open-variables-2
+    mul-open-variables-4
+    shared-slice-read-open-variables-2
+    open-variables-requires
     same-length-9
     same-length-10
     returns-5)

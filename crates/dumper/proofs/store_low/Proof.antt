@@ -1,3 +1,4 @@
+-- The proof of store_low.
 use borrow.Author.Needs.{needs}
 use native.Mathlib.Omega.{arith}
 use Prim.Native.Nat.{_+_, _-_, _≤_}
@@ -8,8 +9,6 @@ use Rattle.definition.specs.Integer.{low-bytes}
 use Rattle.dumper.proofs.Integers.{low-start, low-on, low-end}
 use Rattle.dumper.proofs.store_low.Statement.{statement}
 use Rattle.dumper.proofs.store_low.Tie as tie
-use Rattle.dumper.proofs.store_low.Reads as reads
-use Rattle.dumper.proofs.store_low.Lts as lts
 
 abbrev Inv-loop : tie.InvT-loop
 Inv-loop output₀ at n v i₀ w₀ output i w =
@@ -19,47 +18,38 @@ abbrev μ-loop : tie.MeasureT-loop
 μ-loop output₀ at n v i₀ w₀ output i w =
     n - i
 
--- src/lib.rt:65:5
 loop-holds : tie.Need-loop-holds Inv-loop μ-loop
 loop-holds c =
     let a = c .args in
     (omega arith, refl, low-start (a .output .now) (a .at) (a .n) (a .v))
 
--- src/lib.rt:66:26
 cast-output : tie.Need-cast-output Inv-loop μ-loop
 cast-output c = search needs
 
--- src/lib.rt:66:16
 add-output : tie.Need-add-output Inv-loop μ-loop
 add-output c =
     omega (arith, c .loop-test .taken, c .before .before .pre)
 
--- src/lib.rt:66:9
 slice-write-output : tie.Need-slice-write-output Inv-loop μ-loop
 slice-write-output c =
     omega (arith, c .loop-test .taken, c .before .before .pre, c .before .loop .inv .1)
 
--- src/lib.rt:68:13
 add-i : tie.Need-add-i Inv-loop μ-loop
 add-i c = search needs
 
--- src/lib.rt:65:5
 loop-less : tie.Need-loop-less Inv-loop μ-loop
 loop-less c = search needs
 
--- src/lib.rt:65:5
 loop-again : tie.Need-loop-again Inv-loop μ-loop
 loop-again c =
     let a = c .before .before .args in
     let l = c .before .loop in
     (omega (arith, c .loop-test .taken), length-set (l .output) _ _ ∙ l .inv .1, l .inv .2 ∙ low-on (l .output) (a .at) (a .n) (l .i) (l .w) (c .loop-test .taken))
 
--- src/lib.rt:59:1
 same-length : tie.Need-same-length Inv-loop μ-loop
 same-length c =
     c .before .loop .inv .1
 
--- src/lib.rt:59:1
 returns : tie.Need-returns Inv-loop μ-loop
 returns c =
     let a = c .before .before .args in

@@ -1,3 +1,4 @@
+-- The proof of run.
 use borrow.Author.Needs.{needs}
 use native.Mathlib.Omega.{arith}
 use Prim.Native.Nat.{ℕ, _+_, _-_, _≤_, _<_}
@@ -13,84 +14,64 @@ use Rattle.list.proofs.list.Reads as list-reads
 use Rattle.console.proofs.read_input.Reads as read-input-reads
 use Rattle.os.proofs.fail.Reads as fail-reads
 
--- src/main.rt:45:11
 read-input-requires : tie.Need-read-input-requires
 read-input-requires c κs = search needs
 
--- src/main.rt:46:21
 enum-known-n : tie.Need-enum-known-n
 enum-known-n c = search needs
 
--- src/main.rt:48:22
 slice-reshare-prefix-list : tie.Need-slice-reshare-prefix-list
 slice-reshare-prefix-list c = search needs
 
--- src/main.rt:48:22
 slice-aggregate-list : tie.Need-slice-aggregate-list
 slice-aggregate-list c =
     sym (length-take-le _ _ (c .before .if1 .taken))
 
--- src/main.rt:48:17
 list-requires : tie.Need-list-requires
 list-requires c κs = search needs
 
--- src/main.rt:51:35
 enum-told : tie.Need-enum-told
 enum-told c = search needs
 
--- src/main.rt:51:35
 slice-aggregate-fail : tie.Need-slice-aggregate-fail
 slice-aggregate-fail c = search needs
 
--- src/main.rt:51:26
 fail-requires : tie.Need-fail-requires
 fail-requires c κs = search needs
 
--- src/main.rt:36:1
 same-length : tie.Need-same-length
 same-length c = search needs
 
--- src/main.rt:36:1
 same-length-2 : tie.Need-same-length-2
 same-length-2 c = search needs
 
--- src/main.rt:36:1
 same-length-3 : tie.Need-same-length-3
 same-length-3 c = search needs
 
--- src/main.rt:36:1
 same-length-4 : tie.Need-same-length-4
 same-length-4 c = search needs
 
--- src/main.rt:36:1
 same-length-5 : tie.Need-same-length-5
 same-length-5 c = search needs
 
--- src/main.rt:36:1
 same-length-6 : tie.Need-same-length-6
 same-length-6 c = search needs
 
--- src/main.rt:36:1
 same-length-7 : tie.Need-same-length-7
 same-length-7 c = search needs
 
--- src/main.rt:36:1
 returns : tie.Need-returns
 returns c = search needs
 
--- src/main.rt:36:1
 same-length-8 : tie.Need-same-length-8
 same-length-8 c = search needs
 
--- src/main.rt:36:1
 returns-2 : tie.Need-returns-2
 returns-2 c = search needs
 
--- src/main.rt:36:1
 same-length-9 : tie.Need-same-length-9
 same-length-9 c = search needs
 
--- src/main.rt:36:1
 returns-3 : tie.Need-returns-3
 returns-3 c = search needs
 

@@ -1,3 +1,4 @@
+-- The proof of list_first.
 use borrow.Author.Needs.{needs}
 use native.Mathlib.Omega.{arith}
 use Prim.Native.Nat.{ℕ, _+_, _-_, _≤_, _<_}
@@ -11,44 +12,34 @@ use Rattle.list_cases.proofs.list_first.Reads as reads
 use Rattle.list_cases.proofs.list_first.Lts as lts
 use Rattle.listing.proofs.put_listing.Reads as put-listing-reads
 
--- src/main.rt:30:13
 slice-aggregate-put-listing : tie.Need-slice-aggregate-put-listing
 slice-aggregate-put-listing c =
     sym (length-take-le _ _ (c .before .before .if1 .taken))
 
--- src/main.rt:27:9
 put-listing-requires : tie.Need-put-listing-requires
 put-listing-requires c κs = search needs
 
--- src/main.rt:27:9
 same-length : tie.Need-same-length
 same-length c = search needs
 
--- src/main.rt:27:9
 same-length-2 : tie.Need-same-length-2
 same-length-2 c = search needs
 
--- src/main.rt:27:9
 same-length-3 : tie.Need-same-length-3
 same-length-3 c = search needs
 
--- src/main.rt:27:9
 same-length-4 : tie.Need-same-length-4
 same-length-4 c = search needs
 
--- src/main.rt:27:9
 same-length-5 : tie.Need-same-length-5
 same-length-5 c = search needs
 
--- src/main.rt:27:9
 same-length-6 : tie.Need-same-length-6
 same-length-6 c = search needs
 
--- src/main.rt:27:9
 returns : tie.Need-returns
 returns c = search needs
 
--- src/main.rt:15:1
 returns-2 : tie.Need-returns-2
 returns-2 c = search needs
 

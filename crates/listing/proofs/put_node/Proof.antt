@@ -1,3 +1,4 @@
+-- The proof of put_node.
 use borrow.Author.Needs.{needs}
 use native.Mathlib.Omega.{arith}
 use Prim.Native.Nat.{ℕ, _+_, _-_, _≤_, _<_}
@@ -19,42 +20,33 @@ abbrev μ-loop : tie.MeasureT-loop
 μ-loop out₀ at nodes i p₀ j₀ out p j =
     7 - j
 
--- src/lib.rt:51:9
 put-number-requires : tie.Need-put-number-requires Inv-loop μ-loop
 put-number-requires c κs = search needs
 
--- src/lib.rt:52:5
 loop-holds : tie.Need-loop-holds Inv-loop μ-loop
 loop-holds c =
     omega (arith, c .before .before .put-number .kept)
 
--- src/lib.rt:53:9
 put-word-requires : tie.Need-put-word-requires Inv-loop μ-loop
 put-word-requires c κs = search needs
 
--- src/lib.rt:52:9
 add-j : tie.Need-add-j Inv-loop μ-loop
 add-j c = search needs
 
--- src/lib.rt:52:5
 loop-less : tie.Need-loop-less Inv-loop μ-loop
 loop-less c = search needs
 
--- src/lib.rt:52:5
 loop-again : tie.Need-loop-again Inv-loop μ-loop
 loop-again c =
     omega (arith, c .before .before .before .before .before .loop .inv, c .before .before .put-word .kept)
 
--- src/lib.rt:55:5
 end-row-requires : tie.Need-end-row-requires Inv-loop μ-loop
 end-row-requires c κs = search needs
 
--- src/lib.rt:50:1
 same-length : tie.Need-same-length Inv-loop μ-loop
 same-length c =
     omega (arith, c .before .before .before .before .before .loop .inv, c .before .before .end-row .kept)
 
--- src/lib.rt:50:1
 returns : tie.Need-returns Inv-loop μ-loop
 returns c = search needs
 

@@ -1,3 +1,4 @@
+-- The proof of case_agrees.
 use borrow.Author.Needs.{needs}
 use native.Mathlib.Omega.{arith}
 use Prim.Native.Nat.{ℕ, _+_, _-_, _≤_}
@@ -15,168 +16,128 @@ use Rattle.load_replay.proofs.input_start.Reads as input-start-reads
 use Rattle.replay.proofs.plus.Reads as plus-reads
 use Rattle.replay.proofs.word.Reads as word-reads
 
--- src/main.rt:158:13
 word-requires : tie.Need-word-requires
 word-requires c κs = search needs
 
--- src/main.rt:158:13
 cast-n : tie.Need-cast-n
 cast-n c = search needs
 
--- src/main.rt:159:13
 word-requires-2 : tie.Need-word-requires-2
 word-requires-2 c κs = search needs
 
--- src/main.rt:159:13
 cast-r : tie.Need-cast-r
 cast-r c = search needs
 
--- src/main.rt:160:13
 word-requires-3 : tie.Need-word-requires-3
 word-requires-3 c κs = search needs
 
--- src/main.rt:160:13
 cast-b : tie.Need-cast-b
 cast-b c = search needs
 
--- src/main.rt:161:13
 word-requires-4 : tie.Need-word-requires-4
 word-requires-4 c κs = search needs
 
--- src/main.rt:161:13
 cast-s : tie.Need-cast-s
 cast-s c = search needs
 
--- src/main.rt:162:13
 word-requires-5 : tie.Need-word-requires-5
 word-requires-5 c κs = search needs
 
--- src/main.rt:162:13
 cast-o : tie.Need-cast-o
 cast-o c = search needs
 
--- src/main.rt:163:9
 input-start-requires : tie.Need-input-start-requires
 input-start-requires c κs = search needs
 
--- src/main.rt:164:27
 word-requires-6 : tie.Need-word-requires-6
 word-requires-6 c κs = search needs
 
--- src/main.rt:164:27
 cast-plus : tie.Need-cast-plus
 cast-plus c = search needs
 
--- src/main.rt:164:9
 plus-requires : tie.Need-plus-requires
 plus-requires c κs = search needs
 
--- src/main.rt:172:65
 part-fitted-agrees-start : tie.Need-part-fitted-agrees-start
 part-fitted-agrees-start c = search needs
 
--- src/main.rt:172:65
 part-fitted-agrees-end : tie.Need-part-fitted-agrees-end
 part-fitted-agrees-end c = search needs
 
--- src/main.rt:172:84
 slice-relend-prefix-fitted-agrees : tie.Need-slice-relend-prefix-fitted-agrees
 slice-relend-prefix-fitted-agrees c = search needs
 
--- src/main.rt:172:84
 slice-aggregate-fitted-agrees : tie.Need-slice-aggregate-fitted-agrees
 slice-aggregate-fitted-agrees c =
     sym (length-take-le _ _ (c .before .before .before .before .before .before .before .before .if1 .taken))
 
--- src/main.rt:172:101
 slice-relend-prefix-fitted-agrees-2 : tie.Need-slice-relend-prefix-fitted-agrees-2
 slice-relend-prefix-fitted-agrees-2 c = search needs
 
--- src/main.rt:172:101
 slice-aggregate-fitted-agrees-2 : tie.Need-slice-aggregate-fitted-agrees-2
 slice-aggregate-fitted-agrees-2 c =
     sym (length-take-le _ _ (c .before .before .before .before .before .before .before .before .if2 .taken))
 
--- src/main.rt:172:123
 slice-relend-prefix-fitted-agrees-3 : tie.Need-slice-relend-prefix-fitted-agrees-3
 slice-relend-prefix-fitted-agrees-3 c = search needs
 
--- src/main.rt:172:123
 slice-aggregate-fitted-agrees-3 : tie.Need-slice-aggregate-fitted-agrees-3
 slice-aggregate-fitted-agrees-3 c =
     sym (length-take-le _ _ (c .before .before .before .before .before .before .before .before .if3 .taken))
 
--- src/main.rt:172:140
 slice-relend-prefix-fitted-agrees-4 : tie.Need-slice-relend-prefix-fitted-agrees-4
 slice-relend-prefix-fitted-agrees-4 c = search needs
 
--- src/main.rt:172:140
 slice-aggregate-fitted-agrees-4 : tie.Need-slice-aggregate-fitted-agrees-4
 slice-aggregate-fitted-agrees-4 c =
     sym (length-take-le _ _ (c .before .before .before .before .before .before .before .before .if4 .taken))
 
--- src/main.rt:172:159
 slice-relend-prefix-fitted-agrees-5 : tie.Need-slice-relend-prefix-fitted-agrees-5
 slice-relend-prefix-fitted-agrees-5 c = search needs
 
--- src/main.rt:172:159
 slice-aggregate-fitted-agrees-5 : tie.Need-slice-aggregate-fitted-agrees-5
 slice-aggregate-fitted-agrees-5 c =
     sym (length-take-le _ _ (c .before .before .before .before .before .before .before .before .if5 .taken))
 
--- src/main.rt:172:33
 fitted-agrees-requires : tie.Need-fitted-agrees-requires
 fitted-agrees-requires c κs = search needs
 
--- src/main.rt:172:33
 same-length : tie.Need-same-length
 same-length c = search needs
 
--- src/main.rt:172:33
 same-length-2 : tie.Need-same-length-2
 same-length-2 c = search needs
 
--- src/main.rt:172:33
 same-length-3 : tie.Need-same-length-3
 same-length-3 c = search needs
 
--- src/main.rt:172:33
 same-length-4 : tie.Need-same-length-4
 same-length-4 c = search needs
 
--- src/main.rt:172:33
 same-length-5 : tie.Need-same-length-5
 same-length-5 c = search needs
 
--- src/main.rt:172:33
 returns : tie.Need-returns
 returns c = search needs
 
--- src/main.rt:157:1
 returns-2 : tie.Need-returns-2
 returns-2 c = search needs
 
--- src/main.rt:157:1
 returns-3 : tie.Need-returns-3
 returns-3 c = search needs
 
--- src/main.rt:157:1
 returns-4 : tie.Need-returns-4
 returns-4 c = search needs
 
--- src/main.rt:157:1
 returns-5 : tie.Need-returns-5
 returns-5 c = search needs
 
--- src/main.rt:157:1
 returns-6 : tie.Need-returns-6
 returns-6 c = search needs
 
--- src/main.rt:157:1
 returns-7 : tie.Need-returns-7
 returns-7 c = search needs
 
--- src/main.rt:157:1
 returns-8 : tie.Need-returns-8
 returns-8 c = search needs
 

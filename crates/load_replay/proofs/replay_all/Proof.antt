@@ -1,3 +1,4 @@
+-- The proof of replay_all.
 use borrow.Author.Needs.{needs}
 use native.Mathlib.Omega.{arith}
 use Prim.Native.Nat.{ℕ, _+_, _-_, _≤_}
@@ -20,112 +21,90 @@ abbrev μ-loop : tie.MeasureT-loop
 μ-loop data₀ nodes₀ references₀ bytes₀ symbols₀ objects₀ wrong₀ i₀ «data» nodes references bytes symbols objects wrong i =
     10000 - i
 
--- src/main.rt:196:5
 loop-holds : tie.Need-loop-holds Inv-loop μ-loop
 loop-holds c =
     (omega arith, refl, refl, refl, refl, refl, refl)
 
--- src/main.rt:197:13
 step-requires : tie.Need-step-requires Inv-loop μ-loop
 step-requires c κs = search needs
 
--- src/main.rt:199:13
 print-counts-requires : tie.Need-print-counts-requires Inv-loop μ-loop
 print-counts-requires c κs = search needs
 
--- src/main.rt:200:13
 same-length : tie.Need-same-length Inv-loop μ-loop
 same-length c =
     let v = c .before .before .before .before .before .before .before .before .before .before .before .before .before .before .before .before .before .before .before .before .before .before .loop .inv in
     omega (arith, v .1, c .before .before .before .before .before .before .before .before .before .before .before .before .before .before .step .kept)
 
--- src/main.rt:200:13
 same-length-2 : tie.Need-same-length-2 Inv-loop μ-loop
 same-length-2 c =
     let v = c .before .before .before .before .before .before .before .before .before .before .before .before .before .before .before .before .before .before .before .before .before .before .loop .inv in
     omega (arith, v .2, c .before .before .before .before .before .before .before .before .before .before .before .before .before .before .step .kept)
 
--- src/main.rt:200:13
 same-length-3 : tie.Need-same-length-3 Inv-loop μ-loop
 same-length-3 c =
     let v = c .before .before .before .before .before .before .before .before .before .before .before .before .before .before .before .before .before .before .before .before .before .before .loop .inv in
     omega (arith, v .3, c .before .before .before .before .before .before .before .before .before .before .before .before .before .before .step .kept)
 
--- src/main.rt:200:13
 same-length-4 : tie.Need-same-length-4 Inv-loop μ-loop
 same-length-4 c =
     let v = c .before .before .before .before .before .before .before .before .before .before .before .before .before .before .before .before .before .before .before .before .before .before .loop .inv in
     omega (arith, v .4, c .before .before .before .before .before .before .before .before .before .before .before .before .before .before .step .kept)
 
--- src/main.rt:200:13
 same-length-5 : tie.Need-same-length-5 Inv-loop μ-loop
 same-length-5 c =
     let v = c .before .before .before .before .before .before .before .before .before .before .before .before .before .before .before .before .before .before .before .before .before .before .loop .inv in
     omega (arith, v .5, c .before .before .before .before .before .before .before .before .before .before .before .before .before .before .step .kept)
 
--- src/main.rt:200:13
 same-length-6 : tie.Need-same-length-6 Inv-loop μ-loop
 same-length-6 c =
     let v = c .before .before .before .before .before .before .before .before .before .before .before .before .before .before .before .before .before .before .before .before .before .before .loop .inv in
     omega (arith, v .6, c .before .before .before .before .before .before .before .before .before .before .before .before .before .before .step .kept)
 
--- src/main.rt:200:13
 returns : tie.Need-returns Inv-loop μ-loop
 returns c = search needs
 
--- src/main.rt:203:13
 print-case-requires : tie.Need-print-case-requires Inv-loop μ-loop
 print-case-requires c κs = search needs
 
--- src/main.rt:204:13
 next-requires : tie.Need-next-requires Inv-loop μ-loop
 next-requires c κs = search needs
 
--- src/main.rt:196:9
 add-i : tie.Need-add-i Inv-loop μ-loop
 add-i c = search needs
 
--- src/main.rt:196:5
 loop-less : tie.Need-loop-less Inv-loop μ-loop
 loop-less c = search needs
 
--- src/main.rt:196:5
 loop-again : tie.Need-loop-again Inv-loop μ-loop
 loop-again c =
     let v = c .before .before .before .before .before .before .before .before .before .before .before .before .before .before .before .before .before .before .before .before .before .before .loop .inv in
     omega (arith, c .before .before .before .before .before .before .before .before .before .before .before .before .before .before .before .before .before .before .before .before .before .loop-test .taken, v .0, v .1, v .2, v .3, v .4, v .5, v .6, c .before .before .before .before .before .before .before .before .before .before .before .before .before .before .step .kept)
 
--- src/main.rt:194:1
 same-length-7 : tie.Need-same-length-7 Inv-loop μ-loop
 same-length-7 c =
     c .before .loop .inv .1
 
--- src/main.rt:194:1
 same-length-8 : tie.Need-same-length-8 Inv-loop μ-loop
 same-length-8 c =
     c .before .loop .inv .2
 
--- src/main.rt:194:1
 same-length-9 : tie.Need-same-length-9 Inv-loop μ-loop
 same-length-9 c =
     c .before .loop .inv .3
 
--- src/main.rt:194:1
 same-length-10 : tie.Need-same-length-10 Inv-loop μ-loop
 same-length-10 c =
     c .before .loop .inv .4
 
--- src/main.rt:194:1
 same-length-11 : tie.Need-same-length-11 Inv-loop μ-loop
 same-length-11 c =
     c .before .loop .inv .5
 
--- src/main.rt:194:1
 same-length-12 : tie.Need-same-length-12 Inv-loop μ-loop
 same-length-12 c =
     c .before .loop .inv .6
 
--- src/main.rt:194:1
 returns-2 : tie.Need-returns-2 Inv-loop μ-loop
 returns-2 c = search needs
 

@@ -1,91 +1,71 @@
+-- The proof of run.
 use mathlib.Core.Path.{sym}
 use lib.Seq.{length-take-le}
 use borrow.Author.Needs.{needs}
 use Rattle.redump.proofs.run.Statement.{statement}
 use Rattle.redump.proofs.run.Tie as tie
 
--- src/main.rt:74:11
 read-input-requires : tie.Need-read-input-requires
 read-input-requires c κs = search needs
 
--- src/main.rt:75:21
 enum-known-n : tie.Need-enum-known-n
 enum-known-n c = search needs
 
--- src/main.rt:78:21
 slice-reshare-prefix-write-redump : tie.Need-slice-reshare-prefix-write-redump
 slice-reshare-prefix-write-redump c = search needs
 
--- src/main.rt:78:21
 slice-aggregate-write-redump : tie.Need-slice-aggregate-write-redump
 slice-aggregate-write-redump c =
     sym (length-take-le _ _ (c .before .if1 .taken))
 
--- src/main.rt:77:17
 write-redump-requires : tie.Need-write-redump-requires
 write-redump-requires c κs = search needs
 
--- src/main.rt:89:35
 enum-told : tie.Need-enum-told
 enum-told c = search needs
 
--- src/main.rt:89:35
 slice-aggregate-fail : tie.Need-slice-aggregate-fail
 slice-aggregate-fail c = search needs
 
--- src/main.rt:89:26
 fail-requires : tie.Need-fail-requires
 fail-requires c κs = search needs
 
--- src/main.rt:64:1
 same-length : tie.Need-same-length
 same-length c = search needs
 
--- src/main.rt:64:1
 same-length-2 : tie.Need-same-length-2
 same-length-2 c = search needs
 
--- src/main.rt:64:1
 same-length-3 : tie.Need-same-length-3
 same-length-3 c = search needs
 
--- src/main.rt:64:1
 same-length-4 : tie.Need-same-length-4
 same-length-4 c = search needs
 
--- src/main.rt:64:1
 same-length-5 : tie.Need-same-length-5
 same-length-5 c = search needs
 
--- src/main.rt:64:1
 same-length-6 : tie.Need-same-length-6
 same-length-6 c = search needs
 
--- src/main.rt:64:1
 same-length-7 : tie.Need-same-length-7
 same-length-7 c = search needs
 
--- src/main.rt:64:1
 same-length-8 : tie.Need-same-length-8
 same-length-8 c = search needs
 
--- src/main.rt:64:1
 returns : tie.Need-returns
 returns c = search needs
 
--- src/main.rt:64:1
 same-length-9 : tie.Need-same-length-9
 same-length-9 c = search needs
 
--- src/main.rt:64:1
 returns-2 : tie.Need-returns-2
 returns-2 c = search needs
 
--- src/main.rt:64:1
 same-length-10 : tie.Need-same-length-10
 same-length-10 c = search needs
 
--- src/main.rt:64:1
 returns-3 : tie.Need-returns-3
 returns-3 c = search needs
 

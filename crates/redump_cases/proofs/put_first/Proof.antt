@@ -1,31 +1,26 @@
+-- The proof of put_first.
 use mathlib.Core.Path.{sym}
 use lib.Seq.{length-take-le}
 use borrow.Author.Needs.{needs}
 use Rattle.redump_cases.proofs.put_first.Statement.{statement}
 use Rattle.redump_cases.proofs.put_first.Tie as tie
 
--- src/main.rt:46:36
 slice-aggregate-put-bytes : tie.Need-slice-aggregate-put-bytes
 slice-aggregate-put-bytes c =
     sym (length-take-le _ _ (c .before .before .if1 .taken))
 
--- src/main.rt:46:13
 put-bytes-requires : tie.Need-put-bytes-requires
 put-bytes-requires c κs = search needs
 
--- src/main.rt:47:9
 end-row-requires : tie.Need-end-row-requires
 end-row-requires c κs = search needs
 
--- src/main.rt:47:9
 same-length : tie.Need-same-length
 same-length c = search needs
 
--- src/main.rt:47:9
 returns : tie.Need-returns
 returns c = search needs
 
--- src/main.rt:44:1
 returns-2 : tie.Need-returns-2
 returns-2 c = search needs
 

@@ -1,3 +1,4 @@
+-- The proof of redump_all.
 use borrow.Author.Needs.{needs}
 use native.Mathlib.Omega.{arith}
 use Prim.Native.Nat.{_-_}
@@ -14,136 +15,108 @@ abbrev μ-loop : tie.MeasureT-loop
 μ-loop data₀ out₀ nodes₀ references₀ bytes₀ symbols₀ objects₀ scratch₀ output₀ at₀ i₀ «data» out nodes references bytes symbols objects scratch output at i =
     10000 - i
 
--- src/main.rt:133:5
 loop-holds : tie.Need-loop-holds Inv-loop μ-loop
 loop-holds c =
     (refl, refl, refl, refl, refl, refl, refl, refl, refl)
 
--- src/main.rt:134:15
 redump-next-requires : tie.Need-redump-next-requires Inv-loop μ-loop
 redump-next-requires c κs = search needs
 
--- src/main.rt:146:25
 enum-known-p : tie.Need-enum-known-p Inv-loop μ-loop
 enum-known-p c = search needs
 
--- src/main.rt:150:23
 enum-told : tie.Need-enum-told Inv-loop μ-loop
 enum-told c = search needs
 
--- src/main.rt:150:17
 flush-requires : tie.Need-flush-requires Inv-loop μ-loop
 flush-requires c κs = search needs
 
--- src/main.rt:151:17
 same-length : tie.Need-same-length Inv-loop μ-loop
 same-length c =
     omega (arith, c .before .before .before .before .before .before .before .before .before .before .before .before .before .before .before .before .before .before .before .before .before .before .before .before .before .before .before .before .before .before .before .before .before .loop .inv .0, c .before .before .before .before .before .before .before .before .before .before .before .before .before .before .before .before .before .before .before .before .before .before .redump-next .kept)
 
--- src/main.rt:151:17
 same-length-2 : tie.Need-same-length-2 Inv-loop μ-loop
 same-length-2 c =
     omega (arith, c .before .before .before .before .before .before .before .before .before .before .before .before .before .before .before .before .before .before .before .before .before .before .before .before .before .before .before .before .before .before .before .before .before .loop .inv .1, c .before .before .before .before .before .before .before .before .before .before .before .before .before .before .before .before .before .before .before .before .before .before .redump-next .kept)
 
--- src/main.rt:151:17
 same-length-3 : tie.Need-same-length-3 Inv-loop μ-loop
 same-length-3 c =
     omega (arith, c .before .before .before .before .before .before .before .before .before .before .before .before .before .before .before .before .before .before .before .before .before .before .before .before .before .before .before .before .before .before .before .before .before .loop .inv .2, c .before .before .before .before .before .before .before .before .before .before .before .before .before .before .before .before .before .before .before .before .before .before .redump-next .kept)
 
--- src/main.rt:151:17
 same-length-4 : tie.Need-same-length-4 Inv-loop μ-loop
 same-length-4 c =
     omega (arith, c .before .before .before .before .before .before .before .before .before .before .before .before .before .before .before .before .before .before .before .before .before .before .before .before .before .before .before .before .before .before .before .before .before .loop .inv .3, c .before .before .before .before .before .before .before .before .before .before .before .before .before .before .before .before .before .before .before .before .before .before .redump-next .kept)
 
--- src/main.rt:151:17
 same-length-5 : tie.Need-same-length-5 Inv-loop μ-loop
 same-length-5 c =
     omega (arith, c .before .before .before .before .before .before .before .before .before .before .before .before .before .before .before .before .before .before .before .before .before .before .before .before .before .before .before .before .before .before .before .before .before .loop .inv .4, c .before .before .before .before .before .before .before .before .before .before .before .before .before .before .before .before .before .before .before .before .before .before .redump-next .kept)
 
--- src/main.rt:151:17
 same-length-6 : tie.Need-same-length-6 Inv-loop μ-loop
 same-length-6 c =
     omega (arith, c .before .before .before .before .before .before .before .before .before .before .before .before .before .before .before .before .before .before .before .before .before .before .before .before .before .before .before .before .before .before .before .before .before .loop .inv .5, c .before .before .before .before .before .before .before .before .before .before .before .before .before .before .before .before .before .before .before .before .before .before .redump-next .kept)
 
--- src/main.rt:151:17
 same-length-7 : tie.Need-same-length-7 Inv-loop μ-loop
 same-length-7 c =
     omega (arith, c .before .before .before .before .before .before .before .before .before .before .before .before .before .before .before .before .before .before .before .before .before .before .before .before .before .before .before .before .before .before .before .before .before .loop .inv .6, c .before .before .before .before .before .before .before .before .before .before .before .before .before .before .before .before .before .before .before .before .before .before .redump-next .kept)
 
--- src/main.rt:151:17
 same-length-8 : tie.Need-same-length-8 Inv-loop μ-loop
 same-length-8 c =
     omega (arith, c .before .before .before .before .before .before .before .before .before .before .before .before .before .before .before .before .before .before .before .before .before .before .before .before .before .before .before .before .before .before .before .before .before .loop .inv .7, c .before .before .before .before .before .before .before .before .before .before .before .before .before .before .before .before .before .before .before .before .before .before .redump-next .kept)
 
--- src/main.rt:151:17
 same-length-9 : tie.Need-same-length-9 Inv-loop μ-loop
 same-length-9 c =
     omega (arith, c .before .before .before .before .before .before .before .before .before .before .before .before .before .before .before .before .before .before .before .before .before .before .before .before .before .before .before .before .before .before .before .before .before .loop .inv .8, c .before .before .before .before .before .before .before .before .before .before .before .before .before .before .before .before .before .before .before .before .before .before .redump-next .kept)
 
--- src/main.rt:151:17
 returns : tie.Need-returns Inv-loop μ-loop
 returns c = search needs
 
--- src/main.rt:133:9
 add-i : tie.Need-add-i Inv-loop μ-loop
 add-i c = search needs
 
--- src/main.rt:133:5
 loop-less : tie.Need-loop-less Inv-loop μ-loop
 loop-less c = search needs
 
--- src/main.rt:133:5
 loop-again : tie.Need-loop-again Inv-loop μ-loop
 loop-again c =
     let v = c .before .before .before .before .before .before .before .before .before .before .before .before .before .before .before .before .before .before .before .before .before .before .before .before .before .before .before .before .before .before .before .before .loop .inv in
     omega (arith, v .0, v .1, v .2, v .3, v .4, v .5, v .6, v .7, v .8, c .before .before .before .before .before .before .before .before .before .before .before .before .before .before .before .before .before .before .before .before .before .redump-next .kept)
 
--- src/main.rt:121:1
 same-length-10 : tie.Need-same-length-10 Inv-loop μ-loop
 same-length-10 c =
     c .before .loop .inv .0
 
--- src/main.rt:121:1
 same-length-11 : tie.Need-same-length-11 Inv-loop μ-loop
 same-length-11 c =
     c .before .loop .inv .1
 
--- src/main.rt:121:1
 same-length-12 : tie.Need-same-length-12 Inv-loop μ-loop
 same-length-12 c =
     c .before .loop .inv .2
 
--- src/main.rt:121:1
 same-length-13 : tie.Need-same-length-13 Inv-loop μ-loop
 same-length-13 c =
     c .before .loop .inv .3
 
--- src/main.rt:121:1
 same-length-14 : tie.Need-same-length-14 Inv-loop μ-loop
 same-length-14 c =
     c .before .loop .inv .4
 
--- src/main.rt:121:1
 same-length-15 : tie.Need-same-length-15 Inv-loop μ-loop
 same-length-15 c =
     c .before .loop .inv .5
 
--- src/main.rt:121:1
 same-length-16 : tie.Need-same-length-16 Inv-loop μ-loop
 same-length-16 c =
     c .before .loop .inv .6
 
--- src/main.rt:121:1
 same-length-17 : tie.Need-same-length-17 Inv-loop μ-loop
 same-length-17 c =
     c .before .loop .inv .7
 
--- src/main.rt:121:1
 same-length-18 : tie.Need-same-length-18 Inv-loop μ-loop
 same-length-18 c =
     c .before .loop .inv .8
 
--- src/main.rt:121:1
 returns-2 : tie.Need-returns-2 Inv-loop μ-loop
 returns-2 c = search needs
 

@@ -1,3 +1,4 @@
+-- The proof of answer_numbers.
 use borrow.Author.Needs.{needs}
 use mathlib.Core.Path.{sym, ap, _∙_}
 use Rattle.definition.specs.Refused.{answer-numbers}
@@ -5,29 +6,23 @@ use Rattle.refusal.specs.Shown.{shown}
 use Rattle.refusal.proofs.answer_numbers.Statement.{statement}
 use Rattle.refusal.proofs.answer_numbers.Tie as tie
 
--- src/lib.rt:59:29
 enum-told : tie.Need-enum-told
 enum-told c = search needs
 
--- src/lib.rt:59:29
 plain-requires : tie.Need-plain-requires
 plain-requires c κs = search needs
 
--- src/lib.rt:60:25
 enum-known-a : tie.Need-enum-known-a
 enum-known-a c = search needs
 
--- src/lib.rt:60:31
 numbers-of-requires : tie.Need-numbers-of-requires
 numbers-of-requires c κs = search needs
 
--- src/lib.rt:55:1
 returns : tie.Need-returns
 unfolding answer-numbers
 returns c =
     ap shown (c .plain .ensures) ∙ ap answer-numbers (sym (c .before .enum-told .given .1))
 
--- src/lib.rt:55:1
 returns-2 : tie.Need-returns-2
 unfolding answer-numbers
 returns-2 c =

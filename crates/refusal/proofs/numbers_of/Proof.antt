@@ -1,3 +1,4 @@
+-- The proof of numbers_of.
 use borrow.Author.Needs.{needs}
 use mathlib.Core.Path.{sym, ap, _∙_}
 use Rattle.refusal.proofs.Signs.{not-below, below}
@@ -8,241 +9,189 @@ use Rattle.refusal.specs.Shown.{shown}
 use Rattle.refusal.proofs.numbers_of.Statement.{statement}
 use Rattle.refusal.proofs.numbers_of.Tie as tie
 
--- src/lib.rt:28:28
 enum-known-q : tie.Need-enum-known-q
 enum-known-q c = search needs
 
--- src/lib.rt:28:38
 plain-requires : tie.Need-plain-requires
 plain-requires c κs = search needs
 
--- src/lib.rt:29:27
 enum-known-q-2 : tie.Need-enum-known-q-2
 enum-known-q-2 c = search needs
 
--- src/lib.rt:30:30
 enum-told : tie.Need-enum-told
 enum-told c = search needs
 
--- src/lib.rt:31:25
 enum-known-fault : tie.Need-enum-known-fault
 enum-known-fault c = search needs
 
--- src/lib.rt:31:31
 plain-requires-2 : tie.Need-plain-requires-2
 plain-requires-2 c κs = search needs
 
--- src/lib.rt:33:33
 enum-known-q-3 : tie.Need-enum-known-q-3
 enum-known-q-3 c = search needs
 
--- src/lib.rt:33:59
 cast-plain : tie.Need-cast-plain
 cast-plain c = search needs
 
--- src/lib.rt:33:73
 cast-plain-2 : tie.Need-cast-plain-2
 cast-plain-2 c = search needs
 
--- src/lib.rt:33:50
 plain-requires-3 : tie.Need-plain-requires-3
 plain-requires-3 c κs = search needs
 
--- src/lib.rt:34:32
 enum-told-2 : tie.Need-enum-told-2
 enum-told-2 c = search needs
 
--- src/lib.rt:34:32
 plain-requires-4 : tie.Need-plain-requires-4
 plain-requires-4 c κs = search needs
 
--- src/lib.rt:35:30
 enum-known-q-4 : tie.Need-enum-known-q-4
 enum-known-q-4 c = search needs
 
--- src/lib.rt:35:48
 cast-plain-3 : tie.Need-cast-plain-3
 cast-plain-3 c = search needs
 
--- src/lib.rt:35:39
 plain-requires-5 : tie.Need-plain-requires-5
 plain-requires-5 c κs = search needs
 
--- src/lib.rt:36:32
 enum-known-q-5 : tie.Need-enum-known-q-5
 enum-known-q-5 c = search needs
 
--- src/lib.rt:38:17
 plain-requires-6 : tie.Need-plain-requires-6
 plain-requires-6 c κs = search needs
 
--- src/lib.rt:40:59
 sub-t23 : tie.Need-sub-t23
 sub-t23 c = search needs
 
--- src/lib.rt:40:58
 add-t24 : tie.Need-add-t24
 add-t24 c = search needs
 
--- src/lib.rt:43:32
 enum-known-q-6 : tie.Need-enum-known-q-6
 enum-known-q-6 c = search needs
 
--- src/lib.rt:43:42
 plain-requires-7 : tie.Need-plain-requires-7
 plain-requires-7 c κs = search needs
 
--- src/lib.rt:44:32
 enum-known-q-7 : tie.Need-enum-known-q-7
 enum-known-q-7 c = search needs
 
--- src/lib.rt:44:42
 plain-requires-8 : tie.Need-plain-requires-8
 plain-requires-8 c κs = search needs
 
--- src/lib.rt:45:29
 enum-known-q-8 : tie.Need-enum-known-q-8
 enum-known-q-8 c = search needs
 
--- src/lib.rt:45:47
 cast-plain-4 : tie.Need-cast-plain-4
 cast-plain-4 c = search needs
 
--- src/lib.rt:45:38
 plain-requires-9 : tie.Need-plain-requires-9
 plain-requires-9 c κs = search needs
 
--- src/lib.rt:46:33
 enum-told-3 : tie.Need-enum-told-3
 enum-told-3 c = search needs
 
--- src/lib.rt:46:33
 plain-requires-10 : tie.Need-plain-requires-10
 plain-requires-10 c κs = search needs
 
--- src/lib.rt:47:26
 enum-known-q-9 : tie.Need-enum-known-q-9
 enum-known-q-9 c = search needs
 
--- src/lib.rt:47:36
 plain-requires-11 : tie.Need-plain-requires-11
 plain-requires-11 c κs = search needs
 
--- src/lib.rt:48:26
 enum-known-q-10 : tie.Need-enum-known-q-10
 enum-known-q-10 c = search needs
 
--- src/lib.rt:48:36
 plain-requires-12 : tie.Need-plain-requires-12
 plain-requires-12 c κs = search needs
 
--- src/lib.rt:49:28
 enum-known-q-11 : tie.Need-enum-known-q-11
 enum-known-q-11 c = search needs
 
--- src/lib.rt:49:39
 plain-requires-13 : tie.Need-plain-requires-13
 plain-requires-13 c κs = search needs
 
--- src/lib.rt:50:28
 enum-known-q-12 : tie.Need-enum-known-q-12
 enum-known-q-12 c = search needs
 
--- src/lib.rt:50:39
 plain-requires-14 : tie.Need-plain-requires-14
 plain-requires-14 c κs = search needs
 
--- src/lib.rt:24:1
 returns : tie.Need-returns
 unfolding numbers signed place pick
 returns c =
     ap shown (c .plain .ensures) ∙ ap numbers (sym (c .before .before .q .given .1))
 
--- src/lib.rt:24:1
 returns-2 : tie.Need-returns-2
 unfolding numbers signed place pick
 returns-2 c =
     ap numbers (sym (c .before .before .before .q2 .given .1 ∙ ap BadArena (c .enum-told .given .1)))
 
--- src/lib.rt:24:1
 returns-3 : tie.Need-returns-3
 unfolding numbers signed place pick
 returns-3 c =
     ap shown (c .plain2 .ensures) ∙ ap numbers (sym (c .before .before .before .before .before .q2 .given .1 ∙ ap BadArena (c .before .before .fault .given .1)))
 
--- src/lib.rt:24:1
 returns-4 : tie.Need-returns-4
 unfolding numbers signed place pick
 returns-4 c =
     ap shown (c .plain3 .ensures) ∙ ap numbers (sym (c .before .before .q3 .given .1))
 
--- src/lib.rt:24:1
 returns-5 : tie.Need-returns-5
 unfolding numbers signed place pick
 returns-5 c =
     ap shown (c .plain4 .ensures) ∙ ap numbers (sym (c .before .enum-told2 .given .1))
 
--- src/lib.rt:24:1
 returns-6 : tie.Need-returns-6
 unfolding numbers signed place pick
 returns-6 c =
     ap shown (c .plain5 .ensures) ∙ ap numbers (sym (c .before .before .q4 .given .1))
 
--- src/lib.rt:24:1
 returns-7 : tie.Need-returns-7
 unfolding numbers place
 returns-7 c =
     ap shown (c .plain6 .ensures) ∙ not-below _ (c .before .if1 .taken) ∙ ap numbers (sym (c .before .before .before .q5 .given .1))
 
--- src/lib.rt:24:1
 returns-8 : tie.Need-returns-8
 unfolding numbers place
 returns-8 c =
     below _ (c .if1 .left) ∙ ap numbers (sym (c .before .before .q5 .given .1))
 
--- src/lib.rt:24:1
 returns-9 : tie.Need-returns-9
 unfolding numbers signed place pick
 returns-9 c =
     ap shown (c .plain7 .ensures) ∙ ap numbers (sym (c .before .before .q6 .given .1))
 
--- src/lib.rt:24:1
 returns-10 : tie.Need-returns-10
 unfolding numbers signed place pick
 returns-10 c =
     ap shown (c .plain8 .ensures) ∙ ap numbers (sym (c .before .before .q7 .given .1))
 
--- src/lib.rt:24:1
 returns-11 : tie.Need-returns-11
 unfolding numbers signed place pick
 returns-11 c =
     ap shown (c .plain9 .ensures) ∙ ap numbers (sym (c .before .before .q8 .given .1))
 
--- src/lib.rt:24:1
 returns-12 : tie.Need-returns-12
 unfolding numbers signed place pick
 returns-12 c =
     ap shown (c .plain10 .ensures) ∙ ap numbers (sym (c .before .enum-told3 .given .1))
 
--- src/lib.rt:24:1
 returns-13 : tie.Need-returns-13
 unfolding numbers signed place pick
 returns-13 c =
     ap shown (c .plain11 .ensures) ∙ ap numbers (sym (c .before .before .q9 .given .1))
 
--- src/lib.rt:24:1
 returns-14 : tie.Need-returns-14
 unfolding numbers signed place pick
 returns-14 c =
     ap shown (c .plain12 .ensures) ∙ ap numbers (sym (c .before .before .q10 .given .1))
 
--- src/lib.rt:24:1
 returns-15 : tie.Need-returns-15
 unfolding numbers signed place pick
 returns-15 c =
     ap shown (c .plain13 .ensures) ∙ ap numbers (sym (c .before .before .q11 .given .1))
 
--- src/lib.rt:24:1
 returns-16 : tie.Need-returns-16
 unfolding numbers signed place pick
 returns-16 c =

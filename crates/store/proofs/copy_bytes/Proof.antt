@@ -1,3 +1,4 @@
+-- The proof of copy_bytes.
 use native.Mathlib.Omega.{arith}
 use borrow.Author.Needs.{needs}
 use Prim.Native.Nat.{_-_, _≤_}
@@ -16,49 +17,39 @@ abbrev μ-loop : tie.MeasureT-loop
 μ-loop source from bytes₀ to n i₀ bytes i =
     n - i
 
--- src/lib.rt:28:5
 loop-holds : tie.Need-loop-holds Inv-loop μ-loop
 loop-holds c =
     (omega arith, refl)
 
--- src/lib.rt:29:32
 add-bytes : tie.Need-add-bytes Inv-loop μ-loop
 add-bytes c = search needs
 
--- src/lib.rt:29:25
 shared-slice-read-bytes : tie.Need-shared-slice-read-bytes Inv-loop μ-loop
 shared-slice-read-bytes c = search needs
 
--- src/lib.rt:29:15
 add-bytes-2 : tie.Need-add-bytes-2 Inv-loop μ-loop
 add-bytes-2 c = search needs
 
--- src/lib.rt:29:9
 slice-write-bytes : tie.Need-slice-write-bytes Inv-loop μ-loop
 slice-write-bytes c =
     let e : length (c .before .before .loop .bytes) ≡ length (c .before .before .before .args .bytes .now) = ap length (c .before .before .loop .inv .1) ∙ simp length-sets in
     omega arith
 
--- src/lib.rt:30:13
 add-i : tie.Need-add-i Inv-loop μ-loop
 add-i c = search needs
 
--- src/lib.rt:28:5
 loop-less : tie.Need-loop-less Inv-loop μ-loop
 loop-less c = search needs
 
--- src/lib.rt:28:5
 loop-again : tie.Need-loop-again Inv-loop μ-loop
 loop-again c =
     let a = c .before .before .before .args in
     (omega arith, copied (a .source .now) (a .bytes .now) (c .before .before .loop .bytes) (a .from) (a .to) (a .n) (c .before .before .loop .i) (c .before .loop-test .taken) (c .before .before .before .pre .0) (c .before .before .loop .inv .1))
 
--- src/lib.rt:23:1
 same-length : tie.Need-same-length Inv-loop μ-loop
 same-length c =
     ap length (c .before .loop .inv .1) ∙ simp length-sets
 
--- src/lib.rt:23:1
 returns : tie.Need-returns Inv-loop μ-loop
 returns c =
     let a = c .before .before .args in

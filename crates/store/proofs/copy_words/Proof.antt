@@ -1,3 +1,4 @@
+-- The proof of copy_words.
 use native.Mathlib.Omega.{arith}
 use borrow.Author.Needs.{needs}
 use Prim.Native.Nat.{ℕ, _+_, _-_, _≤_}
@@ -16,54 +17,43 @@ abbrev μ-loop : tie.MeasureT-loop
 μ-loop source words₀ to i₀ words i =
     length source - i
 
--- src/lib.rt:40:5
 loop-holds : tie.Need-loop-holds Inv-loop μ-loop
 loop-holds c =
     (omega arith, refl)
 
--- src/lib.rt:41:25
 mul-words : tie.Need-mul-words Inv-loop μ-loop
 mul-words c = search needs
 
--- src/lib.rt:41:25
 shared-slice-read-words : tie.Need-shared-slice-read-words Inv-loop μ-loop
 shared-slice-read-words c = search needs
 
--- src/lib.rt:41:15
 add-words : tie.Need-add-words Inv-loop μ-loop
 add-words c = search needs
 
--- src/lib.rt:41:9
 mul-words-2 : tie.Need-mul-words-2 Inv-loop μ-loop
 mul-words-2 c = search needs
 
--- src/lib.rt:41:9
 slice-write-words : tie.Need-slice-write-words Inv-loop μ-loop
 slice-write-words c =
     let e : length (c .before .before .loop .words) ≡ length (c .before .before .before .args .words .now) = ap length (c .before .before .loop .inv .1) ∙ simp length-sets in
     omega arith
 
--- src/lib.rt:42:13
 add-i : tie.Need-add-i Inv-loop μ-loop
 add-i c = search needs
 
--- src/lib.rt:40:5
 loop-less : tie.Need-loop-less Inv-loop μ-loop
 loop-less c = search needs
 
--- src/lib.rt:40:5
 loop-again : tie.Need-loop-again Inv-loop μ-loop
 loop-again c =
     let a = c .before .before .before .args in
     let s = a .source .now in
     (omega arith, subst (λ (k : ℕ). lib.ListN.set (c .before .before .loop .words) (a .to + c .before .before .loop .i) (lib.ListN.getD s k 0) ≡ sets (a .words .now) (a .to) (take (c .before .before .loop .i + 1) (drop 0 s))) (omega arith) (copied s (a .words .now) (c .before .before .loop .words) 0 (a .to) (length s) (c .before .before .loop .i) (c .before .loop-test .taken) (omega arith) (c .before .before .loop .inv .1)))
 
--- src/lib.rt:35:1
 same-length : tie.Need-same-length Inv-loop μ-loop
 same-length c =
     ap length (c .before .loop .inv .1) ∙ simp length-sets
 
--- src/lib.rt:35:1
 returns : tie.Need-returns Inv-loop μ-loop
 returns c =
     let a = c .before .before .args in

@@ -1,3 +1,4 @@
+-- The proof of put_node.
 use borrow.Author.Needs.{needs}
 use native.Mathlib.Omega.{arith}
 use native.Mathlib.Numerals.{towards-suc}
@@ -5,97 +6,75 @@ use lib.ListN.{length-set}
 use Rattle.store.proofs.put_node.Statement.{statement}
 use Rattle.store.proofs.put_node.Tie as tie
 
--- src/lib.rt:13:5
 mul-nodes : tie.Need-mul-nodes
 mul-nodes c = search needs
 
--- src/lib.rt:13:5
 slice-write-nodes : tie.Need-slice-write-nodes
 slice-write-nodes c = search needs
 
--- src/lib.rt:14:11
 add-nodes : tie.Need-add-nodes
 add-nodes c = search needs
 
--- src/lib.rt:14:5
 mul-nodes-2 : tie.Need-mul-nodes-2
 mul-nodes-2 c = search needs
 
--- src/lib.rt:14:5
 slice-write-nodes-2 : tie.Need-slice-write-nodes-2
 slice-write-nodes-2 c =
     simp length-set (omega arith)
 
--- src/lib.rt:15:11
 add-nodes-2 : tie.Need-add-nodes-2
 add-nodes-2 c = search needs
 
--- src/lib.rt:15:5
 mul-nodes-3 : tie.Need-mul-nodes-3
 mul-nodes-3 c = search needs
 
--- src/lib.rt:15:5
 slice-write-nodes-3 : tie.Need-slice-write-nodes-3
 slice-write-nodes-3 c =
     simp length-set (omega arith)
 
--- src/lib.rt:16:11
 add-nodes-3 : tie.Need-add-nodes-3
 add-nodes-3 c = search needs
 
--- src/lib.rt:16:5
 mul-nodes-4 : tie.Need-mul-nodes-4
 mul-nodes-4 c = search needs
 
--- src/lib.rt:16:5
 slice-write-nodes-4 : tie.Need-slice-write-nodes-4
 slice-write-nodes-4 c =
     simp length-set (omega arith)
 
--- src/lib.rt:17:11
 add-nodes-4 : tie.Need-add-nodes-4
 add-nodes-4 c = search needs
 
--- src/lib.rt:17:5
 mul-nodes-5 : tie.Need-mul-nodes-5
 mul-nodes-5 c = search needs
 
--- src/lib.rt:17:5
 slice-write-nodes-5 : tie.Need-slice-write-nodes-5
 slice-write-nodes-5 c =
     simp length-set (omega arith)
 
--- src/lib.rt:18:11
 add-nodes-5 : tie.Need-add-nodes-5
 add-nodes-5 c = search needs
 
--- src/lib.rt:18:5
 mul-nodes-6 : tie.Need-mul-nodes-6
 mul-nodes-6 c = search needs
 
--- src/lib.rt:18:5
 slice-write-nodes-6 : tie.Need-slice-write-nodes-6
 slice-write-nodes-6 c =
     simp length-set (omega arith)
 
--- src/lib.rt:19:11
 add-nodes-6 : tie.Need-add-nodes-6
 add-nodes-6 c = search needs
 
--- src/lib.rt:19:5
 mul-nodes-7 : tie.Need-mul-nodes-7
 mul-nodes-7 c = search needs
 
--- src/lib.rt:19:5
 slice-write-nodes-7 : tie.Need-slice-write-nodes-7
 slice-write-nodes-7 c =
     simp length-set (omega arith)
 
--- src/lib.rt:9:1
 same-length : tie.Need-same-length
 same-length c = search needs
 
--- src/lib.rt:9:1
 returns : tie.Need-returns
 returns c =
     simp towards-suc

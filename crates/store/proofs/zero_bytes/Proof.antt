@@ -1,3 +1,4 @@
+-- The proof of zero_bytes.
 use borrow.Author.Needs.{needs}
 use native.Mathlib.Omega.{arith}
 use borrow.Author.Fill.{fill-none}
@@ -17,34 +18,27 @@ abbrev μ-loop : tie.MeasureT-loop
 μ-loop bytes₀ i₀ bytes i =
     length bytes - i
 
--- src/lib.rt:50:5
 loop-holds : tie.Need-loop-holds Inv-loop μ-loop
 loop-holds c =
     (refl, omega arith, fill-none _ 0)
 
--- src/lib.rt:51:9
 slice-write-bytes : tie.Need-slice-write-bytes Inv-loop μ-loop
 slice-write-bytes c = search needs
 
--- src/lib.rt:52:13
 add-i : tie.Need-add-i Inv-loop μ-loop
 add-i c = search needs
 
--- src/lib.rt:50:5
 loop-less : tie.Need-loop-less Inv-loop μ-loop
 loop-less c =
     simp length-set (omega arith)
 
--- src/lib.rt:50:5
 loop-again : tie.Need-loop-again Inv-loop μ-loop
 loop-again c =
     (simp length-set (c .before .loop .inv .0), omega arith, filled (c .before .before .args .bytes .now) (c .before .loop .bytes) (c .before .loop .i) (omega arith) (c .before .loop .inv .2))
 
--- src/lib.rt:46:1
 same-length : tie.Need-same-length Inv-loop μ-loop
 same-length c = search needs
 
--- src/lib.rt:46:1
 returns : tie.Need-returns Inv-loop μ-loop
 returns c =
     fill-end (c .before .before .args .bytes .now) (c .before .loop .bytes) (c .before .loop .i) (omega arith) (c .before .loop .inv .1) (c .before .loop .inv .2)

@@ -1,3 +1,4 @@
+-- The proof of zero_words.
 use borrow.Author.Needs.{needs}
 use native.Mathlib.Omega.{arith}
 use borrow.Author.Fill.{fill-none}
@@ -17,38 +18,30 @@ abbrev μ-loop : tie.MeasureT-loop
 μ-loop words₀ i₀ words i =
     length words - i
 
--- src/lib.rt:60:5
 loop-holds : tie.Need-loop-holds Inv-loop μ-loop
 loop-holds c =
     (refl, omega arith, fill-none _ 0)
 
--- src/lib.rt:61:9
 mul-words : tie.Need-mul-words Inv-loop μ-loop
 mul-words c = search needs
 
--- src/lib.rt:61:9
 slice-write-words : tie.Need-slice-write-words Inv-loop μ-loop
 slice-write-words c = search needs
 
--- src/lib.rt:62:13
 add-i : tie.Need-add-i Inv-loop μ-loop
 add-i c = search needs
 
--- src/lib.rt:60:5
 loop-less : tie.Need-loop-less Inv-loop μ-loop
 loop-less c =
     simp length-set (omega arith)
 
--- src/lib.rt:60:5
 loop-again : tie.Need-loop-again Inv-loop μ-loop
 loop-again c =
     (simp length-set (c .before .loop .inv .0), omega arith, filled (c .before .before .args .words .now) (c .before .loop .words) (c .before .loop .i) (omega arith) (c .before .loop .inv .2))
 
--- src/lib.rt:56:1
 same-length : tie.Need-same-length Inv-loop μ-loop
 same-length c = search needs
 
--- src/lib.rt:56:1
 returns : tie.Need-returns Inv-loop μ-loop
 returns c =
     fill-end (c .before .before .args .words .now) (c .before .loop .words) (c .before .loop .i) (omega arith) (c .before .loop .inv .1) (c .before .loop .inv .2)

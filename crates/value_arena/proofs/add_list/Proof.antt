@@ -1,3 +1,4 @@
+-- The proof of add_list.
 use borrow.Author.Needs.{needs}
 use Prim.Native.Nat.{ℕ}
 use mathlib.Core.Path.{sym, ap, _∙_}
@@ -7,75 +8,58 @@ use Rattle.value_arena.proofs.Calls.{list-in, list-out, list-full}
 use Rattle.value_arena.proofs.add_list.Statement.{statement}
 use Rattle.value_arena.proofs.add_list.Tie as tie
 
--- src/lib.rt:317:13
 sub-if1 : tie.Need-sub-if1
 sub-if1 c = search needs
 
--- src/lib.rt:319:13
 copy-words-requires : tie.Need-copy-words-requires
 copy-words-requires c κs = search needs
 
--- src/lib.rt:320:29
 mul-put-node : tie.Need-mul-put-node
 mul-put-node c = search needs
 
--- src/lib.rt:320:46
 cast-put-node : tie.Need-cast-put-node
 cast-put-node c = search needs
 
--- src/lib.rt:320:57
 entry-count-requires : tie.Need-entry-count-requires
 entry-count-requires c κs = search needs
 
--- src/lib.rt:320:57
 cast-put-node-2 : tie.Need-cast-put-node-2
 cast-put-node-2 c = search needs
 
--- src/lib.rt:320:13
 put-node-requires : tie.Need-put-node-requires
 put-node-requires c κs = search needs
 
--- src/lib.rt:323:25
 cast-t30 : tie.Need-cast-t30
 cast-t30 c = search needs
 
--- src/lib.rt:324:41
 add-t29 : tie.Need-add-t29
 add-t29 c = search needs
 
--- src/lib.rt:324:61
 add-t31 : tie.Need-add-t31
 add-t31 c = search needs
 
--- src/lib.rt:327:13
 refused-requires : tie.Need-refused-requires
 refused-requires c κs = search needs
 
--- src/lib.rt:330:9
 refused-requires-2 : tie.Need-refused-requires-2
 refused-requires-2 c κs = search needs
 
--- src/lib.rt:308:1
 same-length : tie.Need-same-length
 same-length c = search needs
 
--- src/lib.rt:308:1
 same-length-2 : tie.Need-same-length-2
 same-length-2 c = search needs
 
--- src/lib.rt:308:1
 returns : tie.Need-returns
 returns c =
     let a = c .before .before .before .before .before .before .before .before .before .before .before .before .before .before .args in
     λ by row e. list-in (a .nodes .now) (a .references .now) by (a .counts) (a .source .now) row _ _ _ (c .before .before .put-node .ensures) (c .before .before .before .before .before .before .before .copy-words .ensures) (e _ ∙ ap (λ (k : ℕ). a .k ∷ 0 ∷ 0 ∷ a .counts .references ∷ k ∷ a .name ∷ a .last ∷ []) (sym (c .before .before .before .entry-count .ensures .0))) (c .before .before .before .before .before .before .before .before .before .before .if1 .taken) (c .before .before .before .before .before .before .before .before .before .if2 .taken)
 
--- src/lib.rt:308:1
 returns-2 : tie.Need-returns-2
 returns-2 c =
     let a = c .before .before .before .before .before .before .args in
     λ by row e. ap (λ r. built r (a .nodes .now) (a .references .now) by) (c .refused .ensures) ∙ list-full (a .nodes .now) (a .references .now) by (a .counts) (a .source .now) row (c .before .before .if1 .taken) (c .before .if2 .left)
 
--- src/lib.rt:308:1
 returns-3 : tie.Need-returns-3
 returns-3 c =
     let a = c .before .before .before .before .before .args in

@@ -1,3 +1,4 @@
+-- The proof of add_plain.
 use borrow.Author.Needs.{needs}
 use mathlib.Core.Path.{ap, _∙_}
 use Rattle.value_arena.specs.Calls.{built}
@@ -5,37 +6,29 @@ use Rattle.value_arena.proofs.Calls.{plain-in, plain-out}
 use Rattle.value_arena.proofs.add_plain.Statement.{statement}
 use Rattle.value_arena.proofs.add_plain.Tie as tie
 
--- src/lib.rt:258:25
 mul-put-node : tie.Need-mul-put-node
 mul-put-node c = search needs
 
--- src/lib.rt:258:9
 put-node-requires : tie.Need-put-node-requires
 put-node-requires c κs = search needs
 
--- src/lib.rt:261:21
 cast-t18 : tie.Need-cast-t18
 cast-t18 c = search needs
 
--- src/lib.rt:262:37
 add-t16 : tie.Need-add-t16
 add-t16 c = search needs
 
--- src/lib.rt:265:9
 refused-requires : tie.Need-refused-requires
 refused-requires c κs = search needs
 
--- src/lib.rt:249:1
 same-length : tie.Need-same-length
 same-length c = search needs
 
--- src/lib.rt:249:1
 returns : tie.Need-returns
 returns c =
     let a = c .before .before .before .before .before .before .args in
     λ re by row e. plain-in (a .nodes .now) re by (a .counts) row _ _ (c .before .before .put-node .ensures) e (c .before .before .before .before .if1 .taken)
 
--- src/lib.rt:249:1
 returns-2 : tie.Need-returns-2
 returns-2 c =
     let a = c .before .before .before .args in

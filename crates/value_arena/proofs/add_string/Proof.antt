@@ -1,3 +1,4 @@
+-- The proof of add_string.
 use borrow.Author.Needs.{needs}
 use mathlib.Core.Path.{ap, _∙_}
 use Rattle.value_arena.specs.Calls.{built}
@@ -6,72 +7,56 @@ use lib.Seq.{sets, take-length}
 use Rattle.value_arena.proofs.add_string.Statement.{statement}
 use Rattle.value_arena.proofs.add_string.Tie as tie
 
--- src/lib.rt:279:13
 sub-if1 : tie.Need-sub-if1
 sub-if1 c = search needs
 
--- src/lib.rt:281:13
 copy-bytes-requires : tie.Need-copy-bytes-requires
 copy-bytes-requires c κs = search needs
 
--- src/lib.rt:282:29
 mul-put-node : tie.Need-mul-put-node
 mul-put-node c = search needs
 
--- src/lib.rt:282:40
 cast-put-node : tie.Need-cast-put-node
 cast-put-node c = search needs
 
--- src/lib.rt:282:51
 cast-put-node-2 : tie.Need-cast-put-node-2
 cast-put-node-2 c = search needs
 
--- src/lib.rt:282:13
 put-node-requires : tie.Need-put-node-requires
 put-node-requires c κs = search needs
 
--- src/lib.rt:285:25
 cast-t28 : tie.Need-cast-t28
 cast-t28 c = search needs
 
--- src/lib.rt:286:41
 add-t27 : tie.Need-add-t27
 add-t27 c = search needs
 
--- src/lib.rt:286:71
 add-t31 : tie.Need-add-t31
 add-t31 c = search needs
 
--- src/lib.rt:289:13
 refused-requires : tie.Need-refused-requires
 refused-requires c κs = search needs
 
--- src/lib.rt:292:9
 refused-requires-2 : tie.Need-refused-requires-2
 refused-requires-2 c κs = search needs
 
--- src/lib.rt:270:1
 same-length : tie.Need-same-length
 same-length c = search needs
 
--- src/lib.rt:270:1
 same-length-2 : tie.Need-same-length-2
 same-length-2 c = search needs
 
--- src/lib.rt:270:1
 returns : tie.Need-returns
 returns c =
     let a = c .before .before .before .before .before .before .before .before .before .before .before .before .before .args in
     let s = a .source .now in
     λ re row e. string-in (a .nodes .now) re (a .bytes .now) (a .counts) s row _ _ _ (c .before .before .put-node .ensures) (c .before .before .before .before .before .before .copy-bytes .ensures ∙ ap (sets (a .bytes .now) (a .counts .bytes)) (take-length s)) (e _) (c .before .before .before .before .before .before .before .before .before .if1 .taken) (c .before .before .before .before .before .before .before .before .if2 .taken)
 
--- src/lib.rt:270:1
 returns-2 : tie.Need-returns-2
 returns-2 c =
     let a = c .before .before .before .before .before .before .args in
     λ re row e. ap (λ r. built r (a .nodes .now) re (a .bytes .now)) (c .refused .ensures) ∙ string-full (a .nodes .now) re (a .bytes .now) (a .counts) (a .source .now) row (c .before .before .if1 .taken) (c .before .if2 .left)
 
--- src/lib.rt:270:1
 returns-3 : tie.Need-returns-3
 returns-3 c =
     let a = c .before .before .before .before .before .args in

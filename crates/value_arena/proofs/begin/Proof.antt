@@ -1,3 +1,4 @@
+-- The proof of begin.
 use borrow.Author.Needs.{needs}
 use mathlib.Core.Path.{refl, sym, ap, _∙_, subst}
 use lib.ListN.{length}
@@ -8,31 +9,25 @@ use Rattle.value_arena.proofs.Tests.{check-wrong, check-right, check-fa
 use Rattle.value_arena.proofs.begin.Statement.{statement}
 use Rattle.value_arena.proofs.begin.Tie as tie
 
--- src/lib.rt:62:9
 wrong-table-requires : tie.Need-wrong-table-requires
 wrong-table-requires c κs = search needs
 
--- src/lib.rt:64:9
 returns : tie.Need-returns
 returns c =
     let a = c .before .before .before .before .before .args in
     let L = lent (a .nodes .now) (a .references .now) (a .bytes .now) (a .counts) in
     (λ ts e. check-wrong L ts _ (c .before .wrong-table .ensures .0 (L .tables) ts refl refl refl e) (c .if1 .taken), tt)
 
--- src/lib.rt:66:11
 check-requires : tie.Need-check-requires
 check-requires c κs =
     c .before .wrong-table .ensures .1 (c .if1 .left) .0 .nodes-small
 
--- src/lib.rt:67:27
 enum-told : tie.Need-enum-told
 enum-told c = search needs
 
--- src/lib.rt:68:24
 enum-known-f : tie.Need-enum-known-f
 enum-known-f c = search needs
 
--- src/lib.rt:58:1
 returns-2 : tie.Need-returns-2
 returns-2 c =
     let a = c .before .before .before .before .before .before .before .before .args in
@@ -40,7 +35,6 @@ returns-2 c =
     let r = c .enum-told .given .1 in
     (λ ts e. check-right L ts _ (c .before .before .before .before .wrong-table .ensures .0 (L .tables) ts refl refl refl e) (c .before .before .before .if1 .left) (ap checked (sym r) ∙ c .before .before .check .ensures .0), record { small = c .before .before .before .before .wrong-table .ensures .1 (c .before .before .before .if1 .left) .0; none-more = c .before .before .before .before .wrong-table .ensures .1 (c .before .before .before .if1 .left) .1; fits = subst (λ (x : Checked). FitIf x (length (a .nodes .now)) (length (a .references .now)) (length (a .bytes .now)) (a .counts)) r (c .before .before .check .ensures .1) })
 
--- src/lib.rt:58:1
 returns-3 : tie.Need-returns-3
 returns-3 c =
     let a = c .before .before .before .before .before .before .before .before .before .args in

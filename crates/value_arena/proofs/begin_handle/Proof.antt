@@ -1,3 +1,4 @@
+-- The proof of begin_handle.
 use borrow.Author.Needs.{needs}
 use mathlib.Core.Path.{refl}
 use mathlib.Core.List.{[], _∷_}
@@ -7,45 +8,36 @@ use Rattle.value_arena.proofs.Calls.{accepted, not-accepted, fit-of, be
 use Rattle.value_arena.proofs.begin_handle.Statement.{statement}
 use Rattle.value_arena.proofs.begin_handle.Tie as tie
 
--- src/lib.rt:135:11
 begin-requires : tie.Need-begin-requires
 begin-requires c κs = search needs
 
--- src/lib.rt:136:35
 enum-told : tie.Need-enum-told
 enum-told c = search needs
 
--- src/lib.rt:136:35
 check-handle-requires : tie.Need-check-handle-requires
 check-handle-requires c κs = search needs
 
--- src/lib.rt:137:33
 enum-told-2 : tie.Need-enum-told-2
 enum-told-2 c = search needs
 
--- src/lib.rt:138:29
 enum-known-q : tie.Need-enum-known-q
 enum-known-q c = search needs
 
--- src/lib.rt:140:25
 enum-known-q-2 : tie.Need-enum-known-q-2
 enum-known-q-2 c = search needs
 
--- src/lib.rt:130:1
 returns : tie.Need-returns
 returns c =
     let a = c .before .before .before .before .before .before .before .before .before .args in
     let L = lent (a .nodes .now) (a .references .now) (a .bytes .now) (a .counts) in
     (handle-ok L (a .h) (accepted (check []) L (c .before .before .before .enum-told .given .1) (c .before .before .before .before .before .begin .ensures .0 [] none-lowest)) (accepted (check-handles (a .h ∷ [])) L (c .enum-told2 .given .1) (c .before .before .check-handle .ensures .0 L refl)), (fit-of _ _ _ _ _ (c .before .before .before .enum-told .given .1) (c .before .before .before .before .before .begin .ensures .1), below-of _ _ (c .enum-told2 .given .1) (c .before .before .check-handle .ensures .1)))
 
--- src/lib.rt:130:1
 returns-2 : tie.Need-returns-2
 returns-2 c =
     let a = c .before .before .before .before .before .before .before .before .before .before .args in
     let L = lent (a .nodes .now) (a .references .now) (a .bytes .now) (a .counts) in
     (handle-no L (a .h) _ (accepted (check []) L (c .before .before .before .before .enum-told .given .1) (c .before .before .before .before .before .before .begin .ensures .0 [] none-lowest)) (not-accepted (check-handles (a .h ∷ [])) L (c .before .q .given .1) (c .before .before .before .check-handle .ensures .0 L refl)), (tt, tt))
 
--- src/lib.rt:130:1
 returns-3 : tie.Need-returns-3
 returns-3 c =
     let a = c .before .before .before .before .before .before .before .args in

@@ -1,33 +1,28 @@
+-- The proof of bits_of.
 use Rattle.value_arena.proofs.Bits.{minus-fits, minus-cast, minus-most, minus-bits, plus-cast, plus-bits}
 use Rattle.value_arena.proofs.bits_of.Statement.{statement}
 use Rattle.value_arena.proofs.bits_of.Tie as tie
 
--- src/lib.rt:533:24
 sub-result : tie.Need-sub-result
 sub-result c =
     minus-fits (c .before .args .value) (c .before .fits .value) (c .if1 .taken)
 
--- src/lib.rt:533:23
 cast-result : tie.Need-cast-result
 cast-result c =
     minus-cast (c .before .args .value) (c .before .fits .value) (c .if1 .taken)
 
--- src/lib.rt:533:9
 sub-result-2 : tie.Need-sub-result-2
 sub-result-2 c =
     minus-most (c .before .args .value) (c .before .fits .value) (c .if1 .taken)
 
--- src/lib.rt:535:9
 cast-result-2 : tie.Need-cast-result-2
 cast-result-2 c =
     plus-cast (c .before .args .value) (c .before .fits .value) (c .if1 .left)
 
--- src/lib.rt:529:1
 returns : tie.Need-returns
 returns c =
     minus-bits (c .before .args .value) (c .before .fits .value) (c .if1 .taken)
 
--- src/lib.rt:529:1
 returns-2 : tie.Need-returns-2
 returns-2 c =
     plus-bits (c .before .args .value) (c .before .fits .value) (c .if1 .left)

@@ -1,3 +1,4 @@
+-- The proof of check_default.
 use borrow.Author.Needs.{needs}
 use Prim.Native.Nat.{_-_}
 use mathlib.Core.Path.{_∙_}
@@ -8,35 +9,28 @@ use Rattle.value_arena.proofs.Tests.{default-none, default-some}
 use Rattle.value_arena.proofs.check_default.Statement.{statement}
 use Rattle.value_arena.proofs.check_default.Tie as tie
 
--- src/lib.rt:544:9
 returns : tie.Need-returns
 returns c =
     let a = c .before .args in
     λ L e. default-none L (a .default) (c .if1 .taken)
 
--- src/lib.rt:546:24
 sub-check-handle : tie.Need-sub-check-handle
 sub-check-handle c = search needs
 
--- src/lib.rt:546:11
 check-handle-requires : tie.Need-check-handle-requires
 check-handle-requires c κs = search needs
 
--- src/lib.rt:547:29
 enum-told : tie.Need-enum-told
 enum-told c = search needs
 
--- src/lib.rt:548:25
 enum-known-q : tie.Need-enum-known-q
 enum-known-q c = search needs
 
--- src/lib.rt:540:1
 returns-2 : tie.Need-returns-2
 returns-2 c =
     let a = c .before .before .before .before .args in
     λ L e. default-some L (a .default) (c .before .before .before .if1 .left) ∙ accepted (check-handles ((a .default - 1) ∷ [])) L (c .enum-told .given .1) (c .before .before .check-handle .ensures .0 L e)
 
--- src/lib.rt:540:1
 returns-3 : tie.Need-returns-3
 returns-3 c =
     let a = c .before .before .before .before .before .args in

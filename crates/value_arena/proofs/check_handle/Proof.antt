@@ -1,3 +1,4 @@
+-- The proof of check_handle.
 use borrow.Author.Needs.{needs}
 use Prim.Native.Nat.{_<_}
 use mathlib.Core.Path.{_∙_}
@@ -6,18 +7,15 @@ use Rattle.value_arena.proofs.Tests.{handle-on, handle-not, no-handles}
 use Rattle.value_arena.proofs.check_handle.Statement.{statement}
 use Rattle.value_arena.proofs.check_handle.Tie as tie
 
--- src/lib.rt:76:8
 size-requires : tie.Need-size-requires
 size-requires c κs = search needs
 
--- src/lib.rt:72:1
 returns : tie.Need-returns
 returns c =
     let a = c .before .before .args in
     let l : a .h < a .count = rw (c .before .size .ensures) at (c .if1 .taken) in
     (λ L e. handle-on L (a .count) (a .h) [] e l ∙ no-handles L, l)
 
--- src/lib.rt:72:1
 returns-2 : tie.Need-returns-2
 returns-2 c =
     let a = c .before .before .args in

@@ -1,3 +1,4 @@
+-- The proof of check_handles_at.
 use borrow.Author.Needs.{needs}
 use native.Mathlib.Omega.{arith}
 use Prim.Native.Nat.{_-_, _≤_}
@@ -16,44 +17,35 @@ abbrev μ-loop : tie.MeasureT-loop
 μ-loop handles count i₀ i =
     length handles - i
 
--- src/lib.rt:87:5
 loop-holds : tie.Need-loop-holds Inv-loop μ-loop
 loop-holds c =
     (omega arith, λ L e. refl)
 
--- src/lib.rt:88:17
 mul-h : tie.Need-mul-h Inv-loop μ-loop
 mul-h c = search needs
 
--- src/lib.rt:88:17
 shared-slice-read-h : tie.Need-shared-slice-read-h Inv-loop μ-loop
 shared-slice-read-h c = search needs
 
--- src/lib.rt:89:12
 size-requires : tie.Need-size-requires Inv-loop μ-loop
 size-requires c κs = search needs
 
--- src/lib.rt:90:17
 add-i : tie.Need-add-i Inv-loop μ-loop
 add-i c = search needs
 
--- src/lib.rt:87:5
 loop-less : tie.Need-loop-less Inv-loop μ-loop
 loop-less c = search needs
 
--- src/lib.rt:87:5
 loop-again : tie.Need-loop-again Inv-loop μ-loop
 loop-again c =
     let a = c .before .before .before .before .before .before .args in
     (omega (arith, c .before .before .before .loop-test .taken), λ L e. c .before .before .before .before .loop .inv .1 L e ∙ handles-on L (a .handles .now) (a .count) (c .before .before .before .before .loop .i) e (c .before .before .before .loop-test .taken) (rw (c .before .size .ensures) at (c .if1 .taken)))
 
--- src/lib.rt:92:13
 returns : tie.Need-returns Inv-loop μ-loop
 returns c =
     let a = c .before .before .before .before .before .before .args in
     λ L e. c .before .before .before .before .loop .inv .1 L e ∙ handles-not L (a .handles .now) (a .count) (c .before .before .before .before .loop .i) e (c .before .before .before .loop-test .taken) (rw (c .before .size .ensures) at (c .if1 .left))
 
--- src/lib.rt:83:1
 returns-2 : tie.Need-returns-2 Inv-loop μ-loop
 returns-2 c =
     let a = c .before .before .before .args in

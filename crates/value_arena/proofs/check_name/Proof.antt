@@ -1,3 +1,4 @@
+-- The proof of check_name.
 use borrow.Author.Needs.{needs}
 use mathlib.Core.Path.{sym, _∙_}
 use mathlib.Core.List.{[]}
@@ -6,17 +7,14 @@ use Rattle.value_arena.proofs.Tests.{name-on, name-not, no-names, held-
 use Rattle.value_arena.proofs.check_name.Statement.{statement}
 use Rattle.value_arena.proofs.check_name.Tie as tie
 
--- src/lib.rt:103:8
 is-name-at-requires : tie.Need-is-name-at-requires
 is-name-at-requires c κs = search needs
 
--- src/lib.rt:99:1
 returns : tie.Need-returns
 returns c =
     let a = c .before .before .before .args in
     λ L e f. name-on L (a .h) [] (sym (c .if1 .taken) ∙ c .before .is-name-at .ensures (held L) (held-nodes L _ _ e f)) ∙ no-names L
 
--- src/lib.rt:99:1
 returns-2 : tie.Need-returns-2
 returns-2 c =
     let a = c .before .before .before .args in

@@ -1,3 +1,4 @@
+-- The proof of check_pair_names.
 use borrow.Author.Needs.{needs}
 use native.Mathlib.Omega.{arith}
 use Prim.Native.Nat.{_-_, _*_, _/_, _≤_}
@@ -17,49 +18,39 @@ abbrev μ-loop : tie.MeasureT-loop
 μ-loop nodes count pairs n i₀ i =
     length pairs / 2 - i
 
--- src/lib.rt:117:5
 loop-holds : tie.Need-loop-holds Inv-loop μ-loop
 loop-holds c =
     (omega arith, λ L e f. refl)
 
--- src/lib.rt:118:23
 mul-h : tie.Need-mul-h Inv-loop μ-loop
 mul-h c = search needs
 
--- src/lib.rt:118:17
 mul-h-2 : tie.Need-mul-h-2 Inv-loop μ-loop
 mul-h-2 c = search needs
 
--- src/lib.rt:118:17
 shared-slice-read-h : tie.Need-shared-slice-read-h Inv-loop μ-loop
 shared-slice-read-h c = search needs
 
--- src/lib.rt:119:12
 is-name-at-requires : tie.Need-is-name-at-requires Inv-loop μ-loop
 is-name-at-requires c κs =
     c .before .before .before .before .before .pre .0
 
--- src/lib.rt:120:17
 add-i : tie.Need-add-i Inv-loop μ-loop
 add-i c = search needs
 
--- src/lib.rt:117:5
 loop-less : tie.Need-loop-less Inv-loop μ-loop
 loop-less c = search needs
 
--- src/lib.rt:117:5
 loop-again : tie.Need-loop-again Inv-loop μ-loop
 loop-again c =
     let a = c .before .before .before .before .before .before .before .args in
     (omega (arith, c .before .before .before .loop-test .taken), λ L e f. c .before .before .before .before .loop .inv .1 L e f ∙ pair-names-on L (a .pairs .now) (c .before .before .before .before .loop .i) (omega (arith, c .before .before .before .loop-test .taken)) (sym (c .if1 .taken) ∙ c .before .is-name-at .ensures (held L) (held-nodes L _ _ e f)))
 
--- src/lib.rt:122:13
 returns : tie.Need-returns Inv-loop μ-loop
 returns c =
     let a = c .before .before .before .before .before .before .before .args in
     λ L e f. c .before .before .before .before .loop .inv .1 L e f ∙ pair-names-not L (a .pairs .now) (c .before .before .before .before .loop .i) (omega (arith, c .before .before .before .loop-test .taken)) (sym (c .if1 .left) ∙ c .before .is-name-at .ensures (held L) (held-nodes L _ _ e f))
 
--- src/lib.rt:111:1
 returns-2 : tie.Need-returns-2 Inv-loop μ-loop
 returns-2 c =
     let a = c .before .before .before .before .args in

@@ -1,3 +1,4 @@
+-- The proof of create_array.
 use borrow.Author.Needs.{needs}
 use mathlib.Core.Path.{refl, ap, _∙_}
 use mathlib.Core.List.{[], _∷_}
@@ -9,57 +10,44 @@ use Rattle.value_arena.proofs.Calls.{accepted, not-accepted, fit-of, bu
 use Rattle.value_arena.proofs.create_array.Statement.{statement}
 use Rattle.value_arena.proofs.create_array.Tie as tie
 
--- src/lib.rt:660:9
 wrong-members-requires : tie.Need-wrong-members-requires
 wrong-members-requires c κs = search needs
 
--- src/lib.rt:662:11
 begin-requires : tie.Need-begin-requires
 begin-requires c κs = search needs
 
--- src/lib.rt:663:52
 enum-told : tie.Need-enum-told
 enum-told c = search needs
 
--- src/lib.rt:663:35
 check-handles-at-requires : tie.Need-check-handles-at-requires
 check-handles-at-requires c κs = search needs
 
--- src/lib.rt:664:42
 enum-told-2 : tie.Need-enum-told-2
 enum-told-2 c = search needs
 
--- src/lib.rt:664:33
 add-list-requires : tie.Need-add-list-requires
 add-list-requires c κs =
     let f = fit-of _ _ _ _ _ (c .before .before .before .before .before .enum-told .given .1) (c .before .before .before .before .before .before .before .begin .ensures .1) in
     (f .fits .nodes-fit, f .small .nodes-small, f .fits .references-fit, f .small .references-small)
 
--- src/lib.rt:665:29
 enum-known-q : tie.Need-enum-known-q
 enum-known-q c = search needs
 
--- src/lib.rt:665:35
 refused-requires : tie.Need-refused-requires
 refused-requires c κs = search needs
 
--- src/lib.rt:667:25
 enum-known-q-2 : tie.Need-enum-known-q-2
 enum-known-q-2 c = search needs
 
--- src/lib.rt:667:31
 refused-requires-2 : tie.Need-refused-requires-2
 refused-requires-2 c κs = search needs
 
--- src/lib.rt:651:1
 same-length : tie.Need-same-length
 same-length c = search needs
 
--- src/lib.rt:651:1
 same-length-2 : tie.Need-same-length-2
 same-length-2 c = search needs
 
--- src/lib.rt:651:1
 returns : tie.Need-returns
 unfolding create-array words
 returns c =
@@ -67,15 +55,12 @@ returns c =
     let L = lent (a .nodes .now) (a .references .now) (a .bytes .now) (a .counts) in
     build-on (check (member-slice (a .members .now) ∷ [])) _ L (accepted (check (member-slice (a .members .now) ∷ [])) L (c .before .before .before .before .before .before .before .before .before .before .enum-told .given .1) (c .before .before .before .before .before .before .before .before .before .before .before .before .begin .ensures .0 (member-slice (a .members .now) ∷ []) (c .before .before .before .before .before .before .before .before .before .before .before .before .before .before .before .wrong-members .ensures (a .members .now) refl))) (build-on (check-handles (a .members .now)) _ L (accepted (check-handles (a .members .now)) L (c .before .before .before .before .before .before .before .enum-told2 .given .1) (c .before .before .before .before .before .before .before .before .before .check-handles-at .ensures L refl)) (c .before .before .before .before .add-list .ensures (a .bytes .now) (λ b r. array r (length (a .members .now))) (λ b. refl)))
 
--- src/lib.rt:651:1
 same-length-3 : tie.Need-same-length-3
 same-length-3 c = search needs
 
--- src/lib.rt:651:1
 same-length-4 : tie.Need-same-length-4
 same-length-4 c = search needs
 
--- src/lib.rt:651:1
 returns-2 : tie.Need-returns-2
 unfolding create-array
 returns-2 c =
@@ -83,15 +68,12 @@ returns-2 c =
     let L = lent (a .nodes .now) (a .references .now) (a .bytes .now) (a .counts) in
     ap (λ r. built r (a .nodes .now) (a .references .now) (a .bytes .now)) (c .refused .ensures) ∙ build-on (check (member-slice (a .members .now) ∷ [])) _ L (accepted (check (member-slice (a .members .now) ∷ [])) L (c .before .before .before .before .before .enum-told .given .1) (c .before .before .before .before .before .before .before .begin .ensures .0 (member-slice (a .members .now) ∷ []) (c .before .before .before .before .before .before .before .before .before .before .wrong-members .ensures (a .members .now) refl))) (build-stop (check-handles (a .members .now)) _ L _ _ refl (not-accepted (check-handles (a .members .now)) L (c .before .before .q .given .1) (c .before .before .before .before .check-handles-at .ensures L refl)))
 
--- src/lib.rt:651:1
 same-length-5 : tie.Need-same-length-5
 same-length-5 c = search needs
 
--- src/lib.rt:651:1
 same-length-6 : tie.Need-same-length-6
 same-length-6 c = search needs
 
--- src/lib.rt:651:1
 returns-3 : tie.Need-returns-3
 unfolding create-array
 returns-3 c =

@@ -1,3 +1,4 @@
+-- The proof of create_bool.
 use borrow.Author.Needs.{needs}
 use mathlib.Core.List.{[]}
 use Rattle.definition.specs.Node.{bool, words}
@@ -7,37 +8,29 @@ use Rattle.value_arena.proofs.Calls.{accepted, not-accepted, fit-of, bu
 use Rattle.value_arena.proofs.create_bool.Statement.{statement}
 use Rattle.value_arena.proofs.create_bool.Tie as tie
 
--- src/lib.rt:586:9
 word-of-requires : tie.Need-word-of-requires
 word-of-requires c κs = search needs
 
--- src/lib.rt:587:11
 begin-requires : tie.Need-begin-requires
 begin-requires c κs = search needs
 
--- src/lib.rt:588:39
 enum-told : tie.Need-enum-told
 enum-told c = search needs
 
--- src/lib.rt:588:29
 add-plain-requires : tie.Need-add-plain-requires
 add-plain-requires c κs =
     let f = fit-of _ _ _ _ _ (c .before .enum-told .given .1) (c .before .before .before .begin .ensures .1) in
     (f .fits .nodes-fit, f .small .nodes-small)
 
--- src/lib.rt:589:25
 enum-known-q : tie.Need-enum-known-q
 enum-known-q c = search needs
 
--- src/lib.rt:589:31
 refused-requires : tie.Need-refused-requires
 refused-requires c κs = search needs
 
--- src/lib.rt:577:1
 same-length : tie.Need-same-length
 same-length c = search needs
 
--- src/lib.rt:577:1
 returns : tie.Need-returns
 unfolding create-bool words
 returns c =
@@ -45,11 +38,9 @@ returns c =
     let L = lent (a .nodes .now) (a .references .now) (a .bytes .now) (a .counts) in
     build-on (check []) _ L (accepted (check []) L (c .before .before .before .before .enum-told .given .1) (c .before .before .before .before .before .before .begin .ensures .0 [] none-lowest)) (c .before .before .add-plain .ensures (a .references .now) (a .bytes .now) (bool (a .value)) (c .before .before .before .before .before .before .before .before .word-of .ensures))
 
--- src/lib.rt:577:1
 same-length-2 : tie.Need-same-length-2
 same-length-2 c = search needs
 
--- src/lib.rt:577:1
 returns-2 : tie.Need-returns-2
 unfolding create-bool
 returns-2 c =

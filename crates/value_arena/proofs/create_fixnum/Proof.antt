@@ -1,3 +1,4 @@
+-- The proof of create_fixnum.
 use borrow.Author.Needs.{needs}
 use Prim.Native.Nat.{ℕ}
 use mathlib.Core.Path.{sym, ap, _∙_}
@@ -10,37 +11,29 @@ use Rattle.value_arena.proofs.Bits.{passed}
 use Rattle.value_arena.proofs.create_fixnum.Statement.{statement}
 use Rattle.value_arena.proofs.create_fixnum.Tie as tie
 
--- src/lib.rt:602:9
 bits-of-requires : tie.Need-bits-of-requires
 bits-of-requires c κs = search needs
 
--- src/lib.rt:603:11
 begin-requires : tie.Need-begin-requires
 begin-requires c κs = search needs
 
--- src/lib.rt:604:39
 enum-told : tie.Need-enum-told
 enum-told c = search needs
 
--- src/lib.rt:604:29
 add-plain-requires : tie.Need-add-plain-requires
 add-plain-requires c κs =
     let f = fit-of _ _ _ _ _ (c .before .enum-told .given .1) (c .before .before .before .begin .ensures .1) in
     (f .fits .nodes-fit, f .small .nodes-small)
 
--- src/lib.rt:605:25
 enum-known-q : tie.Need-enum-known-q
 enum-known-q c = search needs
 
--- src/lib.rt:605:31
 refused-requires : tie.Need-refused-requires
 refused-requires c κs = search needs
 
--- src/lib.rt:593:1
 same-length : tie.Need-same-length
 same-length c = search needs
 
--- src/lib.rt:593:1
 returns : tie.Need-returns
 unfolding create-fixnum words
 returns c =
@@ -48,11 +41,9 @@ returns c =
     let L = lent (a .nodes .now) (a .references .now) (a .bytes .now) (a .counts) in
     build-on (check []) _ L (accepted (check []) L (c .before .before .before .before .enum-told .given .1) (c .before .before .before .before .before .before .begin .ensures .0 [] none-lowest)) (c .before .before .add-plain .ensures (a .references .now) (a .bytes .now) (fixnum (bits (a .value))) (ap (λ (w : ℕ). 2 ∷ w ∷ 0 ∷ 0 ∷ 0 ∷ 0 ∷ 0 ∷ []) (sym (c .before .before .before .before .before .before .before .before .bits-of .ensures ∙ ap bits (passed (c .before .before .before .before .before .before .before .before .before .before .before .before .fits .value))))))
 
--- src/lib.rt:593:1
 same-length-2 : tie.Need-same-length-2
 same-length-2 c = search needs
 
--- src/lib.rt:593:1
 returns-2 : tie.Need-returns-2
 unfolding create-fixnum
 returns-2 c =

@@ -1,3 +1,4 @@
+-- The proof of create_hash.
 use borrow.Author.Needs.{needs}
 use Prim.Native.Nat.{_/_}
 use mathlib.Core.Path.{refl, ap, _∙_}
@@ -11,73 +12,56 @@ use Rattle.value_arena.proofs.Calls.{accepted, not-accepted, fit-of, bu
 use Rattle.value_arena.proofs.create_hash.Statement.{statement}
 use Rattle.value_arena.proofs.create_hash.Tie as tie
 
--- src/lib.rt:682:9
 wrong-pairs-requires : tie.Need-wrong-pairs-requires
 wrong-pairs-requires c κs = search needs
 
--- src/lib.rt:684:11
 begin-requires : tie.Need-begin-requires
 begin-requires c κs = search needs
 
--- src/lib.rt:685:52
 enum-told : tie.Need-enum-told
 enum-told c = search needs
 
--- src/lib.rt:685:35
 check-handles-at-requires : tie.Need-check-handles-at-requires
 check-handles-at-requires c κs = search needs
 
--- src/lib.rt:686:39
 enum-told-2 : tie.Need-enum-told-2
 enum-told-2 c = search needs
 
--- src/lib.rt:686:39
 check-default-requires : tie.Need-check-default-requires
 check-default-requires c κs = search needs
 
--- src/lib.rt:688:21
 enum-told-3 : tie.Need-enum-told-3
 enum-told-3 c = search needs
 
--- src/lib.rt:687:37
 add-list-requires : tie.Need-add-list-requires
 add-list-requires c κs =
     let f = fit-of _ _ _ _ _ (c .before .before .before .before .before .before .before .before .enum-told .given .1) (c .before .before .before .before .before .before .before .before .before .before .begin .ensures .1) in
     (f .fits .nodes-fit, f .small .nodes-small, f .fits .references-fit, f .small .references-small)
 
--- src/lib.rt:697:33
 enum-known-q : tie.Need-enum-known-q
 enum-known-q c = search needs
 
--- src/lib.rt:697:39
 refused-requires : tie.Need-refused-requires
 refused-requires c κs = search needs
 
--- src/lib.rt:699:29
 enum-known-q-2 : tie.Need-enum-known-q-2
 enum-known-q-2 c = search needs
 
--- src/lib.rt:699:35
 refused-requires-2 : tie.Need-refused-requires-2
 refused-requires-2 c κs = search needs
 
--- src/lib.rt:701:25
 enum-known-q-3 : tie.Need-enum-known-q-3
 enum-known-q-3 c = search needs
 
--- src/lib.rt:701:31
 refused-requires-3 : tie.Need-refused-requires-3
 refused-requires-3 c κs = search needs
 
--- src/lib.rt:672:1
 same-length : tie.Need-same-length
 same-length c = search needs
 
--- src/lib.rt:672:1
 same-length-2 : tie.Need-same-length-2
 same-length-2 c = search needs
 
--- src/lib.rt:672:1
 returns : tie.Need-returns
 unfolding create-hash words
 returns c =
@@ -85,15 +69,12 @@ returns c =
     let L = lent (a .nodes .now) (a .references .now) (a .bytes .now) (a .counts) in
     build-on (check (pair-slice (a .pairs .now) ∷ [])) _ L (accepted (check (pair-slice (a .pairs .now) ∷ [])) L (c .before .before .before .before .before .before .before .before .before .before .before .before .before .enum-told .given .1) (c .before .before .before .before .before .before .before .before .before .before .before .before .before .before .before .begin .ensures .0 (pair-slice (a .pairs .now) ∷ []) (c .before .before .before .before .before .before .before .before .before .before .before .before .before .before .before .before .before .before .wrong-pairs .ensures .0 (a .pairs .now) refl))) (build-on (check-handles ((a .pairs .now) ++ (default-handle (a .default)))) _ L (handles-app (a .pairs .now) (default-handle (a .default)) L (accepted (check-handles (a .pairs .now)) L (c .before .before .before .before .before .before .before .before .before .before .enum-told2 .given .1) (c .before .before .before .before .before .before .before .before .before .before .before .before .check-handles-at .ensures L refl)) ∙ accepted (check-handles (default-handle (a .default))) L (c .before .before .before .before .before .before .before .enum-told3 .given .1) (c .before .before .before .before .before .before .before .before .before .check-default .ensures L refl)) (c .before .before .before .before .add-list .ensures (a .bytes .now) (λ b r. hash r (length (a .pairs .now) / 2) (a .default)) (λ b. refl)))
 
--- src/lib.rt:672:1
 same-length-3 : tie.Need-same-length-3
 same-length-3 c = search needs
 
--- src/lib.rt:672:1
 same-length-4 : tie.Need-same-length-4
 same-length-4 c = search needs
 
--- src/lib.rt:672:1
 returns-2 : tie.Need-returns-2
 unfolding create-hash
 returns-2 c =
@@ -101,15 +82,12 @@ returns-2 c =
     let L = lent (a .nodes .now) (a .references .now) (a .bytes .now) (a .counts) in
     ap (λ r. built r (a .nodes .now) (a .references .now) (a .bytes .now)) (c .refused .ensures) ∙ build-on (check (pair-slice (a .pairs .now) ∷ [])) _ L (accepted (check (pair-slice (a .pairs .now) ∷ [])) L (c .before .before .before .before .before .before .before .before .enum-told .given .1) (c .before .before .before .before .before .before .before .before .before .before .begin .ensures .0 (pair-slice (a .pairs .now) ∷ []) (c .before .before .before .before .before .before .before .before .before .before .before .before .before .wrong-pairs .ensures .0 (a .pairs .now) refl))) (build-stop (check-handles ((a .pairs .now) ++ (default-handle (a .default)))) _ L _ _ refl (handles-app (a .pairs .now) (default-handle (a .default)) L (accepted (check-handles (a .pairs .now)) L (c .before .before .before .before .before .enum-told2 .given .1) (c .before .before .before .before .before .before .before .check-handles-at .ensures L refl)) ∙ not-accepted (check-handles (default-handle (a .default))) L (c .before .before .q .given .1) (c .before .before .before .before .check-default .ensures L refl)))
 
--- src/lib.rt:672:1
 same-length-5 : tie.Need-same-length-5
 same-length-5 c = search needs
 
--- src/lib.rt:672:1
 same-length-6 : tie.Need-same-length-6
 same-length-6 c = search needs
 
--- src/lib.rt:672:1
 returns-3 : tie.Need-returns-3
 unfolding create-hash
 returns-3 c =
@@ -117,15 +95,12 @@ returns-3 c =
     let L = lent (a .nodes .now) (a .references .now) (a .bytes .now) (a .counts) in
     ap (λ r. built r (a .nodes .now) (a .references .now) (a .bytes .now)) (c .refused2 .ensures) ∙ build-on (check (pair-slice (a .pairs .now) ∷ [])) _ L (accepted (check (pair-slice (a .pairs .now) ∷ [])) L (c .before .before .before .before .before .enum-told .given .1) (c .before .before .before .before .before .before .before .begin .ensures .0 (pair-slice (a .pairs .now) ∷ []) (c .before .before .before .before .before .before .before .before .before .before .wrong-pairs .ensures .0 (a .pairs .now) refl))) (build-stop (check-handles ((a .pairs .now) ++ (default-handle (a .default)))) _ L _ _ refl (handles-stop (a .pairs .now) (default-handle (a .default)) L _ (not-accepted (check-handles (a .pairs .now)) L (c .before .before .q2 .given .1) (c .before .before .before .before .check-handles-at .ensures L refl))))
 
--- src/lib.rt:672:1
 same-length-7 : tie.Need-same-length-7
 same-length-7 c = search needs
 
--- src/lib.rt:672:1
 same-length-8 : tie.Need-same-length-8
 same-length-8 c = search needs
 
--- src/lib.rt:672:1
 returns-4 : tie.Need-returns-4
 unfolding create-hash
 returns-4 c =

@@ -1,3 +1,4 @@
+-- The proof of create_new_symbol.
 use borrow.Author.Needs.{needs}
 use mathlib.Core.Path.{refl}
 use mathlib.Core.List.{[], _∷_}
@@ -8,41 +9,32 @@ use Rattle.value_arena.proofs.Calls.{accepted, not-accepted, fit-of, bu
 use Rattle.value_arena.proofs.create_new_symbol.Statement.{statement}
 use Rattle.value_arena.proofs.create_new_symbol.Tie as tie
 
--- src/lib.rt:618:9
 wrong-bytes-requires : tie.Need-wrong-bytes-requires
 wrong-bytes-requires c κs = search needs
 
--- src/lib.rt:619:11
 begin-requires : tie.Need-begin-requires
 begin-requires c κs = search needs
 
--- src/lib.rt:620:40
 enum-told : tie.Need-enum-told
 enum-told c = search needs
 
--- src/lib.rt:620:29
 add-string-requires : tie.Need-add-string-requires
 add-string-requires c κs =
     let f = fit-of _ _ _ _ _ (c .before .before .enum-told .given .1) (c .before .before .before .before .begin .ensures .1) in
     (f .fits .nodes-fit, f .small .nodes-small, f .fits .bytes-fit, f .small .bytes-small)
 
--- src/lib.rt:621:25
 enum-known-q : tie.Need-enum-known-q
 enum-known-q c = search needs
 
--- src/lib.rt:621:31
 refused-requires : tie.Need-refused-requires
 refused-requires c κs = search needs
 
--- src/lib.rt:609:1
 same-length : tie.Need-same-length
 same-length c = search needs
 
--- src/lib.rt:609:1
 same-length-2 : tie.Need-same-length-2
 same-length-2 c = search needs
 
--- src/lib.rt:609:1
 returns : tie.Need-returns
 unfolding create-new-symbol add-symbol words
 returns c =
@@ -50,15 +42,12 @@ returns c =
     let L = lent (a .nodes .now) (a .references .now) (a .bytes .now) (a .counts) in
     build-on (check (byte-slice (a .name .now) ∷ [])) _ L (accepted (check (byte-slice (a .name .now) ∷ [])) L (c .before .before .before .before .before .before .before .enum-told .given .1) (c .before .before .before .before .before .before .before .before .before .begin .ensures .0 (byte-slice (a .name .now) ∷ []) (c .before .before .before .before .before .before .before .before .before .before .before .before .wrong-bytes .ensures (a .name .now) refl))) (c .before .before .before .before .add-string .ensures (a .references .now) (λ b r. symbol b (length (a .name .now))) (λ l. refl))
 
--- src/lib.rt:609:1
 same-length-3 : tie.Need-same-length-3
 same-length-3 c = search needs
 
--- src/lib.rt:609:1
 same-length-4 : tie.Need-same-length-4
 same-length-4 c = search needs
 
--- src/lib.rt:609:1
 returns-2 : tie.Need-returns-2
 unfolding create-new-symbol add-symbol
 returns-2 c =

@@ -1,3 +1,4 @@
+-- The proof of create_nil.
 use borrow.Author.Needs.{needs}
 use mathlib.Core.Path.{refl}
 use mathlib.Core.List.{[]}
@@ -8,33 +9,26 @@ use Rattle.value_arena.proofs.Calls.{accepted, not-accepted, fit-of, bu
 use Rattle.value_arena.proofs.create_nil.Statement.{statement}
 use Rattle.value_arena.proofs.create_nil.Tie as tie
 
--- src/lib.rt:571:11
 begin-requires : tie.Need-begin-requires
 begin-requires c κs = search needs
 
--- src/lib.rt:572:39
 enum-told : tie.Need-enum-told
 enum-told c = search needs
 
--- src/lib.rt:572:29
 add-plain-requires : tie.Need-add-plain-requires
 add-plain-requires c κs =
     let f = fit-of _ _ _ _ _ (c .before .enum-told .given .1) (c .before .before .before .begin .ensures .1) in
     (f .fits .nodes-fit, f .small .nodes-small)
 
--- src/lib.rt:573:25
 enum-known-q : tie.Need-enum-known-q
 enum-known-q c = search needs
 
--- src/lib.rt:573:31
 refused-requires : tie.Need-refused-requires
 refused-requires c κs = search needs
 
--- src/lib.rt:568:1
 same-length : tie.Need-same-length
 same-length c = search needs
 
--- src/lib.rt:568:1
 returns : tie.Need-returns
 unfolding create-nil words
 returns c =
@@ -42,11 +36,9 @@ returns c =
     let L = lent (a .nodes .now) (a .references .now) (a .bytes .now) (a .counts) in
     build-on (check []) _ L (accepted (check []) L (c .before .before .before .before .enum-told .given .1) (c .before .before .before .before .before .before .begin .ensures .0 [] none-lowest)) (c .before .before .add-plain .ensures (a .references .now) (a .bytes .now) (nil) (refl))
 
--- src/lib.rt:568:1
 same-length-2 : tie.Need-same-length-2
 same-length-2 c = search needs
 
--- src/lib.rt:568:1
 returns-2 : tie.Need-returns-2
 unfolding create-nil
 returns-2 c =

@@ -1,3 +1,4 @@
+-- The proof of create_object.
 use borrow.Author.Needs.{needs}
 use Prim.Native.Nat.{_/_}
 use mathlib.Core.Path.{refl, ap, _∙_}
@@ -12,91 +13,70 @@ use Rattle.value_arena.proofs.Calls.{accepted, not-accepted, fit-of, bu
 use Rattle.value_arena.proofs.create_object.Statement.{statement}
 use Rattle.value_arena.proofs.create_object.Tie as tie
 
--- src/lib.rt:715:9
 wrong-pairs-requires : tie.Need-wrong-pairs-requires
 wrong-pairs-requires c κs = search needs
 
--- src/lib.rt:717:11
 begin-requires : tie.Need-begin-requires
 begin-requires c κs = search needs
 
--- src/lib.rt:718:35
 enum-told : tie.Need-enum-told
 enum-told c = search needs
 
--- src/lib.rt:718:35
 check-handle-requires : tie.Need-check-handle-requires
 check-handle-requires c κs = search needs
 
--- src/lib.rt:719:56
 enum-told-2 : tie.Need-enum-told-2
 enum-told-2 c = search needs
 
--- src/lib.rt:719:39
 check-handles-at-requires : tie.Need-check-handles-at-requires
 check-handles-at-requires c κs = search needs
 
--- src/lib.rt:720:62
 enum-told-3 : tie.Need-enum-told-3
 enum-told-3 c = search needs
 
--- src/lib.rt:720:43
 check-object-names-requires : tie.Need-check-object-names-requires
 check-object-names-requires c κs =
     let f = fit-of _ _ _ _ _ (c .before .before .before .before .before .before .before .enum-told .given .1) (c .before .before .before .before .before .before .before .before .before .begin .ensures .1) in
     (f .fits .nodes-fit, c .before .before .before .before .before .before .before .before .before .before .before .before .wrong-pairs .ensures .1 (f .none-more))
 
--- src/lib.rt:722:25
 enum-told-4 : tie.Need-enum-told-4
 enum-told-4 c = search needs
 
--- src/lib.rt:721:41
 add-list-requires : tie.Need-add-list-requires
 add-list-requires c κs =
     let f = fit-of _ _ _ _ _ (c .before .before .before .before .before .before .before .before .before .before .before .before .enum-told .given .1) (c .before .before .before .before .before .before .before .before .before .before .before .before .before .before .begin .ensures .1) in
     (f .fits .nodes-fit, f .small .nodes-small, f .fits .references-fit, f .small .references-small)
 
--- src/lib.rt:731:37
 enum-known-q : tie.Need-enum-known-q
 enum-known-q c = search needs
 
--- src/lib.rt:731:43
 refused-requires : tie.Need-refused-requires
 refused-requires c κs = search needs
 
--- src/lib.rt:733:33
 enum-known-q-2 : tie.Need-enum-known-q-2
 enum-known-q-2 c = search needs
 
--- src/lib.rt:733:39
 refused-requires-2 : tie.Need-refused-requires-2
 refused-requires-2 c κs = search needs
 
--- src/lib.rt:735:29
 enum-known-q-3 : tie.Need-enum-known-q-3
 enum-known-q-3 c = search needs
 
--- src/lib.rt:735:35
 refused-requires-3 : tie.Need-refused-requires-3
 refused-requires-3 c κs = search needs
 
--- src/lib.rt:737:25
 enum-known-q-4 : tie.Need-enum-known-q-4
 enum-known-q-4 c = search needs
 
--- src/lib.rt:737:31
 refused-requires-4 : tie.Need-refused-requires-4
 refused-requires-4 c κs = search needs
 
--- src/lib.rt:705:1
 same-length : tie.Need-same-length
 same-length c = search needs
 
--- src/lib.rt:705:1
 same-length-2 : tie.Need-same-length-2
 same-length-2 c = search needs
 
--- src/lib.rt:705:1
 returns : tie.Need-returns
 unfolding create-object words
 returns c =
@@ -104,15 +84,12 @@ returns c =
     let L = lent (a .nodes .now) (a .references .now) (a .bytes .now) (a .counts) in
     build-on (check (pair-slice (a .pairs .now) ∷ [])) _ L (accepted (check (pair-slice (a .pairs .now) ∷ [])) L (c .before .before .before .before .before .before .before .before .before .before .before .before .before .before .before .before .before .enum-told .given .1) (c .before .before .before .before .before .before .before .before .before .before .before .before .before .before .before .before .before .before .before .begin .ensures .0 (pair-slice (a .pairs .now) ∷ []) (c .before .before .before .before .before .before .before .before .before .before .before .before .before .before .before .before .before .before .before .before .before .before .wrong-pairs .ensures .0 (a .pairs .now) refl))) (build-on (check-handles (a .name ∷ (a .pairs .now))) _ L (handles-app (a .name ∷ []) (a .pairs .now) L (accepted (check-handles (a .name ∷ [])) L (c .before .before .before .before .before .before .before .before .before .before .before .before .before .before .enum-told2 .given .1) (c .before .before .before .before .before .before .before .before .before .before .before .before .before .before .before .before .check-handle .ensures .0 L refl)) ∙ accepted (check-handles (a .pairs .now)) L (c .before .before .before .before .before .before .before .before .before .before .before .enum-told3 .given .1) (c .before .before .before .before .before .before .before .before .before .before .before .before .before .check-handles-at .ensures L refl)) (build-on (check-names (a .name ∷ firsts (a .pairs .now))) _ L (accepted (check-names (a .name ∷ firsts (a .pairs .now))) L (c .before .before .before .before .before .before .before .enum-told4 .given .1) (c .before .before .before .before .before .before .before .before .before .check-object-names .ensures L refl refl)) (c .before .before .before .before .add-list .ensures (a .bytes .now) (λ b r. object r (length (a .pairs .now) / 2) (a .name)) (λ b. refl))))
 
--- src/lib.rt:705:1
 same-length-3 : tie.Need-same-length-3
 same-length-3 c = search needs
 
--- src/lib.rt:705:1
 same-length-4 : tie.Need-same-length-4
 same-length-4 c = search needs
 
--- src/lib.rt:705:1
 returns-2 : tie.Need-returns-2
 unfolding create-object
 returns-2 c =
@@ -120,15 +97,12 @@ returns-2 c =
     let L = lent (a .nodes .now) (a .references .now) (a .bytes .now) (a .counts) in
     ap (λ r. built r (a .nodes .now) (a .references .now) (a .bytes .now)) (c .refused .ensures) ∙ build-on (check (pair-slice (a .pairs .now) ∷ [])) _ L (accepted (check (pair-slice (a .pairs .now) ∷ [])) L (c .before .before .before .before .before .before .before .before .before .before .before .before .enum-told .given .1) (c .before .before .before .before .before .before .before .before .before .before .before .before .before .before .begin .ensures .0 (pair-slice (a .pairs .now) ∷ []) (c .before .before .before .before .before .before .before .before .before .before .before .before .before .before .before .before .before .wrong-pairs .ensures .0 (a .pairs .now) refl))) (build-on (check-handles (a .name ∷ (a .pairs .now))) _ L (handles-app (a .name ∷ []) (a .pairs .now) L (accepted (check-handles (a .name ∷ [])) L (c .before .before .before .before .before .before .before .before .before .enum-told2 .given .1) (c .before .before .before .before .before .before .before .before .before .before .before .check-handle .ensures .0 L refl)) ∙ accepted (check-handles (a .pairs .now)) L (c .before .before .before .before .before .before .enum-told3 .given .1) (c .before .before .before .before .before .before .before .before .check-handles-at .ensures L refl)) (build-stop (check-names (a .name ∷ firsts (a .pairs .now))) _ L _ _ refl (not-accepted (check-names (a .name ∷ firsts (a .pairs .now))) L (c .before .before .q .given .1) (c .before .before .before .before .check-object-names .ensures L refl refl))))
 
--- src/lib.rt:705:1
 same-length-5 : tie.Need-same-length-5
 same-length-5 c = search needs
 
--- src/lib.rt:705:1
 same-length-6 : tie.Need-same-length-6
 same-length-6 c = search needs
 
--- src/lib.rt:705:1
 returns-3 : tie.Need-returns-3
 unfolding create-object
 returns-3 c =
@@ -136,15 +110,12 @@ returns-3 c =
     let L = lent (a .nodes .now) (a .references .now) (a .bytes .now) (a .counts) in
     ap (λ r. built r (a .nodes .now) (a .references .now) (a .bytes .now)) (c .refused2 .ensures) ∙ build-on (check (pair-slice (a .pairs .now) ∷ [])) _ L (accepted (check (pair-slice (a .pairs .now) ∷ [])) L (c .before .before .before .before .before .before .before .before .enum-told .given .1) (c .before .before .before .before .before .before .before .before .before .before .begin .ensures .0 (pair-slice (a .pairs .now) ∷ []) (c .before .before .before .before .before .before .before .before .before .before .before .before .before .wrong-pairs .ensures .0 (a .pairs .now) refl))) (build-stop (check-handles (a .name ∷ (a .pairs .now))) _ L _ _ refl (handles-app (a .name ∷ []) (a .pairs .now) L (accepted (check-handles (a .name ∷ [])) L (c .before .before .before .before .before .enum-told2 .given .1) (c .before .before .before .before .before .before .before .check-handle .ensures .0 L refl)) ∙ not-accepted (check-handles (a .pairs .now)) L (c .before .before .q2 .given .1) (c .before .before .before .before .check-handles-at .ensures L refl)))
 
--- src/lib.rt:705:1
 same-length-7 : tie.Need-same-length-7
 same-length-7 c = search needs
 
--- src/lib.rt:705:1
 same-length-8 : tie.Need-same-length-8
 same-length-8 c = search needs
 
--- src/lib.rt:705:1
 returns-4 : tie.Need-returns-4
 unfolding create-object
 returns-4 c =
@@ -152,15 +123,12 @@ returns-4 c =
     let L = lent (a .nodes .now) (a .references .now) (a .bytes .now) (a .counts) in
     ap (λ r. built r (a .nodes .now) (a .references .now) (a .bytes .now)) (c .refused3 .ensures) ∙ build-on (check (pair-slice (a .pairs .now) ∷ [])) _ L (accepted (check (pair-slice (a .pairs .now) ∷ [])) L (c .before .before .before .before .before .enum-told .given .1) (c .before .before .before .before .before .before .before .begin .ensures .0 (pair-slice (a .pairs .now) ∷ []) (c .before .before .before .before .before .before .before .before .before .before .wrong-pairs .ensures .0 (a .pairs .now) refl))) (build-stop (check-handles (a .name ∷ (a .pairs .now))) _ L _ _ refl (handles-stop (a .name ∷ []) (a .pairs .now) L _ (not-accepted (check-handles (a .name ∷ [])) L (c .before .before .q3 .given .1) (c .before .before .before .before .check-handle .ensures .0 L refl))))
 
--- src/lib.rt:705:1
 same-length-9 : tie.Need-same-length-9
 same-length-9 c = search needs
 
--- src/lib.rt:705:1
 same-length-10 : tie.Need-same-length-10
 same-length-10 c = search needs
 
--- src/lib.rt:705:1
 returns-5 : tie.Need-returns-5
 unfolding create-object
 returns-5 c =

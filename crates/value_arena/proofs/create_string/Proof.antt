@@ -1,3 +1,4 @@
+-- The proof of create_string.
 use borrow.Author.Needs.{needs}
 use mathlib.Core.Path.{refl}
 use mathlib.Core.List.{[], _∷_}
@@ -8,41 +9,32 @@ use Rattle.value_arena.proofs.Calls.{accepted, not-accepted, fit-of, bu
 use Rattle.value_arena.proofs.create_string.Statement.{statement}
 use Rattle.value_arena.proofs.create_string.Tie as tie
 
--- src/lib.rt:750:9
 wrong-bytes-requires : tie.Need-wrong-bytes-requires
 wrong-bytes-requires c κs = search needs
 
--- src/lib.rt:751:11
 begin-requires : tie.Need-begin-requires
 begin-requires c κs = search needs
 
--- src/lib.rt:752:40
 enum-told : tie.Need-enum-told
 enum-told c = search needs
 
--- src/lib.rt:752:29
 add-string-requires : tie.Need-add-string-requires
 add-string-requires c κs =
     let f = fit-of _ _ _ _ _ (c .before .before .enum-told .given .1) (c .before .before .before .before .begin .ensures .1) in
     (f .fits .nodes-fit, f .small .nodes-small, f .fits .bytes-fit, f .small .bytes-small)
 
--- src/lib.rt:753:25
 enum-known-q : tie.Need-enum-known-q
 enum-known-q c = search needs
 
--- src/lib.rt:753:31
 refused-requires : tie.Need-refused-requires
 refused-requires c κs = search needs
 
--- src/lib.rt:741:1
 same-length : tie.Need-same-length
 same-length c = search needs
 
--- src/lib.rt:741:1
 same-length-2 : tie.Need-same-length-2
 same-length-2 c = search needs
 
--- src/lib.rt:741:1
 returns : tie.Need-returns
 unfolding create-string words
 returns c =
@@ -50,15 +42,12 @@ returns c =
     let L = lent (a .nodes .now) (a .references .now) (a .bytes .now) (a .counts) in
     build-on (check (byte-slice (a .value .now) ∷ [])) _ L (accepted (check (byte-slice (a .value .now) ∷ [])) L (c .before .before .before .before .before .before .before .enum-told .given .1) (c .before .before .before .before .before .before .before .before .before .begin .ensures .0 (byte-slice (a .value .now) ∷ []) (c .before .before .before .before .before .before .before .before .before .before .before .before .wrong-bytes .ensures (a .value .now) refl))) (c .before .before .before .before .add-string .ensures (a .references .now) (λ b r. string b (length (a .value .now)) absent) (λ l. refl))
 
--- src/lib.rt:741:1
 same-length-3 : tie.Need-same-length-3
 same-length-3 c = search needs
 
--- src/lib.rt:741:1
 same-length-4 : tie.Need-same-length-4
 same-length-4 c = search needs
 
--- src/lib.rt:741:1
 returns-2 : tie.Need-returns-2
 unfolding create-string
 returns-2 c =

@@ -1,3 +1,4 @@
+-- The proof of create_symbol.
 use borrow.Author.Needs.{needs}
 use mathlib.Core.Path.{refl, sym, ap, _∙_}
 use mathlib.Core.List.{[], _∷_}
@@ -11,55 +12,43 @@ use Rattle.value_arena.proofs.Names.{symbols-in}
 use Rattle.value_arena.proofs.create_symbol.Statement.{statement}
 use Rattle.value_arena.proofs.create_symbol.Tie as tie
 
--- src/lib.rt:635:9
 wrong-bytes-requires : tie.Need-wrong-bytes-requires
 wrong-bytes-requires c κs = search needs
 
--- src/lib.rt:638:11
 begin-requires : tie.Need-begin-requires
 begin-requires c κs = search needs
 
--- src/lib.rt:639:46
 enum-told : tie.Need-enum-told
 enum-told c = search needs
 
--- src/lib.rt:639:35
 find-named-requires : tie.Need-find-named-requires
 find-named-requires c κs =
     let f = fit-of _ _ _ _ _ (c .before .before .enum-told .given .1) (c .before .before .before .before .begin .ensures .1) in
     (f .small .nodes-small, f .fits .nodes-fit, f .fits .bytes-fit)
 
--- src/lib.rt:640:23
 enum-known-h : tie.Need-enum-known-h
 enum-known-h c = search needs
 
--- src/lib.rt:645:42
 enum-told-2 : tie.Need-enum-told-2
 enum-told-2 c = search needs
 
--- src/lib.rt:645:31
 add-string-requires : tie.Need-add-string-requires
 add-string-requires c κs =
     let f = fit-of _ _ _ _ _ (c .before .before .before .before .before .before .before .enum-told .given .1) (c .before .before .before .before .before .before .before .before .before .begin .ensures .1) in
     (f .fits .nodes-fit, f .small .nodes-small, f .fits .bytes-fit, f .small .bytes-small)
 
--- src/lib.rt:647:25
 enum-known-q : tie.Need-enum-known-q
 enum-known-q c = search needs
 
--- src/lib.rt:647:31
 refused-requires : tie.Need-refused-requires
 refused-requires c κs = search needs
 
--- src/lib.rt:626:1
 same-length : tie.Need-same-length
 same-length c = search needs
 
--- src/lib.rt:626:1
 same-length-2 : tie.Need-same-length-2
 same-length-2 c = search needs
 
--- src/lib.rt:626:1
 returns : tie.Need-returns
 unfolding create-symbol
 returns c =
@@ -67,15 +56,12 @@ returns c =
     let L = lent (a .nodes .now) (a .references .now) (a .bytes .now) (a .counts) in
     build-on (check (byte-slice (a .name .now) ∷ [])) _ L (accepted (check (byte-slice (a .name .now) ∷ [])) L (c .before .before .before .before .before .before .enum-told .given .1) (c .before .before .before .before .before .before .before .before .begin .ensures .0 (byte-slice (a .name .now) ∷ []) (c .before .before .before .before .before .before .before .before .before .before .before .wrong-bytes .ensures (a .name .now) refl))) (known L (a .name .now) _ (ap found (sym (c .before .h .given .1)) ∙ c .before .before .before .find-named .ensures (held L) (held-nodes L _ _ refl refl) (held-bytes L) (symbols-in L (byte-slice (a .name .now) ∷ []) (accepted (check (byte-slice (a .name .now) ∷ [])) L (c .before .before .before .before .before .before .enum-told .given .1) (c .before .before .before .before .before .before .before .before .begin .ensures .0 (byte-slice (a .name .now) ∷ []) (c .before .before .before .before .before .before .before .before .before .before .before .wrong-bytes .ensures (a .name .now) refl))))))
 
--- src/lib.rt:626:1
 same-length-3 : tie.Need-same-length-3
 same-length-3 c = search needs
 
--- src/lib.rt:626:1
 same-length-4 : tie.Need-same-length-4
 same-length-4 c = search needs
 
--- src/lib.rt:626:1
 returns-2 : tie.Need-returns-2
 unfolding create-symbol add-symbol words
 returns-2 c =
@@ -83,15 +69,12 @@ returns-2 c =
     let L = lent (a .nodes .now) (a .references .now) (a .bytes .now) (a .counts) in
     build-on (check (byte-slice (a .name .now) ∷ [])) _ L (accepted (check (byte-slice (a .name .now) ∷ [])) L (c .before .before .before .before .before .before .before .before .before .before .before .before .enum-told .given .1) (c .before .before .before .before .before .before .before .before .before .before .before .before .before .before .begin .ensures .0 (byte-slice (a .name .now) ∷ []) (c .before .before .before .before .before .before .before .before .before .before .before .before .before .before .before .before .before .wrong-bytes .ensures (a .name .now) refl))) (unknown L (a .name .now) (ap found (sym (c .before .before .before .before .before .before .before .enum-told2 .given .1)) ∙ c .before .before .before .before .before .before .before .before .before .find-named .ensures (held L) (held-nodes L _ _ refl refl) (held-bytes L) (symbols-in L (byte-slice (a .name .now) ∷ []) (accepted (check (byte-slice (a .name .now) ∷ [])) L (c .before .before .before .before .before .before .before .before .before .before .before .before .enum-told .given .1) (c .before .before .before .before .before .before .before .before .before .before .before .before .before .before .begin .ensures .0 (byte-slice (a .name .now) ∷ []) (c .before .before .before .before .before .before .before .before .before .before .before .before .before .before .before .before .before .wrong-bytes .ensures (a .name .now) refl))))) (c .before .before .before .before .add-string .ensures (a .references .now) (λ b r. symbol b (length (a .name .now))) (λ l. refl)))
 
--- src/lib.rt:626:1
 same-length-5 : tie.Need-same-length-5
 same-length-5 c = search needs
 
--- src/lib.rt:626:1
 same-length-6 : tie.Need-same-length-6
 same-length-6 c = search needs
 
--- src/lib.rt:626:1
 returns-3 : tie.Need-returns-3
 unfolding create-symbol
 returns-3 c =

@@ -1,3 +1,4 @@
+-- The proof of entry_count.
 use borrow.Author.Needs.{needs}
 use native.Mathlib.Omega.{arith}
 use mathlib.Core.Bool.{Bool}
@@ -6,13 +7,11 @@ use Rattle.value_arena.specs.Calls.{entries}
 use Rattle.value_arena.proofs.entry_count.Statement.{statement}
 use Rattle.value_arena.proofs.entry_count.Tie as tie
 
--- src/lib.rt:296:1
 returns : tie.Need-returns
 returns c =
     let a = c .before .args in
     (ap (λ (b : Bool). entries b (a .m)) (sym (c .if1 .taken)), omega arith)
 
--- src/lib.rt:296:1
 returns-2 : tie.Need-returns-2
 returns-2 c = search needs
 

@@ -1,3 +1,4 @@
+-- The proof of find_named.
 use borrow.Author.Needs.{needs}
 use native.Mathlib.Omega.{arith}
 use Prim.Native.Nat.{_-_, _≤_}
@@ -18,42 +19,34 @@ abbrev μ-loop : tie.MeasureT-loop
 μ-loop nodes bytes count stored name i₀ i =
     count - i
 
--- src/lib.rt:421:5
 loop-holds : tie.Need-loop-holds Inv-loop μ-loop
 loop-holds c =
     (omega arith, λ A e f s. refl)
 
--- src/lib.rt:422:12
 is-named-requires : tie.Need-is-named-requires Inv-loop μ-loop
 is-named-requires c κs =
     (c .loop-test .taken, c .before .before .before .before .before .pre .1, c .before .before .before .before .before .pre .2)
 
--- src/lib.rt:423:30
 cast-t15 : tie.Need-cast-t15 Inv-loop μ-loop
 cast-t15 c =
     omega (arith, c .before .before .loop-test .taken, c .before .before .before .before .before .before .before .pre .0, c .before .before .before .before .before .before .before .pre .1)
 
--- src/lib.rt:423:13
 returns : tie.Need-returns Inv-loop μ-loop
 returns c =
     let a = c .before .before .before .before .before .before .before .args in
     λ A e f s. find-here A (a .name .now) (c .before .before .before .loop .i) (rw (nodes-counted A (a .count) (a .nodes .now) e) (c .before .before .loop-test .taken)) (sym (c .if1 .taken) ∙ c .before .is-named .ensures A e f s) ∙ sym (c .before .before .before .loop .inv .1 A e f s)
 
--- src/lib.rt:425:13
 add-i : tie.Need-add-i Inv-loop μ-loop
 add-i c = search needs
 
--- src/lib.rt:421:5
 loop-less : tie.Need-loop-less Inv-loop μ-loop
 loop-less c = search needs
 
--- src/lib.rt:421:5
 loop-again : tie.Need-loop-again Inv-loop μ-loop
 loop-again c =
     let a = c .before .before .before .before .before .before .before .args in
     (omega (arith, c .before .before .loop-test .taken), λ A e f s. c .before .before .before .loop .inv .1 A e f s ∙ find-on A (a .name .now) (c .before .before .before .loop .i) (rw (nodes-counted A (a .count) (a .nodes .now) e) (c .before .before .loop-test .taken)) (sym (c .if1 .left) ∙ c .before .is-named .ensures A e f s))
 
--- src/lib.rt:416:1
 returns-2 : tie.Need-returns-2 Inv-loop μ-loop
 returns-2 c =
     let a = c .before .before .before .before .before .args in

@@ -1,3 +1,4 @@
+-- The proof of get.
 use borrow.Author.Needs.{needs}
 use native.Mathlib.Omega.{arith}
 use mathlib.Core.Path.{refl}
@@ -6,128 +7,101 @@ use Rattle.value_arena.proofs.Calls.{accepted, not-accepted, fit-of, be
 use Rattle.value_arena.proofs.get.Statement.{statement}
 use Rattle.value_arena.proofs.get.Tie as tie
 
--- src/lib.rt:171:11
 begin-handle-requires : tie.Need-begin-handle-requires
 begin-handle-requires c κs = search needs
 
--- src/lib.rt:173:22
 enum-told : tie.Need-enum-told
 enum-told c = search needs
 
--- src/lib.rt:173:22
 size-requires : tie.Need-size-requires
 size-requires c κs = search needs
 
--- src/lib.rt:173:22
 mul-at : tie.Need-mul-at
 mul-at c = search needs
 
--- src/lib.rt:174:26
 mul-t18 : tie.Need-mul-t18
 mul-t18 c = search needs
 
--- src/lib.rt:174:26
 shared-slice-read-t20 : tie.Need-shared-slice-read-t20
 shared-slice-read-t20 c =
     let l = inside (fit-of _ _ _ _ _ (c .before .before .enum-told .given .1) (c .before .before .before .before .begin-handle .ensures .1 .0)) (below-of _ _ (c .before .before .enum-told .given .1) (c .before .before .before .before .begin-handle .ensures .1 .1)) (c .before .size .ensures) in
     omega arith
 
--- src/lib.rt:174:43
 add-t21 : tie.Need-add-t21
 add-t21 c = search needs
 
--- src/lib.rt:174:37
 mul-t22 : tie.Need-mul-t22
 mul-t22 c = search needs
 
--- src/lib.rt:174:37
 shared-slice-read-t24 : tie.Need-shared-slice-read-t24
 shared-slice-read-t24 c =
     let l = inside (fit-of _ _ _ _ _ (c .before .before .before .enum-told .given .1) (c .before .before .before .before .before .begin-handle .ensures .1 .0)) (below-of _ _ (c .before .before .before .enum-told .given .1) (c .before .before .before .before .before .begin-handle .ensures .1 .1)) (c .before .before .size .ensures) in
     omega arith
 
--- src/lib.rt:174:58
 add-t25 : tie.Need-add-t25
 add-t25 c = search needs
 
--- src/lib.rt:174:52
 mul-t26 : tie.Need-mul-t26
 mul-t26 c = search needs
 
--- src/lib.rt:174:52
 shared-slice-read-t28 : tie.Need-shared-slice-read-t28
 shared-slice-read-t28 c =
     let l = inside (fit-of _ _ _ _ _ (c .before .before .before .before .enum-told .given .1) (c .before .before .before .before .before .before .begin-handle .ensures .1 .0)) (below-of _ _ (c .before .before .before .before .enum-told .given .1) (c .before .before .before .before .before .before .begin-handle .ensures .1 .1)) (c .before .before .before .size .ensures) in
     omega arith
 
--- src/lib.rt:174:73
 add-t29 : tie.Need-add-t29
 add-t29 c = search needs
 
--- src/lib.rt:174:67
 mul-t30 : tie.Need-mul-t30
 mul-t30 c = search needs
 
--- src/lib.rt:174:67
 shared-slice-read-t32 : tie.Need-shared-slice-read-t32
 shared-slice-read-t32 c =
     let l = inside (fit-of _ _ _ _ _ (c .before .before .before .before .before .enum-told .given .1) (c .before .before .before .before .before .before .before .begin-handle .ensures .1 .0)) (below-of _ _ (c .before .before .before .before .before .enum-told .given .1) (c .before .before .before .before .before .before .before .begin-handle .ensures .1 .1)) (c .before .before .before .before .size .ensures) in
     omega arith
 
--- src/lib.rt:174:88
 add-t33 : tie.Need-add-t33
 add-t33 c = search needs
 
--- src/lib.rt:174:82
 mul-t34 : tie.Need-mul-t34
 mul-t34 c = search needs
 
--- src/lib.rt:174:82
 shared-slice-read-t36 : tie.Need-shared-slice-read-t36
 shared-slice-read-t36 c =
     let l = inside (fit-of _ _ _ _ _ (c .before .before .before .before .before .before .enum-told .given .1) (c .before .before .before .before .before .before .before .before .begin-handle .ensures .1 .0)) (below-of _ _ (c .before .before .before .before .before .before .enum-told .given .1) (c .before .before .before .before .before .before .before .before .begin-handle .ensures .1 .1)) (c .before .before .before .before .before .size .ensures) in
     omega arith
 
--- src/lib.rt:174:103
 add-t37 : tie.Need-add-t37
 add-t37 c = search needs
 
--- src/lib.rt:174:97
 mul-t38 : tie.Need-mul-t38
 mul-t38 c = search needs
 
--- src/lib.rt:174:97
 shared-slice-read-t40 : tie.Need-shared-slice-read-t40
 shared-slice-read-t40 c =
     let l = inside (fit-of _ _ _ _ _ (c .before .before .before .before .before .before .before .enum-told .given .1) (c .before .before .before .before .before .before .before .before .before .begin-handle .ensures .1 .0)) (below-of _ _ (c .before .before .before .before .before .before .before .enum-told .given .1) (c .before .before .before .before .before .before .before .before .before .begin-handle .ensures .1 .1)) (c .before .before .before .before .before .before .size .ensures) in
     omega arith
 
--- src/lib.rt:174:118
 add-t41 : tie.Need-add-t41
 add-t41 c = search needs
 
--- src/lib.rt:174:112
 mul-t42 : tie.Need-mul-t42
 mul-t42 c = search needs
 
--- src/lib.rt:174:112
 shared-slice-read-t44 : tie.Need-shared-slice-read-t44
 shared-slice-read-t44 c =
     let l = inside (fit-of _ _ _ _ _ (c .before .before .before .before .before .before .before .before .enum-told .given .1) (c .before .before .before .before .before .before .before .before .before .before .begin-handle .ensures .1 .0)) (below-of _ _ (c .before .before .before .before .before .before .before .before .enum-told .given .1) (c .before .before .before .before .before .before .before .before .before .before .begin-handle .ensures .1 .1)) (c .before .before .before .before .before .before .before .size .ensures) in
     omega arith
 
--- src/lib.rt:177:25
 enum-known-q : tie.Need-enum-known-q
 enum-known-q c = search needs
 
--- src/lib.rt:168:1
 returns : tie.Need-returns
 returns c =
     let a = c .before .before .before .before .before .before .before .before .before .before .before .before .before .before .args in
     let L = lent (a .nodes .now) (a .references .now) (a .bytes .now) (a .counts) in
     get-all L (a .h) _ (c .before .before .before .before .before .before .before .size .ensures) (inside (fit-of _ _ _ _ _ (c .before .before .before .before .before .before .before .before .enum-told .given .1) (c .before .before .before .before .before .before .before .before .before .before .begin-handle .ensures .1 .0)) (below-of _ _ (c .before .before .before .before .before .before .before .before .enum-told .given .1) (c .before .before .before .before .before .before .before .before .before .before .begin-handle .ensures .1 .1)) refl) (accepted (handle-checked (a .h)) L (c .before .before .before .before .before .before .before .before .enum-told .given .1) (c .before .before .before .before .before .before .before .before .before .before .begin-handle .ensures .0))
 
--- src/lib.rt:168:1
 returns-2 : tie.Need-returns-2
 returns-2 c =
     let a = c .before .before .before .before .before .before .before .args in

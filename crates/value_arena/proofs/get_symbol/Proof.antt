@@ -1,3 +1,4 @@
+-- The proof of get_symbol.
 use borrow.Author.Needs.{needs}
 use native.Mathlib.Omega.{arith}
 use mathlib.Core.Path.{refl}
@@ -7,83 +8,66 @@ use Rattle.value_arena.proofs.Calls.{accepted, not-accepted, fit-of, be
 use Rattle.value_arena.proofs.get_symbol.Statement.{statement}
 use Rattle.value_arena.proofs.get_symbol.Tie as tie
 
--- src/lib.rt:188:11
 begin-handle-requires : tie.Need-begin-handle-requires
 begin-handle-requires c κs = search needs
 
--- src/lib.rt:189:46
 enum-told : tie.Need-enum-told
 enum-told c = search needs
 
--- src/lib.rt:189:35
 check-name-requires : tie.Need-check-name-requires
 check-name-requires c κs =
     let f = fit-of _ _ _ _ _ (c .enum-told .given .1) (c .before .before .begin-handle .ensures .1 .0) in
     f .fits .nodes-fit
 
--- src/lib.rt:191:26
 enum-told-2 : tie.Need-enum-told-2
 enum-told-2 c = search needs
 
--- src/lib.rt:191:26
 size-requires : tie.Need-size-requires
 size-requires c κs = search needs
 
--- src/lib.rt:191:26
 mul-at : tie.Need-mul-at
 mul-at c = search needs
 
--- src/lib.rt:192:63
 add-t22 : tie.Need-add-t22
 add-t22 c = search needs
 
--- src/lib.rt:192:57
 mul-t24 : tie.Need-mul-t24
 mul-t24 c = search needs
 
--- src/lib.rt:192:57
 shared-slice-read-t26 : tie.Need-shared-slice-read-t26
 shared-slice-read-t26 c =
     let l = inside (fit-of _ _ _ _ _ (c .before .before .before .before .before .enum-told .given .1) (c .before .before .before .before .before .before .before .begin-handle .ensures .1 .0)) (below-of _ _ (c .before .before .before .before .before .enum-told .given .1) (c .before .before .before .before .before .before .before .begin-handle .ensures .1 .1)) (c .before .size .ensures) in
     omega arith
 
--- src/lib.rt:192:86
 add-t27 : tie.Need-add-t27
 add-t27 c = search needs
 
--- src/lib.rt:192:80
 mul-t28 : tie.Need-mul-t28
 mul-t28 c = search needs
 
--- src/lib.rt:192:80
 shared-slice-read-t30 : tie.Need-shared-slice-read-t30
 shared-slice-read-t30 c =
     let l = inside (fit-of _ _ _ _ _ (c .before .before .before .before .before .before .enum-told .given .1) (c .before .before .before .before .before .before .before .before .begin-handle .ensures .1 .0)) (below-of _ _ (c .before .before .before .before .before .before .enum-told .given .1) (c .before .before .before .before .before .before .before .before .begin-handle .ensures .1 .1)) (c .before .before .size .ensures) in
     omega arith
 
--- src/lib.rt:194:29
 enum-known-q : tie.Need-enum-known-q
 enum-known-q c = search needs
 
--- src/lib.rt:196:25
 enum-known-q-2 : tie.Need-enum-known-q-2
 enum-known-q-2 c = search needs
 
--- src/lib.rt:184:1
 returns : tie.Need-returns
 returns c =
     let a = c .before .before .before .before .before .before .before .before .before .before .before .before .args in
     let L = lent (a .nodes .now) (a .references .now) (a .bytes .now) (a .counts) in
     name-ok L (a .h) _ (c .before .before .size .ensures) (inside (fit-of _ _ _ _ _ (c .before .before .before .before .before .before .enum-told .given .1) (c .before .before .before .before .before .before .before .before .begin-handle .ensures .1 .0)) (below-of _ _ (c .before .before .before .before .before .before .enum-told .given .1) (c .before .before .before .before .before .before .before .before .begin-handle .ensures .1 .1)) refl) (accepted (handle-checked (a .h)) L (c .before .before .before .before .before .before .enum-told .given .1) (c .before .before .before .before .before .before .before .before .begin-handle .ensures .0)) (accepted (check-names (a .h ∷ [])) L (c .before .before .before .enum-told2 .given .1) (c .before .before .before .before .before .check-name .ensures L refl refl))
 
--- src/lib.rt:184:1
 returns-2 : tie.Need-returns-2
 returns-2 c =
     let a = c .before .before .before .before .before .before .before .before .before .before .args in
     let L = lent (a .nodes .now) (a .references .now) (a .bytes .now) (a .counts) in
     name-no L (a .h) _ (accepted (handle-checked (a .h)) L (c .before .before .before .before .enum-told .given .1) (c .before .before .before .before .before .before .begin-handle .ensures .0)) (not-accepted (check-names (a .h ∷ [])) L (c .before .q .given .1) (c .before .before .before .check-name .ensures L refl refl))
 
--- src/lib.rt:184:1
 returns-3 : tie.Need-returns-3
 returns-3 c =
     let a = c .before .before .before .before .before .before .before .args in

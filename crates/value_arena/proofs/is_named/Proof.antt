@@ -1,3 +1,4 @@
+-- The proof of is_named.
 use borrow.Author.Needs.{needs}
 use native.Mathlib.Omega.{arith}
 use Prim.Native.Nat.{ℕ}
@@ -8,67 +9,52 @@ use Rattle.value_arena.proofs.Names.{no-symbol, other-length, same-name
 use Rattle.value_arena.proofs.is_named.Statement.{statement}
 use Rattle.value_arena.proofs.is_named.Tie as tie
 
--- src/lib.rt:393:14
 mul-at : tie.Need-mul-at
 mul-at c = search needs
 
--- src/lib.rt:394:8
 mul-if1 : tie.Need-mul-if1
 mul-if1 c = search needs
 
--- src/lib.rt:394:8
 shared-slice-read-if1 : tie.Need-shared-slice-read-if1
 shared-slice-read-if1 c = search needs
 
--- src/lib.rt:395:9
 returns : tie.Need-returns
 returns c =
     let a = c .before .before .before .before .before .args in
     λ A e f s. no-symbol A (a .count) (a .nodes .now) (a .i) (a .name .now) e (c .before .before .before .before .before .pre .0) (c .before .before .before .before .before .pre .1) (c .if1 .taken)
 
--- src/lib.rt:397:24
 add-size : tie.Need-add-size
 add-size c = search needs
 
--- src/lib.rt:397:18
 mul-size : tie.Need-mul-size
 mul-size c = search needs
 
--- src/lib.rt:397:18
 shared-slice-read-size : tie.Need-shared-slice-read-size
 shared-slice-read-size c = search needs
 
--- src/lib.rt:397:9
 size-requires : tie.Need-size-requires
 size-requires c κs = search needs
 
--- src/lib.rt:399:9
 returns-2 : tie.Need-returns-2
 returns-2 c =
     let a = c .before .before .before .before .before .before .before .before .args in
     λ A e f s. other-length A (a .count) (a .nodes .now) (a .i) (a .name .now) e (c .before .before .before .before .before .before .before .before .pre .0) (c .before .before .before .before .before .before .before .before .pre .1) s (c .before .before .before .if1 .left) (λ q. c .if2 .taken (c .before .size .ensures ∙ q))
 
--- src/lib.rt:401:27
 add-size-2 : tie.Need-add-size-2
 add-size-2 c = search needs
 
--- src/lib.rt:401:21
 mul-size-2 : tie.Need-mul-size-2
 mul-size-2 c = search needs
 
--- src/lib.rt:401:21
 shared-slice-read-size-2 : tie.Need-shared-slice-read-size-2
 shared-slice-read-size-2 c = search needs
 
--- src/lib.rt:401:9
 size-requires-2 : tie.Need-size-requires-2
 size-requires-2 c κs = search needs
 
--- src/lib.rt:404:13
 same-bytes-requires : tie.Need-same-bytes-requires
 same-bytes-requires c κs = search needs
 
--- src/lib.rt:404:13
 returns-3 : tie.Need-returns-3
 returns-3 c =
     let a = c .before .before .before .before .before .before .before .before .before .before .before .before .before .args in
@@ -77,13 +63,11 @@ returns-3 c =
     ∙ ap (λ (k : ℕ). equal (a .name .now) (take (length (a .name .now)) (drop k (a .bytes .now)))) (c .before .before .before .size2 .ensures)
     ∙ same-name A (a .count) (a .nodes .now) (a .i) (a .name .now) e (c .before .before .before .before .before .before .before .before .before .before .before .before .before .pre .0) (c .before .before .before .before .before .before .before .before .before .before .before .before .before .pre .1) (a .bytes .now) (a .stored) f (c .before .before .before .before .before .before .before .before .if1 .left) (sym (c .before .before .before .before .before .before .size .ensures) ∙ c .before .before .before .before .before .if2 .left) (omega (arith, c .before .before .before .before .before .before .size .ensures, c .before .before .before .size2 .ensures, c .before .before .if3 .taken, c .before .if4 .taken))
 
--- src/lib.rt:389:1
 returns-4 : tie.Need-returns-4
 returns-4 c =
     let a = c .before .before .before .before .before .before .before .before .before .before .before .before .args in
     λ A e f s. let l = stored-in A (a .count) (a .nodes .now) (a .i) (a .name .now) e (c .before .before .before .before .before .before .before .before .before .before .before .before .pre .0) (c .before .before .before .before .before .before .before .before .before .before .before .before .pre .1) (a .bytes .now) (a .stored) (c .before .before .before .before .before .before .before .before .before .before .before .before .pre .2) f s (c .before .before .before .before .before .before .before .if1 .left) in absurd (omega (arith, c .before .before .before .before .before .size .ensures, c .before .before .size2 .ensures, c .before .if3 .taken, c .if4 .left))
 
--- src/lib.rt:389:1
 returns-5 : tie.Need-returns-5
 returns-5 c =
     let a = c .before .before .before .before .before .before .before .before .before .before .before .args in

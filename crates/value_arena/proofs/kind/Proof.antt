@@ -1,3 +1,4 @@
+-- The proof of kind.
 use borrow.Author.Needs.{needs}
 use native.Mathlib.Omega.{arith}
 use mathlib.Core.Path.{refl}
@@ -6,44 +7,35 @@ use Rattle.value_arena.proofs.Calls.{accepted, not-accepted, fit-of, be
 use Rattle.value_arena.proofs.kind.Statement.{statement}
 use Rattle.value_arena.proofs.kind.Tie as tie
 
--- src/lib.rt:159:11
 begin-handle-requires : tie.Need-begin-handle-requires
 begin-handle-requires c κs = search needs
 
--- src/lib.rt:161:22
 enum-told : tie.Need-enum-told
 enum-told c = search needs
 
--- src/lib.rt:161:22
 size-requires : tie.Need-size-requires
 size-requires c κs = search needs
 
--- src/lib.rt:161:22
 mul-at : tie.Need-mul-at
 mul-at c = search needs
 
--- src/lib.rt:162:55
 mul-t16 : tie.Need-mul-t16
 mul-t16 c = search needs
 
--- src/lib.rt:162:55
 shared-slice-read-t19 : tie.Need-shared-slice-read-t19
 shared-slice-read-t19 c =
     let l = inside (fit-of _ _ _ _ _ (c .before .before .enum-told .given .1) (c .before .before .before .before .begin-handle .ensures .1 .0)) (below-of _ _ (c .before .before .enum-told .given .1) (c .before .before .before .before .begin-handle .ensures .1 .1)) (c .before .size .ensures) in
     omega arith
 
--- src/lib.rt:164:25
 enum-known-q : tie.Need-enum-known-q
 enum-known-q c = search needs
 
--- src/lib.rt:156:1
 returns : tie.Need-returns
 returns c =
     let a = c .before .before .before .before .before .before .before .before .args in
     let L = lent (a .nodes .now) (a .references .now) (a .bytes .now) (a .counts) in
     kind-ok L (a .h) _ (c .before .size .ensures) (inside (fit-of _ _ _ _ _ (c .before .before .enum-told .given .1) (c .before .before .before .before .begin-handle .ensures .1 .0)) (below-of _ _ (c .before .before .enum-told .given .1) (c .before .before .before .before .begin-handle .ensures .1 .1)) refl) (accepted (handle-checked (a .h)) L (c .before .before .enum-told .given .1) (c .before .before .before .before .begin-handle .ensures .0))
 
--- src/lib.rt:156:1
 returns-2 : tie.Need-returns-2
 returns-2 c =
     let a = c .before .before .before .before .before .before .before .args in

@@ -1,3 +1,4 @@
+-- The proof of new.
 use borrow.Author.Needs.{needs}
 use mathlib.Core.Path.{refl}
 use mathlib.Core.List.{[]}
@@ -7,42 +8,33 @@ use Rattle.value_arena.proofs.Calls.{new-wrong, new-right}
 use Rattle.value_arena.proofs.new.Statement.{statement}
 use Rattle.value_arena.proofs.new.Tie as tie
 
--- src/lib.rt:232:9
 wrong-table-requires : tie.Need-wrong-table-requires
 wrong-table-requires c κs = search needs
 
--- src/lib.rt:234:9
 returns : tie.Need-returns
 returns c =
     let a = c .before .before .before .before .before .args in
     let T = tables (a .nodes .now) (a .references .now) (a .bytes .now) in
     new-wrong T _ (c .before .wrong-table .ensures .0 T [] refl refl refl none-lowest) (c .if1 .taken)
 
--- src/lib.rt:239:5
 zero-words-requires : tie.Need-zero-words-requires
 zero-words-requires c κs = search needs
 
--- src/lib.rt:240:5
 zero-words-requires-2 : tie.Need-zero-words-requires-2
 zero-words-requires-2 c κs = search needs
 
--- src/lib.rt:241:5
 zero-bytes-requires : tie.Need-zero-bytes-requires
 zero-bytes-requires c κs = search needs
 
--- src/lib.rt:229:1
 same-length : tie.Need-same-length
 same-length c = search needs
 
--- src/lib.rt:229:1
 same-length-2 : tie.Need-same-length-2
 same-length-2 c = search needs
 
--- src/lib.rt:229:1
 same-length-3 : tie.Need-same-length-3
 same-length-3 c = search needs
 
--- src/lib.rt:229:1
 returns-2 : tie.Need-returns-2
 returns-2 c =
     let a = c .before .before .before .before .before .before .before .before .before .before .before .before .before .before .before .before .before .args in

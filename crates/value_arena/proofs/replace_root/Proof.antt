@@ -1,3 +1,4 @@
+-- The proof of replace_root.
 use borrow.Author.Needs.{needs}
 use mathlib.Core.Path.{ap, _∙_}
 use Rattle.definition.specs.Build.{lent, handle-checked, exchange-root}
@@ -6,30 +7,24 @@ use Rattle.value_arena.proofs.Calls.{accepted, not-accepted, root-set, 
 use Rattle.value_arena.proofs.replace_root.Statement.{statement}
 use Rattle.value_arena.proofs.replace_root.Tie as tie
 
--- src/lib.rt:210:11
 begin-handle-requires : tie.Need-begin-handle-requires
 begin-handle-requires c κs = search needs
 
--- src/lib.rt:212:17
 enum-told : tie.Need-enum-told
 enum-told c = search needs
 
--- src/lib.rt:222:25
 enum-known-q : tie.Need-enum-known-q
 enum-known-q c = search needs
 
--- src/lib.rt:222:31
 refused-requires : tie.Need-refused-requires
 refused-requires c κs = search needs
 
--- src/lib.rt:207:1
 returns : tie.Need-returns
 returns c =
     let a = c .before .before .before .before .before .before .args in
     let L = lent (a .nodes .now) (a .references .now) (a .bytes .now) (a .counts) in
     root-set L (a .h) (accepted (handle-checked (a .h)) L (c .enum-told .given .1) (c .before .before .begin-handle .ensures .0))
 
--- src/lib.rt:207:1
 returns-2 : tie.Need-returns-2
 returns-2 c =
     let a = c .before .before .before .before .before .before .before .before .args in

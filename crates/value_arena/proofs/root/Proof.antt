@@ -1,3 +1,4 @@
+-- The proof of root.
 use borrow.Author.Needs.{needs}
 use mathlib.Core.List.{[]}
 use Rattle.definition.specs.Build.{lent, check}
@@ -6,26 +7,21 @@ use Rattle.value_arena.proofs.Calls.{accepted, not-accepted, root-ok, r
 use Rattle.value_arena.proofs.root.Statement.{statement}
 use Rattle.value_arena.proofs.root.Tie as tie
 
--- src/lib.rt:150:11
 begin-requires : tie.Need-begin-requires
 begin-requires c κs = search needs
 
--- src/lib.rt:151:46
 enum-told : tie.Need-enum-told
 enum-told c = search needs
 
--- src/lib.rt:152:25
 enum-known-q : tie.Need-enum-known-q
 enum-known-q c = search needs
 
--- src/lib.rt:146:1
 returns : tie.Need-returns
 returns c =
     let a = c .before .before .before .before .before .before .args in
     let L = lent (a .nodes .now) (a .references .now) (a .bytes .now) (a .counts) in
     root-ok L (accepted (check []) L (c .enum-told .given .1) (c .before .before .begin .ensures .0 [] none-lowest))
 
--- src/lib.rt:146:1
 returns-2 : tie.Need-returns-2
 returns-2 c =
     let a = c .before .before .before .before .before .before .before .args in

@@ -1,16 +1,15 @@
+-- The proof of word_of.
 use mathlib.Core.Bool.{Bool}
 use mathlib.Core.Path.{ap}
 use Rattle.definition.specs.Node.{bool, words}
 use Rattle.value_arena.proofs.word_of.Statement.{statement}
 use Rattle.value_arena.proofs.word_of.Tie as tie
 
--- src/lib.rt:522:1
 returns : tie.Need-returns
 unfolding words
 returns c =
     ap (λ (b : Bool). words (bool b)) (c .if1 .taken)
 
--- src/lib.rt:522:1
 returns-2 : tie.Need-returns-2
 unfolding words
 returns-2 c =

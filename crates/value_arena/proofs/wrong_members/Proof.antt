@@ -1,14 +1,13 @@
+-- The proof of wrong_members.
 use Rattle.value_arena.proofs.Names.{members-long, members-right}
 use Rattle.value_arena.proofs.wrong_members.Statement.{statement}
 use Rattle.value_arena.proofs.wrong_members.Tie as tie
 
--- src/lib.rt:348:1
 returns : tie.Need-returns
 returns c =
     let a = c .before .args in
     λ bs e. members-long (a .n) bs e (c .if1 .taken)
 
--- src/lib.rt:348:1
 returns-2 : tie.Need-returns-2
 returns-2 c =
     let a = c .before .args in

@@ -1,21 +1,19 @@
+-- The proof of wrong_pairs.
 use native.Mathlib.Omega.{arith}
 use Rattle.value_arena.proofs.Names.{pairs-long, pairs-odd, pairs-right}
 use Rattle.value_arena.proofs.wrong_pairs.Statement.{statement}
 use Rattle.value_arena.proofs.wrong_pairs.Tie as tie
 
--- src/lib.rt:364:9
 returns : tie.Need-returns
 returns c =
     let a = c .before .args in
     (λ bs e. pairs-long (a .n) bs e (c .if1 .taken), λ t. absurd (omega arith))
 
--- src/lib.rt:367:9
 returns-2 : tie.Need-returns-2
 returns-2 c =
     let a = c .before .before .args in
     (λ bs e. pairs-odd (a .n) bs e (c .before .if1 .left) (c .if2 .taken), λ t. absurd (omega arith))
 
--- src/lib.rt:359:1
 returns-3 : tie.Need-returns-3
 returns-3 c =
     let a = c .before .before .args in

@@ -1,251 +1,119 @@
-// Times load of the Rattle crate and of the Rust crate on the same inputs, in one run; rounds of the two alternate.
+// Times load and dump of the Rattle crates and of the Rust crate on the same inputs, in one run; rounds of the two alternate.
 //
-// usage: perf            the table of times
-//        perf deep KIND  one load at limit 128 of 128 levels of arrays, hashes, defaults, objects or variables, or of nil
-//                        alone (for trials of the stack)
+// usage: perf                    the tables of times
+//        perf deep CALL KIND     one load, and one dump where CALL is dump, at limit 128 of 128 levels of arrays, hashes,
+//                                defaults, objects or variables, or of nil alone (for trials of the stack)
+use beside_rust::inputs::*;
+use beside_rust::Tables;
 use std::hint::black_box;
 use std::time::Instant;
 
-extern "C" {
-    fn load_c_load(
-        input: *const u8, input_len: usize,
-        nodes: *mut u32, nodes_len: usize,
-        references: *mut u32, references_len: usize,
-        bytes: *mut u8, bytes_len: usize,
-        symbols: *mut u32, symbols_len: usize,
-        objects: *mut u32, objects_len: usize,
-        limit: u32,
-        told: *mut u64, told_len: usize,
-    ) -> u32;
-}
+const LIMIT: u32 = 128;
 
-struct Tables {
-    nodes: Vec<u32>,
-    references: Vec<u32>,
-    bytes: Vec<u8>,
-    symbols: Vec<u32>,
-    objects: Vec<u32>,
-}
+const ROUNDS: usize = 15;
 
-impl Tables {
-    fn new(n: usize) -> Tables {
-        Tables { nodes: vec![0; n * 7], references: vec![0; n * 2], bytes: vec![0; n * 8], symbols: vec![0; n], objects: vec![0; n] }
-    }
-
-    // Bytes used and nodes.
-    fn load(&mut self, input: &[u8]) -> (u64, u64) {
-        let mut told = [0u64; 2];
-        let refused = unsafe {
-            load_c_load(
-                input.as_ptr(), input.len(),
-                self.nodes.as_mut_ptr(), self.nodes.len(),
-                self.references.as_mut_ptr(), self.references.len(),
-                self.bytes.as_mut_ptr(), self.bytes.len(),
-                self.symbols.as_mut_ptr(), self.symbols.len(),
-                self.objects.as_mut_ptr(), self.objects.len(),
-                128, told.as_mut_ptr(), 2,
-            )
-        };
-        assert_eq!(refused, 0);
-        (told[0], told[1])
-    }
-}
-
-fn integer(n: i32, out: &mut Vec<u8>) {
-    match n {
-        0 => out.push(0),
-        1..=122 => out.push((n + 5) as u8),
-        123..=255 => out.extend([1, n as u8]),
-        256..=65535 => out.extend([2, n as u8, (n >> 8) as u8]),
-        _ => out.extend([3, n as u8, (n >> 8) as u8, (n >> 16) as u8]),
-    }
-}
-
-fn symbol(name: &str, out: &mut Vec<u8>) {
-    out.push(b':');
-    integer(name.len() as i32, out);
-    out.extend(name.as_bytes());
-}
-
-// Batches: an array of hashes of eight ingredients, names by link after the first; a text with its encoding in each.
-fn batches(size: usize) -> Vec<u8> {
-    let names = ["sand", "cement", "water", "gravel", "lime", "ash", "fibre", "dye"];
-    let mut members = Vec::new();
-    let mut count = 0;
-    while members.len() < size {
-        members.extend(b"{");
-        integer(9, &mut members);
-        for (i, name) in names.iter().enumerate() {
-            if count == 0 {
-                symbol(name, &mut members);
-            } else {
-                members.push(b';');
-                integer(i as i32, &mut members);
-            }
-            members.push(b'i');
-            integer((count * 37 + i as i32 * 1001) % 70000, &mut members);
-        }
-        if count == 0 {
-            symbol("text", &mut members);
-        } else {
-            members.push(b';');
-            integer(8, &mut members);
-        }
-        members.extend(b"I\"");
-        integer(12, &mut members);
-        members.extend(b"batch of mix");
-        integer(1, &mut members);
-        if count == 0 {
-            symbol("E", &mut members);
-        } else {
-            members.push(b';');
-            integer(9, &mut members);
-        }
-        members.push(b'T');
-        count += 1;
-    }
-    let mut out = vec![4, 8, b'['];
-    integer(count, &mut out);
-    out.extend(members);
-    out
-}
-
-// A hash of n names.
-fn names(n: i32) -> Vec<u8> {
-    let mut out = vec![4, 8, b'{'];
-    integer(n, &mut out);
-    for i in 0..n {
-        symbol(&format!("ingredient_{i:04}"), &mut out);
-        out.push(b'i');
-        integer(i, &mut out);
-    }
-    out
-}
-
-fn deep(levels: usize) -> Vec<u8> {
-    let mut out = vec![4, 8];
-    for _ in 1..levels {
-        out.extend(b"[\x06");
-    }
-    out.push(b'0');
-    out
-}
-
-// Values of one kind, each in the one before, 128 levels in all.
-fn nested(kind: &str) -> Vec<u8> {
-    let open: &[u8] = match kind {
-        "arrays" => b"[\x06",
-        "hashes" => b"{\x060",
-        "defaults" => b"}\x00",
-        "objects" => b"o:\x06a\x06:\x06b",
-        "variables" => b"I\"\x00\x06:\x06a",
-        _ => return vec![4, 8, b'0'],
-    };
-    let mut out = vec![4, 8];
-    for _ in 1..128 {
-        out.extend(open);
-    }
-    out.push(b'0');
-    out
-}
-
-// The least time of a load in nanoseconds, ours and the Rust's.
-fn times(input: &[u8], tables: &mut Tables) -> (f64, f64) {
+// The least time of each call in nanoseconds; rounds of the calls alternate.
+fn times<const N: usize>(calls: [&mut dyn FnMut(); N]) -> [f64; N] {
+    let mut least = [f64::MAX; N];
     let start = Instant::now();
-    black_box(ruby_marshal::load(black_box(input)).unwrap());
+    calls[N - 1]();
     let turns = (20_000_000 / start.elapsed().as_nanos().max(1) as usize).clamp(1, 20000);
-    let (mut ours, mut theirs) = (f64::MAX, f64::MAX);
-    for _ in 0..15 {
-        let t = Instant::now();
-        for _ in 0..turns {
-            black_box(tables.load(black_box(input)));
-        }
-        ours = ours.min(t.elapsed().as_nanos() as f64 / turns as f64);
-        let t = Instant::now();
-        for _ in 0..turns {
-            black_box(ruby_marshal::load(black_box(input)).unwrap());
-        }
-        theirs = theirs.min(t.elapsed().as_nanos() as f64 / turns as f64);
-    }
-    (ours, theirs)
-}
-
-// Plain recipes: an array of hashes of eight ingredients, names by link after the first.
-fn recipes(size: usize) -> Vec<u8> {
-    let names = ["sand", "cement", "water", "gravel", "lime", "ash", "fibre", "dye"];
-    list(size, |count, members| {
-        members.extend(b"{");
-        integer(8, members);
-        for (i, name) in names.iter().enumerate() {
-            named(name, i, count, members);
-            members.push(b'i');
-            integer((count * 37 + i as i32 * 1001) % 70000, members);
-        }
-    })
-}
-
-// Objects: an array of objects of one class with three variables, one of them an array.
-fn objects(size: usize) -> Vec<u8> {
-    list(size, |count, members| {
-        members.push(b'o');
-        named("Step", 0, count, members);
-        integer(3, members);
-        for (i, name) in ["@from", "@to", "@parts"].iter().enumerate() {
-            named(name, i + 1, count, members);
-            if i < 2 {
-                members.push(b'i');
-                integer((count * 7 + i as i32) % 70000, members);
-            } else {
-                members.extend(b"[\x07i\x06i\x07");
+    for _ in 0..ROUNDS {
+        for i in 0..N {
+            let t = Instant::now();
+            for _ in 0..turns {
+                calls[i]();
             }
+            least[i] = least[i].min(t.elapsed().as_nanos() as f64 / turns as f64);
         }
-    })
+    }
+    least
 }
 
-// A name, by link after the first time.
-fn named(name: &str, i: usize, count: i32, out: &mut Vec<u8>) {
-    if count == 0 {
-        symbol(name, out);
-    } else {
-        out.push(b';');
-        integer(i as i32, out);
-    }
+// Tables that the input just fills: one entry of a list for each node, two references and eight bytes.
+fn tables(input: &[u8]) -> Tables {
+    let mut tables = Tables::ample(input.len());
+    assert_eq!(tables.load(input, LIMIT).number, 0);
+    assert_eq!(tables.used, input.len());
+    let n = tables.counts[0];
+    Tables::new(n, n * 2, n * 8, input.len())
 }
 
-// An array of as many members as fill the size.
-fn list(size: usize, member: impl Fn(i32, &mut Vec<u8>)) -> Vec<u8> {
-    let (mut members, mut count) = (Vec::new(), 0);
-    while members.len() < size {
-        member(count, &mut members);
-        count += 1;
-    }
-    let mut out = vec![4, 8, b'['];
-    integer(count, &mut out);
-    out.extend(members);
-    out
+fn load_row(name: &str, input: &[u8]) {
+    let mut tables = tables(input);
+    let [ours, theirs] = times([
+        &mut || {
+            black_box(tables.load(black_box(input), LIMIT));
+        },
+        &mut || {
+            black_box(ruby_marshal::load(black_box(input)).unwrap());
+        },
+    ]);
+    println!("{:<24}{:>9}{:>9}{:>11.2}{:>11.2}{:>8.2}", name, input.len(), tables.counts[0], ours / 1000.0, theirs / 1000.0, theirs / ours);
+}
+
+// The inputs are in dump form, so the output just holds what is written. The Rust writes into a vector that has the room.
+fn dump_row(name: &str, input: &[u8]) {
+    let mut tables = tables(input);
+    tables.load(input, LIMIT);
+    let arena = ruby_marshal::load(input).unwrap();
+    let mut written = Vec::with_capacity(input.len());
+    ruby_marshal::dump(&mut written, &arena).unwrap();
+    assert_eq!(tables.dump(LIMIT).number, 0);
+    assert!(tables.output == written && written == input);
+    let mut checked = tables_filled(input);
+    let [ours, check, theirs] = times([
+        &mut || {
+            black_box(tables.dump(black_box(LIMIT)));
+        },
+        &mut || {
+            black_box(black_box(&mut checked).check());
+        },
+        &mut || {
+            written.clear();
+            ruby_marshal::dump(&mut written, black_box(&arena)).unwrap();
+            black_box(&written);
+        },
+    ]);
+    println!(
+        "{:<24}{:>9}{:>9}{:>11.2}{:>11.2}{:>11.2}{:>8.2}{:>8.2}",
+        name, input.len(), tables.counts[0], ours / 1000.0, check / 1000.0, theirs / 1000.0, theirs / ours, theirs / (ours - check)
+    );
+}
+
+fn tables_filled(input: &[u8]) -> Tables {
+    let mut tables = tables(input);
+    tables.load(input, LIMIT);
+    tables
 }
 
 fn main() {
-    if std::env::args().nth(1).as_deref() == Some("deep") {
-        let kind = std::env::args().nth(2).unwrap();
-        let (used, nodes) = Tables::new(400).load(&nested(&kind));
-        println!("used {used} nodes {nodes}");
+    let words: Vec<String> = std::env::args().collect();
+    if words.len() == 4 && words[1] == "deep" {
+        let input = nested(&words[3]);
+        let mut tables = Tables::new(400, 800, 3200, 4000);
+        assert_eq!(tables.load(&input, LIMIT).number, 0);
+        if words[2] == "dump" {
+            assert_eq!(tables.dump(LIMIT).number, 0);
+        }
+        println!("used {} nodes {} written {}", tables.used, tables.counts[0], tables.written);
         return;
     }
-    println!("{:<28}{:>9}{:>9}{:>12}{:>12}{:>8}", "input", "bytes", "nodes", "ours, µs", "Rust, µs", "ratio");
-    for (name, input) in [
+    let inputs = [
         ("small recipe", batches(900)),
         ("100 KB, few names", batches(100_000)),
         ("1 MB, few names", batches(1_000_000)),
         ("100 KB, plain recipes", recipes(100_000)),
         ("100 KB, objects", objects(100_000)),
-        ("128 levels deep", deep(128)),
+        ("128 levels deep", nested("arrays")),
         ("1,000 names", names(1000)),
-    ] {
-        let (used, nodes) = Tables::new(input.len()).load(&input);
-        assert_eq!(used as usize, input.len());
-        let mut tables = Tables::new(nodes as usize);
-        let (ours, theirs) = times(&input, &mut tables);
-        println!("{:<28}{:>9}{:>9}{:>12.2}{:>12.2}{:>8.2}", name, input.len(), nodes, ours / 1000.0, theirs / 1000.0, ours / theirs);
+    ];
+    println!("{:<24}{:>9}{:>9}{:>11}{:>11}{:>8}", "load", "bytes", "nodes", "ours µs", "Rust µs", "faster");
+    for (name, input) in &inputs {
+        load_row(name, input);
+    }
+    println!("{:<24}{:>9}{:>9}{:>11}{:>11}{:>11}{:>8}{:>8}", "dump", "bytes", "nodes", "ours µs", "its check", "Rust µs", "faster", "less it");
+    for (name, input) in &inputs {
+        dump_row(name, input);
     }
 }

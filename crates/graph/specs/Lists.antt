@@ -1,2 +1,0 @@
--- Names of lists by index, for the crates above.
-pub use Rattle.lists.specs.Lists.{At, at-lt}

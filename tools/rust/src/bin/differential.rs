@@ -1,0 +1,404 @@
+// Runs load and dump of the Rattle crates and of the Rust crate on the same inputs and compares what they answer: the refusal
+// and its details, the bytes used, the arena node by node, the bytes dumped, and that these load and dump to themselves.
+//
+// usage: differential [CORPUS]    after tools/rust/build; CORPUS is a folder with saved.jsonl and load-list.jsonl
+//
+// Allowed, and counted apart: ours refuses with 11 an input of more bytes than the limit has levels (the Rust has no limit),
+// or with 12 counts of more references than the larger table has, where the Rust refuses later. No input is left out.
+use beside_rust::random::{damaged, value, Random, ALPHABET};
+use beside_rust::room::Room;
+use beside_rust::{inputs, Answer, Tables};
+use ruby_marshal::{Error, SymbolValue, TypedValueHandle, Value, ValueArena, ValueHandle};
+use std::panic::{catch_unwind, AssertUnwindSafe};
+
+#[global_allocator]
+static ROOM: Room = Room;
+
+const LIMIT: u32 = 128;
+const REFERENCES: [usize; 2] = [4096, 1 << 18];
+const SHOWN: usize = 20;
+const STACK: usize = 512 << 20;
+
+const LETTERS: &[u8] = b"0i:;@I[}o\"u\x00\x06\x07\xFA";
+const PIECES: &[&[u8]] = &[
+    b"0", b"T", b"i\x06", b":\x06a", b":\x06b", b";\x00", b";\x06", b"@\x00", b"@\x06", b"I", b"[\x06", b"[\x07", b"{\x06", b"}\x00",
+    b"o", b"\"\x06x", b"u", b"\x00", b"\x06",
+];
+
+// How an input came out where nothing disagrees.
+#[derive(Clone, Copy, PartialEq)]
+enum Outcome {
+    Accepted,
+    Refused(u64),
+    TooDeep,
+    NoSpace,
+    Panic,
+}
+
+// What the table of refusals gives for the Rust's error; 6 has a value there, and the Rust's has none.
+fn refusal(error: &Error, ours: Answer) -> Option<Answer> {
+    let (number, first, second) = match *error {
+        Error::InvalidVersion { major, minor } => (3, major as i64, minor as u64),
+        Error::Io { .. } => (4, 0, 0),
+        Error::InvalidValueKind { kind } => (5, kind as i64, 0),
+        Error::FixnumInvalidUSize { .. } => (6, ours.first.min(-1), 0),
+        Error::MissingSymbolLink { index } => (7, index as i64, 0),
+        Error::MissingObjectLink { index } => (8, index as i64, 0),
+        Error::UnexpectedValueKind { actual, .. } => (9, actual as i64, 0),
+        Error::NotAnObject => (10, 0, 0),
+        _ => return None,
+    };
+    Some(Answer { number, first, second })
+}
+
+// A handle's place in the order of insertion, as its text shows it: nothing is ever removed, so it is the node's number.
+fn number(handle: impl Into<ValueHandle>) -> Option<u32> {
+    let text = format!("{:?}", handle.into());
+    let slot = text.strip_prefix("ValueHandle { index: DefaultKey(")?.strip_suffix("v1) }")?;
+    slot.parse::<u32>().ok()?.checked_sub(1)
+}
+
+// A value of the Rust's arena as a node: its words, where a start is left 0, its bytes and the members of its list.
+struct Node<'a> {
+    words: [u32; 7],
+    bytes: Option<&'a [u8]>,
+    members: Option<Vec<ValueHandle>>,
+}
+
+type Pair<A> = (A, ValueHandle);
+
+fn flat<A: Copy + Into<ValueHandle>>(pairs: &[Pair<A>]) -> Option<Vec<ValueHandle>> {
+    Some(pairs.iter().flat_map(|&(a, b)| [a.into(), b]).collect())
+}
+
+// A string or user-defined.
+fn text_node<'a>(kind: u32, bytes: &'a [u8], variables: Option<&[Pair<TypedValueHandle<SymbolValue>>]>, name: u32) -> Node<'a> {
+    let count = variables.map_or(0, |v| v.len() as u32);
+    let words = [kind, 0, bytes.len() as u32, 0, count, name, variables.is_some() as u32];
+    Node { words, bytes: Some(bytes), members: variables.and_then(flat) }
+}
+
+fn node(value: &Value) -> Option<Node<'_>> {
+    let plain = |kind, n| Node { words: [kind, n, 0, 0, 0, 0, 0], bytes: None, members: None };
+    let list = |kind, n: usize, name, default, members| Node { words: [kind, 0, 0, 0, n as u32, name, default], bytes: None, members };
+    Some(match value {
+        Value::Nil(_) => plain(0, 0),
+        Value::Bool(v) => plain(1, v.value() as u32),
+        Value::Fixnum(v) => plain(2, v.value() as u32),
+        Value::Symbol(v) => text_node(3, v.value(), None, 0),
+        Value::Array(v) => list(4, v.len(), 0, 0, Some(v.value().to_vec())),
+        Value::Hash(v) => {
+            let default = v.default_value().map_or(Some(0), |d| Some(number(d)? + 1))?;
+            list(5, v.value().len(), 0, default, flat(v.value()))
+        }
+        Value::Object(v) => list(6, v.instance_variables().len(), number(v.name())?, 0, flat(v.instance_variables())),
+        Value::String(v) => text_node(7, v.value(), v.instance_variables(), 0),
+        Value::UserDefined(v) => text_node(8, v.value(), v.instance_variables(), number(v.name())?),
+    })
+}
+
+// Whether our node of that number is the Rust's: every word but the starts, the bytes, and the members by number.
+fn same_node(tables: &Tables, n: usize, theirs: &Node) -> bool {
+    let [nodes, references, bytes, _] = tables.counts;
+    let Some(ours) = tables.nodes[..nodes * 7].chunks(7).nth(n) else { return false };
+    let mut words = theirs.words;
+    if let Some(text) = theirs.bytes {
+        words[1] = ours[1];
+        let start = ours[1] as usize;
+        if tables.bytes[..bytes].get(start..start + text.len()) != Some(text) {
+            return false;
+        }
+    }
+    if let Some(members) = &theirs.members {
+        words[3] = ours[3];
+        let start = ours[3] as usize;
+        let Some(list) = tables.references[..references].get(start..start + members.len()) else { return false };
+        if list.iter().zip(members).any(|(&a, &b)| Some(a) != number(b)) {
+            return false;
+        }
+    }
+    words == *ours
+}
+
+// Tables whose arena the input fills at most, kept for the next input of that length.
+struct Lent {
+    length: usize,
+    references: usize,
+    tables: Tables,
+}
+
+impl Lent {
+    fn new(references: usize) -> Lent {
+        Lent { length: 0, references, tables: Tables::new(0, 0, 0, 0) }
+    }
+
+    fn load(&mut self, input: &[u8]) -> Answer {
+        let n = input.len();
+        if self.length != n || self.tables.nodes.is_empty() {
+            self.length = n;
+            self.tables = Tables::new(n + 1, n * 2 + self.references, n, n * 4 + 2);
+        }
+        self.tables.load(input, LIMIT)
+    }
+}
+
+const TOO_DEEP: Answer = Answer { number: 11, first: LIMIT as i64, second: 0 };
+const NO_REFERENCES: Answer = Answer { number: 12, first: 2, second: 0 };
+
+struct Run {
+    lent: [Lent; 2],
+    again: Lent,
+    /// nodes compared, by kind
+    kinds: [usize; 9],
+    /// refusals that agree, by number
+    refused: [usize; 11],
+    inputs: usize,
+    disagree: usize,
+    /// of the class: inputs, accepted, refused, too deep, no space, panics, disagreeing
+    row: [usize; 7],
+}
+
+impl Run {
+    // The answers of both to one input.
+    fn compare(&mut self, input: &[u8]) -> Result<Outcome, String> {
+        let mut room = 0;
+        let mut ours = self.lent[0].load(input);
+        if ours == NO_REFERENCES {
+            room = 1;
+            ours = self.lent[1].load(input);
+        }
+        let loaded = catch_unwind(|| {
+            let mut rest = input;
+            let loaded = ruby_marshal::load(&mut rest);
+            (loaded, input.len() - rest.len())
+        });
+        match loaded {
+            Err(_) => Ok(Outcome::Panic),
+            _ if ours == TOO_DEEP && input.len() > LIMIT as usize => Ok(Outcome::TooDeep),
+            Ok((Err(_), _)) if ours == NO_REFERENCES => Ok(Outcome::NoSpace),
+            Ok((Err(e), _)) if refusal(&e, ours) == Some(ours) => Ok(Outcome::Refused(ours.number)),
+            Ok((Ok(arena), used)) if ours.number == 0 && used == self.lent[room].tables.used => self.compare_accepted(arena, room),
+            Ok((Ok(_), used)) => Err(format!("load: {ours:?} with {} used, the Rust accepts with {used}", self.lent[room].tables.used)),
+            Ok((Err(e), _)) => Err(format!("load: {ours:?}, the Rust {e:?}")),
+        }
+    }
+
+    fn compare_accepted(&mut self, mut arena: ValueArena, room: usize) -> Result<Outcome, String> {
+        self.compare_arenas(&arena, room)?;
+        let mut theirs = Vec::new();
+        let dumped = catch_unwind(AssertUnwindSafe(|| ruby_marshal::dump(&mut theirs, &arena)));
+        let Ok(dumped) = dumped else { return Ok(Outcome::Panic) };
+        dumped.map_err(|e| format!("the Rust's dump: {e:?}"))?;
+        let counted = self.lent[room].tables.counts[0];
+        let made = number(arena.create_nil());
+        if made != Some(counted as u32) {
+            return Err(format!("{counted} nodes, the Rust {made:?}"));
+        }
+        self.compare_dumps(&theirs, room)
+    }
+
+    // From the roots down: the numbers pair the nodes, so sharing is compared too.
+    fn compare_arenas(&mut self, arena: &ValueArena, room: usize) -> Result<(), String> {
+        let tables = &self.lent[room].tables;
+        let mut met = vec![false; tables.counts[0]];
+        let mut open = vec![arena.root()];
+        if number(arena.root()) != Some(tables.counts[3] as u32) {
+            return Err(format!("root {}, the Rust {:?}", tables.counts[3], arena.root()));
+        }
+        while let Some(handle) = open.pop() {
+            let n = number(handle).unwrap_or(u32::MAX) as usize;
+            if met.get(n) == Some(&true) {
+                continue;
+            }
+            let theirs = arena.get(handle).and_then(node).ok_or(format!("the Rust's {handle:?}"))?;
+            if !same_node(tables, n, &theirs) {
+                return Err(format!("node {n}: {:?}, the Rust {:?}", tables.nodes.chunks(7).nth(n), arena.get(handle)));
+            }
+            met[n] = true;
+            self.kinds[theirs.words[0] as usize] += 1;
+            match arena.get(handle) {
+                Some(Value::Object(v)) => open.push(v.name().into()),
+                Some(Value::UserDefined(v)) => open.push(v.name().into()),
+                Some(Value::Hash(v)) => open.extend(v.default_value()),
+                _ => (),
+            }
+            open.extend(theirs.members.unwrap_or_default());
+        }
+        Ok(())
+    }
+
+    // What is dumped is the Rust's, and loads and dumps to itself.
+    fn compare_dumps(&mut self, theirs: &[u8], room: usize) -> Result<Outcome, String> {
+        let tables = &mut self.lent[room].tables;
+        let ours = tables.dump(LIMIT);
+        if ours == TOO_DEEP && theirs.len() > LIMIT as usize {
+            return Ok(Outcome::TooDeep);
+        }
+        let written = &tables.output[..tables.written];
+        if ours.number != 0 || written != theirs {
+            return Err(format!("dump: {ours:?} {}, the Rust {}", hex(written), hex(theirs)));
+        }
+        let again = self.again.load(theirs);
+        let tables = &mut self.again.tables;
+        if again.number != 0 || tables.used != theirs.len() {
+            return Err(format!("load of what was dumped: {again:?}, {} used of {}", tables.used, hex(theirs)));
+        }
+        let again = tables.dump(LIMIT);
+        if again.number != 0 || tables.output[..tables.written] != *theirs {
+            return Err(format!("dump again: {again:?} {} of {}", hex(&tables.output[..tables.written]), hex(theirs)));
+        }
+        Ok(Outcome::Accepted)
+    }
+
+    // Compares and counts; a disagreement is named.
+    fn input(&mut self, input: &[u8]) -> Option<Outcome> {
+        let outcome = self.compare(input);
+        let column = match outcome {
+            Ok(Outcome::Accepted) => 1,
+            Ok(Outcome::Refused(n)) => {
+                self.refused[n as usize] += 1;
+                2
+            }
+            Ok(Outcome::TooDeep) => 3,
+            Ok(Outcome::NoSpace) => 4,
+            Ok(Outcome::Panic) => 5,
+            Err(_) => 6,
+        };
+        self.row[0] += 1;
+        self.row[column] += 1;
+        self.inputs += 1;
+        if let Err(what) = &outcome {
+            self.disagree += 1;
+            if self.disagree <= SHOWN {
+                println!("disagree: {}: {what}", hex(input));
+            }
+        }
+        outcome.ok()
+    }
+
+    // The class that was run, as a line of the table.
+    fn end_class(&mut self, name: &str) {
+        let [all, accepted, refused, deep, space, panics, disagree] = std::mem::take(&mut self.row);
+        println!("{name:<34}{all:>9}{accepted:>9}{refused:>9}{deep:>9}{space:>9}{panics:>7}{disagree:>9}");
+    }
+
+    // Every word of that length over the letters, after what is there.
+    fn words(&mut self, word: &mut Vec<u8>, letters: &[u8], length: usize) {
+        if length == 0 {
+            self.input(word);
+            return;
+        }
+        for &letter in letters {
+            word.push(letter);
+            self.words(word, letters, length - 1);
+            word.pop();
+        }
+    }
+
+    // Every row of up to that many pieces of which no shorter beginning is accepted, or refused with other than 4.
+    fn undecided(&mut self, row: &mut Vec<u8>, pieces: &[&[u8]], most: usize) {
+        let length = row.len();
+        for piece in pieces {
+            row.extend(*piece);
+            let outcome = self.input(row);
+            if most > 1 && outcome == Some(Outcome::Refused(4)) {
+                self.undecided(row, pieces, most - 1);
+            }
+            row.truncate(length);
+        }
+    }
+
+    fn exhaustive(&mut self) {
+        let bytes: Vec<u8> = (0..=255).collect();
+        for length in 0..=2 {
+            self.words(&mut vec![], &bytes, length);
+        }
+        for n in 0..=0xFFFF_u16 {
+            self.input(&[(n >> 8) as u8, n as u8, b'0']);
+        }
+        self.end_class("headers");
+        for length in 0..=2 {
+            self.words(&mut vec![4, 8], &bytes, length);
+        }
+        self.end_class("2 bytes");
+        for kind in b"i[{}@;:\"" {
+            for size in [1, 2, 3, 4, -1, -2, -3, -4_i8] {
+                let length = size.unsigned_abs() as usize;
+                self.words(&mut vec![4, 8, *kind, size as u8], b"\x00\x01\x7A\x7B\x7F\x80\x84\xFF", length);
+            }
+        }
+        self.end_class("integers of 1 to 4 bytes");
+        for length in 0..=5 {
+            self.words(&mut vec![4, 8], ALPHABET, length);
+        }
+        self.end_class("5 of 23 bytes");
+        let letters: Vec<&[u8]> = LETTERS.chunks(1).collect();
+        self.undecided(&mut vec![4, 8], &letters, 7);
+        self.end_class("7 of 15 bytes, till decided");
+        self.undecided(&mut vec![4, 8], PIECES, 7);
+        self.end_class("7 of 19 pieces, till decided");
+    }
+
+    // Inputs as they are, then each damaged that many times.
+    fn with_damage(&mut self, name: &str, inputs: &[Vec<u8>], times: usize, random: &mut Random) {
+        for input in inputs {
+            self.input(input);
+        }
+        self.end_class(name);
+        for input in inputs {
+            for _ in 0..times {
+                self.input(&damaged(random, input));
+            }
+        }
+        self.end_class(&format!("{name}, damaged"));
+    }
+}
+
+fn hex(bytes: &[u8]) -> String {
+    bytes.iter().map(|b| format!("{b:02X}")).collect()
+}
+
+// The bytes of the field "in" of each line.
+fn saved(path: &str) -> Vec<Vec<u8>> {
+    let text = std::fs::read_to_string(path).unwrap_or_else(|e| panic!("{path}: {e}"));
+    let field = |line: &str| -> Vec<u8> {
+        let (_, rest) = line.split_once("\"in\":\"").expect("field in");
+        let digits = rest.split('"').next().unwrap_or("").as_bytes();
+        digits.chunks(2).map(|d| u8::from_str_radix(std::str::from_utf8(d).unwrap(), 16).expect("hex")).collect()
+    };
+    text.lines().map(field).collect()
+}
+
+fn made() -> Vec<Vec<u8>> {
+    let mut all = vec![inputs::recipes(300), inputs::batches(300), inputs::objects(300), inputs::names(130)];
+    all.extend(["arrays", "hashes", "defaults", "objects", "variables"].map(inputs::nested));
+    all
+}
+
+fn run(corpus: Option<String>) -> usize {
+    let lent = REFERENCES.map(Lent::new);
+    let again = Lent::new(REFERENCES[0]);
+    let mut run = Run { lent, again, kinds: [0; 9], refused: [0; 11], inputs: 0, disagree: 0, row: [0; 7] };
+    let mut random = Random(48);
+    println!("{:<34}{:>9}{:>9}{:>9}{:>9}{:>9}{:>7}{:>9}", "", "inputs", "accepted", "refused", "too deep", "no space", "panics", "disagree");
+    run.exhaustive();
+    let values: Vec<Vec<u8>> = (0..400_000).map(|_| value(&mut random)).collect();
+    run.with_damage("random", &values, 4, &mut random);
+    run.with_damage("made", &made(), 20_000, &mut random);
+    if let Some(folder) = corpus {
+        for name in ["saved", "load-list"] {
+            run.with_damage(name, &saved(&format!("{folder}/{name}.jsonl")), 100, &mut random);
+        }
+    }
+    println!("nodes compared, kinds 0 to 8: {:?}", run.kinds);
+    println!("refusals 3 to 10 that agree: {:?}", &run.refused[3..]);
+    println!("{} inputs, {} disagree", run.inputs, run.disagree);
+    run.disagree
+}
+
+fn main() {
+    let corpus = std::env::args().nth(1);
+    let thread = std::thread::Builder::new().stack_size(STACK).spawn(|| run(corpus));
+    let disagree = thread.expect("a thread").join().expect("a run to the end");
+    std::process::exit((disagree > 0) as i32);
+}

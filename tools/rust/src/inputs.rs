@@ -1,0 +1,122 @@
+// Inputs that are made: recipes, objects, names, nested values.
+
+pub fn integer(n: i32, out: &mut Vec<u8>) {
+    match n {
+        0 => out.push(0),
+        1..=122 => out.push((n + 5) as u8),
+        123..=255 => out.extend([1, n as u8]),
+        256..=65535 => out.extend([2, n as u8, (n >> 8) as u8]),
+        _ => out.extend([3, n as u8, (n >> 8) as u8, (n >> 16) as u8]),
+    }
+}
+
+pub fn symbol(name: &str, out: &mut Vec<u8>) {
+    out.push(b':');
+    integer(name.len() as i32, out);
+    out.extend(name.as_bytes());
+}
+
+// A name, by link after the first time.
+fn named(name: &str, i: usize, count: i32, out: &mut Vec<u8>) {
+    if count == 0 {
+        symbol(name, out);
+    } else {
+        out.push(b';');
+        integer(i as i32, out);
+    }
+}
+
+// An array of as many members as fill the size.
+fn list(size: usize, member: impl Fn(i32, &mut Vec<u8>)) -> Vec<u8> {
+    let (mut members, mut count) = (Vec::new(), 0);
+    while members.len() < size {
+        member(count, &mut members);
+        count += 1;
+    }
+    let mut out = vec![4, 8, b'['];
+    integer(count, &mut out);
+    out.extend(members);
+    out
+}
+
+// Eight ingredients of a recipe.
+fn ingredients(count: i32, members: &mut Vec<u8>) {
+    for (i, name) in ["sand", "cement", "water", "gravel", "lime", "ash", "fibre", "dye"].iter().enumerate() {
+        named(name, i, count, members);
+        members.push(b'i');
+        integer((count * 37 + i as i32 * 1001) % 70000, members);
+    }
+}
+
+/// Plain recipes: an array of hashes of eight ingredients, names by link after the first.
+pub fn recipes(size: usize) -> Vec<u8> {
+    list(size, |count, members| {
+        members.push(b'{');
+        integer(8, members);
+        ingredients(count, members);
+    })
+}
+
+/// Batches: recipes, each with a text and its encoding.
+pub fn batches(size: usize) -> Vec<u8> {
+    list(size, |count, members| {
+        members.push(b'{');
+        integer(9, members);
+        ingredients(count, members);
+        named("text", 8, count, members);
+        members.extend(b"I\"");
+        integer(12, members);
+        members.extend(b"batch of mix");
+        integer(1, members);
+        named("E", 9, count, members);
+        members.push(b'T');
+    })
+}
+
+/// Objects: an array of objects of one class with three variables, one of them an array.
+pub fn objects(size: usize) -> Vec<u8> {
+    list(size, |count, members| {
+        members.push(b'o');
+        named("Step", 0, count, members);
+        integer(3, members);
+        for (i, name) in ["@from", "@to", "@parts"].iter().enumerate() {
+            named(name, i + 1, count, members);
+            if i < 2 {
+                members.push(b'i');
+                integer((count * 7 + i as i32) % 70000, members);
+            } else {
+                members.extend(b"[\x07i\x06i\x07");
+            }
+        }
+    })
+}
+
+/// A hash of n names.
+pub fn names(n: i32) -> Vec<u8> {
+    let mut out = vec![4, 8, b'{'];
+    integer(n, &mut out);
+    for i in 0..n {
+        symbol(&format!("ingredient_{i:04}"), &mut out);
+        out.push(b'i');
+        integer(i, &mut out);
+    }
+    out
+}
+
+/// Values of one kind, each in the one before, 128 levels in all; nil alone for another word.
+pub fn nested(kind: &str) -> Vec<u8> {
+    let open: &[u8] = match kind {
+        "arrays" => b"[\x06",
+        "hashes" => b"{\x060",
+        "defaults" => b"}\x00",
+        "objects" => b"o:\x06a\x06:\x06b",
+        "variables" => b"I\"\x00\x06:\x06a",
+        _ => return vec![4, 8, b'0'],
+    };
+    let mut out = vec![4, 8];
+    for _ in 1..128 {
+        out.extend(open);
+    }
+    out.push(b'0');
+    out
+}
