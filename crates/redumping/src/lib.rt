@@ -6,13 +6,10 @@ use definition::Dumped;
 use definition::Refusal;
 use dump::dump;
 use load::load;
-
-fn refused(q: Refusal) -> Dumped {
-    Dumped {
-        answer: Answer::Refused(q),
-        written: 0,
-    }
-}
+ghost use mathlib.Core.Path.{_≡_};
+ghost use Rattle.definition.specs.Load.{lists};
+ghost use Rattle.definition.specs.Dump.{dump-call-of};
+ghost use Rattle.redumping.specs.Redump.{redump-call, redump-lent};
 
 // The input's dump, put into `output`; or the refusal of load, or of dump.
 pub fn redump(
@@ -24,9 +21,15 @@ pub fn redump(
     objects: &mut [u32],
     scratch: &mut [u32],
     output: &mut [u8],
-) -> Dumped {
+) -> Dumped
+    ensures { λ r. ⌜ dump-call-of (r .answer) (r .written) (now (scratch .exit)) (now (output .exit)) ≡ redump-call (now (input .entry)) (lists (now (nodes .entry)) (now (references .entry)) (now (bytes .entry)) (now (symbols .entry)) (now (objects .entry))) (now (scratch .entry)) (now (output .entry)) ⌝ }
+    ensures { λ r. ⌜ lists (now (nodes .exit)) (now (references .exit)) (now (bytes .exit)) (now (symbols .exit)) (now (objects .exit)) ≡ redump-lent (now (input .entry)) (lists (now (nodes .entry)) (now (references .entry)) (now (bytes .entry)) (now (symbols .entry)) (now (objects .entry))) ⌝ }
+{
     if LONGEST < input.len() {
-        return refused(Refusal::NoSpace(8));
+        return Dumped {
+            answer: Answer::Refused(Refusal::NoSpace(8)),
+            written: 0,
+        };
     }
     let r = load(
         &input[..],
@@ -41,6 +44,9 @@ pub fn redump(
     let counts = r.counts;
     match answer {
         Answer::Accepted => dump(nodes, references, bytes, counts, scratch, output, LIMIT),
-        Answer::Refused(q) => refused(q),
+        Answer::Refused(q) => Dumped {
+            answer: Answer::Refused(q),
+            written: 0,
+        },
     }
 }

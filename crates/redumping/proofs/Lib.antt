@@ -1,0 +1,2 @@
+-- Laws for the proof of redump.
+pub mod Laws

@@ -1,0 +1,3 @@
+-- What redump answers.
+pub mod Redump
+pub mod Same

@@ -1,0 +1,54 @@
+-- Two inputs with the same graph are redumped to the same bytes, and only they.
+use Prim.Native.Nat.{ℕ}
+use mathlib.Core.Bool.{Bool, true, false}
+use mathlib.Core.Path.{_≡_, refl, sym, ap, _∙_}
+use mathlib.Core.Logic.{_↔_}
+use mathlib.Core.List.{List}
+use lib.Dec.{ltb}
+use lib.ListN.{length, take}
+use Rattle.definition.specs.Run.{pick}
+use Rattle.definition.specs.Load.{Lists, load-call}
+use Rattle.definition.specs.Dump.{DumpCall, dump-call, dump-call-of}
+use Rattle.definition.specs.Graph.{SameGraph}
+use Rattle.definition.specs.declared.Answer.{Answer}
+use Rattle.definition.specs.declared.Answer.the-variants.{Accepted, Refused}
+use Rattle.definition.specs.declared.Refusal.the-variants.{NoSpace}
+use Rattle.lists.specs.Lists.{apart}
+use Rattle.round_trip.specs.Statement.{AreBytes, LoadAccepted, filled, tables, counts}
+use Rattle.round_trip.specs.Theorem.{round-trip}
+use Rattle.redumping.specs.Redump.{redump-loaded, redump-after, redump-call}
+
+-- an accepted redump loaded its input and dumped what was loaded
+record Done (input : List ℕ) (T : Lists) (scratch output : List ℕ) : Type 0 where
+  loaded : LoadAccepted input T 64
+  same : redump-call input T scratch output ≡ dump-call (tables input T 64) (counts input T 64) scratch output 64
+
+done : (input : List ℕ) (T : Lists) (scratch output : List ℕ) → redump-call input T scratch output .answer .answer ≡ Accepted → Done input T scratch output
+unfolding redump-call pick redump-loaded
+done input T scratch output = long (ltb 16384 (length input)) refl
+  where
+    answered : (r : Answer) → load-call input T 64 .answer .answer ≡ r → (d : DumpCall) → d ≡ redump-loaded r (tables input T 64) (counts input T 64) scratch output → d .answer .answer ≡ Accepted → (load-call input T 64 .answer .answer ≡ Accepted) × (d ≡ dump-call (tables input T 64) (counts input T 64) scratch output 64)
+    answered Accepted e d q a = (e, q)
+    answered (Refused r) e d q a = let z : Refused r ≡ Accepted = sym (ap (λ (k : DumpCall). k .answer .answer) q) ∙ a in apart (cc)
+
+    long : (b : Bool) → ltb 16384 (length input) ≡ b → pick (ltb 16384 (length input)) (dump-call-of (Refused (NoSpace 8)) 0 scratch output) (redump-after (load-call input T 64) scratch output) .answer .answer ≡ Accepted → Done input T scratch output
+    long true e a = let z : Refused (NoSpace 8) ≡ Accepted = sym (ap (λ (b : Bool). pick b (dump-call-of (Refused (NoSpace 8)) 0 scratch output) (redump-after (load-call input T 64) scratch output) .answer .answer) e) ∙ a in apart (cc)
+    long false e a =
+        let p : redump-call input T scratch output ≡ redump-after (load-call input T 64) scratch output = ap (λ (b : Bool). pick b (dump-call-of (Refused (NoSpace 8)) 0 scratch output) (redump-after (load-call input T 64) scratch output)) e in
+        let r = answered (load-call input T 64 .answer .answer) refl (redump-call input T scratch output) p a in
+        record { loaded = r .0; same = r .1 }
+
+-- the bytes that redump puts out
+abbrev pub redumped : List ℕ → Lists → List ℕ → List ℕ → List ℕ
+redumped input T scratch output = take (redump-call input T scratch output .answer .written) (redump-call input T scratch output .output)
+
+pub same-bytes : (X Y : List ℕ) (T U : Lists) (scratch-x scratch-y output-x output-y : List ℕ) → AreBytes X → AreBytes Y
+    → redump-call X T scratch-x output-x .answer .answer ≡ Accepted → redump-call Y U scratch-y output-y .answer .answer ≡ Accepted
+    → (redumped X T scratch-x output-x ≡ redumped Y U scratch-y output-y) ↔ SameGraph (filled X T 64) (filled Y U 64)
+same-bytes X Y T U scratch-x scratch-y output-x output-y bx by ax ay =
+    let x = done X T scratch-x output-x ax in
+    let y = done Y U scratch-y output-y ay in
+    let r = round-trip X Y T U 64 64 bx by (x .loaded) (y .loaded) scratch-x scratch-y output-x output-y 64 64 (sym (ap (λ (k : DumpCall). k .answer .answer) (x .same)) ∙ ax) (sym (ap (λ (k : DumpCall). k .answer .answer) (y .same)) ∙ ay) .0 in
+    let p : redumped X T scratch-x output-x ≡ take (dump-call (tables X T 64) (counts X T 64) scratch-x output-x 64 .answer .written) (dump-call (tables X T 64) (counts X T 64) scratch-x output-x 64 .output) = ap (λ (k : DumpCall). take (k .answer .written) (k .output)) (x .same) in
+    let q : redumped Y U scratch-y output-y ≡ take (dump-call (tables Y U 64) (counts Y U 64) scratch-y output-y 64 .answer .written) (dump-call (tables Y U 64) (counts Y U 64) scratch-y output-y 64 .output) = ap (λ (k : DumpCall). take (k .answer .written) (k .output)) (y .same) in
+    (λ e. r .0 (sym p ∙ e ∙ q), λ s. p ∙ r .1 s ∙ sym q)
