@@ -171,7 +171,8 @@ fn read_part(data: &mut [u8], n: usize) -> bool {
     false
 }
 
-// The next of several inputs: its length, four bytes, low byte first, and its bytes. Failed where it is not there.
+// The next of several inputs: its length in four bytes, low byte first, of which the two low ones count, and its bytes.
+// Failed where it is not there.
 pub fn read_next(data: &mut [u8]) -> Input {
     let mut head = [0u8; 4];
     if io::read_full(0, &mut head) < 4 {

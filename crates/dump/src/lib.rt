@@ -27,8 +27,8 @@ ghost use Rattle.dump_forest.specs.Right.{ListIn};
 ghost use Rattle.dumper.specs.Held.{buffers, Lent, Listed, Ready, Meets, stopped};
 ghost use Rattle.dump.specs.Whole.{whole};
 
-// The n values from reference `start` on. Integers and links to symbols are most of a recipe: they are written first, in a loop of
-// their own.
+// The n values from reference `start` on, in order. Integers and links to symbols are most of a recipe: as many of them as come
+// next are written in a loop of their own, and then the value after them.
 fn write_elements(
     nodes: &[u32],
     references: &[u32],
