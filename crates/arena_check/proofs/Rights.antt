@@ -2,7 +2,7 @@
 use Prim.Native.Nat.{ℕ, zero, suc, _+_, _-_, _*_, _/_, _≤_, _<_}
 use native.Mathlib.Omega.{arith}
 use native.Mathlib.Numerals.{add-one}
-use mathlib.Core.Bool.{Bool, true, false, _&&_, and-false}
+use mathlib.Core.Bool.{Bool, true, false, _&&_, and-true, and-false}
 use mathlib.Core.List.{List, [], _∷_}
 use mathlib.Core.Option.{Option, none, some}
 use mathlib.Core.Path.{_≡_, refl, sym, ap, _∙_, subst}
@@ -11,12 +11,15 @@ use lib.ListN.{length, getD, take, drop, length-drop}
 use lib.Seq.{getD-drop, length-take-le, drop-drop, take-take}
 use borrow.Author.Tests.{le-leb, lt-leb, ne-eqb}
 use Rattle.definition.specs.Run.{pick}
-use Rattle.definition.specs.Node.{Row, row, row-of, rows, vars, is-row}
+use Rattle.definition.specs.Node.{Row, row, row-of, vars, is-row}
 use Rattle.definition.specs.Arena.{Arena, Tables, arena, range, firsts, all-below, all-names, is-name, bytes-right, list-right, pairs-right, vars-right, row-right, node-right, faulty, counts-fit, fault, fault-if}
 use Rattle.definition.specs.declared.Counts.{Counts}
 use Rattle.definition.specs.declared.Fault.{Fault}
 use Rattle.definition.specs.declared.Fault.the-variants.{Counts as BadCounts, Node}
-use Rattle.arena_check.specs.Held.{Held, Fits, counted}
+use Rattle.arena_check.specs.declared.Checked.{Checked}
+use Rattle.arena_check.specs.declared.Checked.the-variants.{Right, Wrong}
+use Rattle.arena_check.specs.Held.{Held, Fits, FitIf, counted}
+use Rattle.arena_check.proofs.Rows.{row-2}
 
 -- ---- ranges and lists
 
@@ -139,6 +142,15 @@ pub node-out : (A : Arena) (ws : List ℕ) (k a b s n c f : ℕ) → ws ≡ k �
 unfolding node-right row
 node-out A ws k a b s n c f e t = ap (λ (x : Bool). x && row-right A (row-of k a b s n c f)) t ∙ ap (node-right A) (sym e)
 
+-- an integer's node has neither ranges nor names
+pub node-fixnum : (A : Arena) (ws : List ℕ) (k a b s n c f : ℕ) → ws ≡ k ∷ a ∷ b ∷ s ∷ n ∷ c ∷ f ∷ [] → k ≡ 2 → eqb (0 + b + s + n + c + f) 0 ≡ node-right A ws
+unfolding node-right row row-right row-of pick
+node-fixnum A ws k a b s n c f e q =
+    row-2 a b s n c f
+    ∙ sym (and-true (is-row (2 ∷ a ∷ b ∷ s ∷ n ∷ c ∷ f ∷ [])))
+    ∙ ap (λ (k : ℕ). node-right A (k ∷ a ∷ b ∷ s ∷ n ∷ c ∷ f ∷ [])) (sym q)
+    ∙ ap (node-right A) (sym e)
+
 -- ---- all nodes
 
 module _ (A : Arena) (t : List ℕ) (n i : ℕ) where
@@ -217,6 +229,10 @@ module _ (n r b x y z root : ℕ) where
 pub held : (T : Tables) (c : Counts) → Fits (length (T .nodes)) (length (T .references)) (length (T .bytes)) c → Held (arena T c) (T .nodes) (T .references) (c .nodes) (c .references) (c .bytes)
 unfolding arena
 held T c f = record { nodes-same = refl; references-same = refl; bytes-same = length-take-le (c .bytes) (T .bytes) (f .bytes-fit) }
+
+pub fit-if : {n r b : ℕ} {c : Counts} (x : Checked) → Fits n r b c → FitIf x n r b c
+fit-if Right f = f
+fit-if (Wrong q) f = tt
 
 pub checked-in : (T : Tables) (c : Counts) (o : Option Fault) → true ≡ counts-fit T c → o ≡ faulty (arena T c) (c .nodes) 0 (T .nodes) → o ≡ fault T c
 unfolding fault fault-if

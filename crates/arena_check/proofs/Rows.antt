@@ -35,6 +35,10 @@ sum a b s n c f e = eq-eqb (a + b + s + n + c + f) 0 e
 pub sum-same : {a b s n c f a' b' s' n' c' f' : ℕ} → a' ≡ a → b' ≡ b → s' ≡ s → n' ≡ n → c' ≡ c → f' ≡ f → eqb (a' + b' + s' + n' + c' + f') 0 ≡ eqb (a + b + s + n + c + f) 0
 sum-same p q r t u v = λ i. eqb (p i + q i + r i + t i + u i + v i) 0
 
+-- what is said of a kind's number holds of the word that is it
+pub of-kind : {k m : ℕ} {t : Bool} (ws : List ℕ) → k ≡ m → t ≡ is-row (m ∷ ws) → t ≡ is-row (k ∷ ws)
+of-kind ws e t = t ∙ ap (λ (k : ℕ). is-row (k ∷ ws)) (sym e)
+
 -- word i of two lists that are the same
 word : {l m : List ℕ} (i : ℕ) → l ≡ m → getD l i 0 ≡ getD m i 0
 word i e = ap (λ (x : List ℕ). getD x i 0) e

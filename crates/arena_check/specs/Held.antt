@@ -1,10 +1,10 @@
 -- The arena that tables and counts hold, as the check sees it.
-use Prim.Native.Nat.{ℕ, _*_, _/_, _≤_, _<_}
+use Prim.Native.Nat.{ℕ, _*_, _≤_, _<_}
 use mathlib.Core.Path.{_≡_}
 use mathlib.Core.List.{List}
 use mathlib.Core.Option.{Option, none, some}
 use lib.ListN.{length, take}
-use Rattle.definition.specs.Node.{rows}
+use Rattle.definition.specs.Node.{width, rows}
 use Rattle.definition.specs.Arena.{Arena, Tables}
 use Rattle.definition.specs.declared.Counts.{Counts}
 use Rattle.definition.specs.declared.Fault.{Fault}
@@ -26,7 +26,7 @@ checked (Wrong f) = some f
 
 -- counts within tables of these lengths
 pub record Fits (nodes references bytes : ℕ) (c : Counts) : Type 0 where
-  pub nodes-fit : c .nodes * 7 ≤ nodes
+  pub nodes-fit : c .nodes * width ≤ nodes
   pub references-fit : c .references ≤ references
   pub bytes-fit : c .bytes ≤ bytes
   pub root-fits : c .root < c .nodes

@@ -1,12 +1,13 @@
 // Whether an arena is well formed.
 use definition::Counts;
 use definition::Fault;
+use definition::Node;
 ghost use mathlib.Core.Path.{_≡_};
-ghost use mathlib.Core.List.{List, [], _∷_};
-ghost use Prim.Native.Nat.{ℕ, _+_, _-_, _*_, _/_, _<_, _≤_};
+ghost use mathlib.Core.List.{[], _∷_};
+ghost use Prim.Native.Nat.{_+_, _*_, _/_, _<_, _≤_};
 ghost use lib.Dec.{eqb};
-ghost use lib.ListN.{length, getD, take, drop};
-ghost use Rattle.definition.specs.Node.{is-row, row-of, rows, vars};
+ghost use lib.ListN.{length, take, drop};
+ghost use Rattle.definition.specs.Node.{width, is-row, row-of, rows, vars};
 ghost use mathlib.Core.Bool.{true};
 ghost use Rattle.definition.specs.Arena.{Arena, Tables, range, firsts, all-below, all-names, is-name, bytes-right, list-right, pairs-right, vars-right, row-right, node-right, faulty, counts-fit, fault};
 ghost use Rattle.arena_check.specs.Held.{Held, checked, tables, Fits, FitIf, counted};
@@ -34,32 +35,32 @@ fn all_zero(a: u32, b: u32, s: u32, n: u32, c: u32, f: u32) -> bool
     wide(a) + wide(b) + wide(s) + wide(n) + wide(c) + wide(f) == 0
 }
 
-// Unused words are zero, flags are 0 or 1.
+// Unused words are zero, flags are 0 or 1; an integer's node is tested before.
 fn is_row_of(k: u32, a: u32, b: u32, s: u32, n: u32, c: u32, f: u32) -> bool
+    requires { ⌜ (k ≡ 2 → ⊥) ⌝ }
     ensures { λ r. ⌜ r ≡ is-row (k ∷ a ∷ b ∷ s ∷ n ∷ c ∷ f ∷ []) ⌝ }
 {
     match k {
-        0 => all_zero(a, b, s, n, c, f),
-        1 => {
+        Node::NIL => all_zero(a, b, s, n, c, f),
+        Node::BOOL => {
             if a <= 1 {
                 all_zero(0, b, s, n, c, f)
             } else {
                 false
             }
         }
-        2 => all_zero(0, b, s, n, c, f),
-        3 => all_zero(0, 0, s, n, c, f),
-        4 => all_zero(a, b, 0, 0, c, f),
-        5 => all_zero(a, b, 0, 0, c, 0),
-        6 => all_zero(a, b, 0, 0, 0, f),
-        7 => {
+        Node::SYMBOL => all_zero(0, 0, s, n, c, f),
+        Node::ARRAY => all_zero(a, b, 0, 0, c, f),
+        Node::HASH => all_zero(a, b, 0, 0, c, 0),
+        Node::OBJECT => all_zero(a, b, 0, 0, 0, f),
+        Node::STRING => {
             if f == 0 {
                 all_zero(0, 0, s, n, c, 0)
             } else {
                 if f == 1 { c == 0 } else { false }
             }
         }
-        8 => {
+        Node::USER_DEFINED => {
             if f == 0 {
                 all_zero(0, 0, s, n, 0, 0)
             } else {
@@ -72,12 +73,12 @@ fn is_row_of(k: u32, a: u32, b: u32, s: u32, n: u32, c: u32, f: u32) -> bool
 
 // Is the entry below the node count a symbol?
 pub fn is_name_at(nodes: &[u32], count: usize, i: u32) -> bool
-    requires { ⌜ count * 7 ≤ length (now nodes) ⌝ }
+    requires { ⌜ count * width ≤ length (now nodes) ⌝ }
     ensures { λ r. ⌜ ((A : Arena) → A .nodes ≡ rows count (now (nodes .entry)) → r ≡ is-name A i) ⌝ }
 {
     let at = size(i);
     if at < count {
-        nodes[at * 7] == 3
+        nodes[at * Node::WIDTH] == Node::SYMBOL
     } else {
         false
     }
@@ -102,7 +103,7 @@ fn all_below_at(references: &[u32], start: usize, n: usize, count: usize) -> boo
 
 // Is the first of each of the n pairs from `start` on a symbol?
 fn all_names_at(nodes: &[u32], count: usize, references: &[u32], start: usize, n: usize) -> bool
-    requires { ⌜ (count * 7 ≤ length (now nodes)) × (start + n * 2 ≤ length (now references)) ⌝ }
+    requires { ⌜ (count * width ≤ length (now nodes)) × (start + n * 2 ≤ length (now references)) ⌝ }
     ensures { λ r. ⌜ ((A : Arena) → A .nodes ≡ rows count (now (nodes .entry)) → r ≡ all-names A (firsts (range (now (references .entry)) start (n * 2)))) ⌝ }
 {
     let mut i = 0;
@@ -144,7 +145,7 @@ fn pairs_right_at(
     start: u32,
     n: u32,
 ) -> bool
-    requires { ⌜ (count * 7 ≤ length (now nodes)) × (used ≤ length (now references)) ⌝ }
+    requires { ⌜ (count * width ≤ length (now nodes)) × (used ≤ length (now references)) ⌝ }
     ensures { λ r. ⌜ ((A : Arena) → A .nodes ≡ rows count (now (nodes .entry)) → A .references ≡ take used (now (references .entry)) → r ≡ pairs-right A start n) ⌝ }
 {
     let pairs = size(n);
@@ -164,7 +165,7 @@ fn vars_right_at(
     start: u32,
     n: u32,
 ) -> bool
-    requires { ⌜ (count * 7 ≤ length (now nodes)) × (used ≤ length (now references)) ⌝ }
+    requires { ⌜ (count * width ≤ length (now nodes)) × (used ≤ length (now references)) ⌝ }
     ensures { λ r. ⌜ ((A : Arena) → A .nodes ≡ rows count (now (nodes .entry)) → A .references ≡ take used (now (references .entry)) → r ≡ vars-right A (vars f start n)) ⌝ }
 {
     if f == 0 {
@@ -189,34 +190,34 @@ fn row_right_at(
     c: u32,
     f: u32,
 ) -> bool
-    requires { ⌜ (count * 7 ≤ length (now nodes)) × (used ≤ length (now references)) ⌝ }
+    requires { ⌜ (count * width ≤ length (now nodes)) × (used ≤ length (now references)) ⌝ }
     ensures { λ r. ⌜ ((A : Arena) → Held A (now (nodes .entry)) (now (references .entry)) count used stored → r ≡ row-right A (row-of k a b s n c f)) ⌝ }
 {
     match k {
-        3 => bytes_right_at(stored, a, b),
-        4 => list_right_at(&references[..], used, count, s, size(n)),
-        5 => {
+        Node::SYMBOL => bytes_right_at(stored, a, b),
+        Node::ARRAY => list_right_at(&references[..], used, count, s, size(n)),
+        Node::HASH => {
             if list_right_at(&references[..], used, count, s, size(n) * 2) {
                 size(f) <= count
             } else {
                 false
             }
         }
-        6 => {
+        Node::OBJECT => {
             if is_name_at(&nodes[..], count, c) {
                 pairs_right_at(&nodes[..], &references[..], count, used, s, n)
             } else {
                 false
             }
         }
-        7 => {
+        Node::STRING => {
             if bytes_right_at(stored, a, b) {
                 vars_right_at(&nodes[..], &references[..], count, used, f, s, n)
             } else {
                 false
             }
         }
-        8 => {
+        Node::USER_DEFINED => {
             if bytes_right_at(stored, a, b) {
                 if is_name_at(&nodes[..], count, c) {
                     vars_right_at(&nodes[..], &references[..], count, used, f, s, n)
@@ -231,6 +232,7 @@ fn row_right_at(
     }
 }
 
+// Most nodes are integers: they are tested first.
 fn node_right_at(
     nodes: &[u32],
     references: &[u32],
@@ -239,17 +241,20 @@ fn node_right_at(
     stored: usize,
     i: usize,
 ) -> bool
-    requires { ⌜ (i < count) × (count * 7 ≤ length (now nodes)) × (used ≤ length (now references)) ⌝ }
-    ensures { λ r. ⌜ ((A : Arena) → Held A (now (nodes .entry)) (now (references .entry)) count used stored → r ≡ node-right A (take 7 (drop (i * 7) (now (nodes .entry))))) ⌝ }
+    requires { ⌜ (i < count) × (count * width ≤ length (now nodes)) × (used ≤ length (now references)) ⌝ }
+    ensures { λ r. ⌜ ((A : Arena) → Held A (now (nodes .entry)) (now (references .entry)) count used stored → r ≡ node-right A (take width (drop (i * width) (now (nodes .entry))))) ⌝ }
 {
-    let at = i * 7;
+    let at = i * Node::WIDTH;
     let k = nodes[at];
-    let a = nodes[at + 1];
-    let b = nodes[at + 2];
-    let s = nodes[at + 3];
-    let n = nodes[at + 4];
-    let c = nodes[at + 5];
-    let f = nodes[at + 6];
+    let a = nodes[at + Node::START];
+    let b = nodes[at + Node::LENGTH];
+    let s = nodes[at + Node::LIST];
+    let n = nodes[at + Node::COUNT];
+    let c = nodes[at + Node::NAME];
+    let f = nodes[at + Node::DEFAULT];
+    if k == Node::FIXNUM {
+        return all_zero(0, b, s, n, c, f);
+    }
     if is_row_of(k, a, b, s, n, c, f) {
         row_right_at(
             &nodes[..],
@@ -278,7 +283,7 @@ fn first_faulty(
     used: usize,
     stored: usize,
 ) -> Checked
-    requires { ⌜ (length (now nodes) ≤ 2147483647) × (count * 7 ≤ length (now nodes)) × (used ≤ length (now references)) ⌝ }
+    requires { ⌜ (length (now nodes) ≤ 2147483647) × (count * width ≤ length (now nodes)) × (used ≤ length (now references)) ⌝ }
     ensures { λ r. ⌜ ((A : Arena) → Held A (now (nodes .entry)) (now (references .entry)) count used stored → checked r ≡ faulty A count 0 (now (nodes .entry))) ⌝ }
 {
     let mut i = 0;
@@ -307,7 +312,7 @@ fn counts_fit_at(
     if count == 0 {
         return false;
     }
-    if nodes / 7 < count {
+    if nodes / Node::WIDTH < count {
         return false;
     }
     if references < used {
@@ -338,10 +343,7 @@ pub fn check(nodes: &[u32], references: &[u32], bytes: &[u8], counts: Counts) ->
         stored,
         root,
     ) {
-        match first_faulty(&nodes[..], &references[..], count, used, stored) {
-            Checked::Right => Checked::Right,
-            Checked::Wrong(f) => Checked::Wrong(f),
-        }
+        first_faulty(&nodes[..], &references[..], count, used, stored)
     } else {
         Checked::Wrong(Fault::Counts)
     }

@@ -5,6 +5,7 @@
 // seven words; then the tables, the list, the byte string, and the tables as they are expected afterwards.
 use definition::Counts;
 use definition::Created;
+use definition::Node;
 use definition::Number;
 use replay::next;
 use replay::plus;
@@ -47,7 +48,7 @@ const AFTER: usize = 16;
 
 const WORDS: usize = 20;
 
-const TABLES: usize = 27;
+const TABLES: usize = WORDS + Node::WIDTH;
 
 // The number whose 32 bits are given.
 fn signed(x: u32) -> i32 {

@@ -17,11 +17,11 @@ use Rattle.definition.specs.declared.Answer.the-variants.{Accepted}
 use Rattle.definition.specs.declared.Counts.{Counts}
 use Rattle.lists.specs.Lists.{apart}
 use Rattle.lists.specs.Tables.{faulty-words, words-faulty, counts-fit-yes, fault-none, no-fault}
-use Rattle.dump_forest.specs.Right.{and-left, and-right, fault-fit}
+use Rattle.lists.specs.Joined.{and-left, and-right, yes-and}
+use Rattle.well_formed.specs.Right.{fault-fit}
 use Rattle.load_forest.specs.Call.{row-words-back, is-row-words, nodes-allowed, lowest-none}
 use Rattle.builder_laws.specs.Tables.{take-stored, words-before, words-stored, rows-same, rows-last}
 use Rattle.builder_laws.specs.Grown.{grown, right-grown}
-use Rattle.states.specs.Right.{yes-and}
 
 -- every node's words pass the test
 pub fault-words : (T : Tables) (c : Counts) → fault T c ≡ none → (i : ℕ) → i < c .nodes → node-right (arena T c) (words-at (T .nodes) i) ≡ true

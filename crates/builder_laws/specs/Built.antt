@@ -15,15 +15,17 @@ use Rattle.definition.specs.Graph.{header, links}
 use Rattle.definition.specs.Load.{State}
 use Rattle.lists.specs.Lists.{At, at-lt}
 use Rattle.lists.specs.Tables.{words-faulty, counts-fit-yes, fault-none}
-use Rattle.graph.specs.View.{arena-of, at-node}
-use Rattle.dump_forest.specs.Right.{fault-fit, fault-rows, and-left, and-right}
+use Rattle.graph.specs.View.{arena-of}
+use Rattle.well_formed.specs.Nodes.{at-node}
+use Rattle.lists.specs.Joined.{and-left, and-right, yes-and}
+use Rattle.well_formed.specs.Right.{fault-fit, fault-rows}
 use Rattle.builder_laws.specs.Tables.{take-before, words-before}
 use Rattle.builder_laws.specs.Grown.{grown, node-grown, links-grown, header-grown, right-in}
 use Rattle.builder_laws.specs.Append.{fault-words, Room, appended, held-appended, fault-appended}
 use Rattle.builder_laws.specs.Calls.{Builder, move-root, run, Makes, rooted, Did, added, known, moved, did}
 use Rattle.states.specs.States.{seen-at-inv}
 use Rattle.states.specs.Symbols.{symbol-of, found}
-use Rattle.states.specs.Right.{Onward, right-yes, row-onward, yes-and}
+use Rattle.states.specs.Right.{Onward, right-yes, row-onward}
 use Rattle.states.specs.Rows.{links-same, header-same}
 
 -- ---- the root moved

@@ -8,17 +8,17 @@ use lib.Dec.{ltb}
 use lib.IntN.{ℤ}
 use lib.ListN.{length}
 use native.Mathlib.Omega.{arith}
-use borrow.Author.Tests.{eqb-true, leb-true, not-false}
+use borrow.Author.Tests.{eqb-true, not-false}
 use Rattle.definition.specs.Run.{Run, Outcome, ok, refused, pure, next, _>>=_, look, pick}
 use Rattle.definition.specs.Node.{Row, nil, bool, fixnum, symbol, array, hash, object, string, user, absent}
 use Rattle.definition.specs.Arena.{Tables, Arena, firsts, is-name, all-below, all-names, too-long, fault, row-right, vars-right, find-symbol}
 use Rattle.definition.specs.Build.{Lent, held, wrong, check, check-handles, byte-slice, member-slice, pair-slice, handle-checked, set-root, exchange-root, add, bits, create-nil, create-bool, create-fixnum, add-symbol, create-new-symbol, known-or-new, create-symbol, create-array, default-handle, create-hash, create-object, create-string, create-user-defined}
-use Rattle.dump_forest.specs.Right.{Fit, fault-fit}
-use Rattle.load_forest.specs.Call.{or-none, lowest-none}
-use Rattle.builder_laws.specs.Grown.{grown, pick-true, name-grown, bytes-added, list-added, pairs-added, default-added}
+use Rattle.lists.specs.Joined.{yes-and, or-none, pick-true}
+use Rattle.well_formed.specs.Right.{Fit, below-of, fault-fit}
+use Rattle.load_forest.specs.Call.{lowest-none}
+use Rattle.builder_laws.specs.Grown.{grown, name-grown, bytes-added, list-added, pairs-added, default-added}
 use Rattle.builder_laws.specs.Append.{Room, appended}
 use Rattle.builder_laws.specs.Checks.{after-check, after-handles, after-names, after-add}
-use Rattle.states.specs.Right.{yes-and}
 
 -- ---- the calls
 
@@ -158,9 +158,9 @@ all-below-parts n (x ∷ l) m e =
     (rw (p, u), v)
 
 default-most : (n d : ℕ) → all-below n (default-handle d) ≡ true → d ≤ n
-unfolding all-below default-handle
+unfolding default-handle
 default-most n zero e = omega arith
-default-most n (suc d) e = leb-true (suc d) n (pick-true (ltb d n) true e .0)
+default-most n (suc d) e = below-of n (d ∷ []) e 0 d refl
 
 all-below-first : (n c : ℕ) (l : List ℕ) → all-below n (c ∷ l) ≡ true → all-below n l ≡ true
 unfolding all-below
@@ -169,10 +169,6 @@ all-below-first n c l e = pick-true (ltb c n) (all-below n l) e .1
 all-names-first : (A : Arena) (c : ℕ) (l : List ℕ) → all-names A (c ∷ l) ≡ true → (is-name A c ≡ true) × (all-names A l ≡ true)
 unfolding all-names
 all-names-first A c l e = pick-true (is-name A c) (all-names A l) e
-
-below-one : (n c : ℕ) → all-below n (c ∷ []) ≡ true → c < n
-unfolding all-below
-below-one n c e = leb-true (suc c) n (pick-true (ltb c n) true e .0)
 
 bind-assoc : {A B C : Type 0} (m : Run Lent A) (f : A → Run Lent B) (k : B → Run Lent C) (L : Lent) → (m >>= f >>= k) L ≡ (m >>= λ a. f a >>= k) L
 unfolding _>>=_ next
@@ -299,7 +295,7 @@ module _ (L M : Lent) (h : ℕ) where
   did-root n e =
       let (w, s, e₁) = after-check [] (λ u. check-handles (n ∷ []) >>= λ v. set-root n) L M h (sym (bind-assoc (check []) (λ u. check-handles (n ∷ [])) (λ v. set-root n) L) ∙ e) in
       let (b, e₂) = after-handles (n ∷ []) (λ v. set-root n) L M h e₁ in
-      (s, moved (below-one (L .counts .nodes) n b) (cc) (cc))
+      (s, moved (below-of (L .counts .nodes) (n ∷ []) b 0 n refl) (cc) (cc))
 
   -- an accepted call was made on a well-formed arena
   pub did : (c : Builder) → run c L ≡ ok h M → Result c

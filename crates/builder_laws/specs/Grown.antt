@@ -1,32 +1,25 @@
 -- An arena with a node, its bytes and its list added at the ends: every node that was right is right, and reads the same.
 use Prim.Native.Nat.{ℕ, _+_, _*_, _≤_, _<_}
-use mathlib.Core.Path.{_≡_, refl, ap, _∙_}
-use mathlib.Core.Bool.{Bool, true, false}
+use mathlib.Core.Path.{_≡_, ap, _∙_}
+use mathlib.Core.Bool.{true}
 use mathlib.Core.List.{List, [], _∷_, _++_}
 use lib.Dec.{leb}
 use lib.ListN.{length, length-append}
 use native.Mathlib.Omega.{arith}
 use borrow.Author.Tests.{le-leb}
-use Rattle.definition.specs.Run.{pick}
 use Rattle.definition.specs.Node.{Row, Vars, nil, bool, fixnum, symbol, array, hash, object, string, user, absent, present}
 use Rattle.definition.specs.Arena.{Arena, node, range, firsts, all-below, is-name, all-names, bytes-right, list-right, pairs-right, row-right}
 use Rattle.definition.specs.Graph.{header, vars-links, links}
-use Rattle.lists.specs.Lists.{At, apart, no-at, at-app, at-snoc, len-snoc, below-up}
+use Rattle.lists.specs.Joined.{yes-and}
+use Rattle.lists.specs.Lists.{At, no-at, at-app, at-snoc, len-snoc, below-up}
 use Rattle.lists.specs.Ranges.{range-more, range-last}
-use Rattle.graph.specs.View.{node-at, at-node, Name}
+use Rattle.well_formed.specs.Nodes.{node-at, at-node, Name}
 use Rattle.states.specs.Rows.{bytes-start, bytes-length, list-start, list-length, vars-start, vars-length, row-words, Within, links-same, header-same}
-use Rattle.states.specs.Right.{row-names, RightIn, names-first, Onward, row-onward, yes-and, is-name-yes, all-names-yes, list-right-yes, right-yes}
-use Rattle.dump_forest.specs.Right.{VarsRight, RowRight, below-of, name-of-test, names-of, right-of, links-below}
+use Rattle.states.specs.Right.{row-names, RightIn, names-first, Onward, row-onward, is-name-yes, all-names-yes, list-right-yes, right-yes}
+use Rattle.well_formed.specs.Right.{VarsRight, RowRight, below-of, name-of-test, names-of, right-of, links-below}
 
 abbrev pub grown : Arena → List ℕ → List ℕ → Row → Arena
 grown A bs ms r = record { nodes = A .nodes ++ (r ∷ []); references = A .references ++ ms; bytes = A .bytes ++ bs; root = A .root }
-
--- ---- tests
-
-pub pick-true : (a b : Bool) → pick a b false ≡ true → (a ≡ true) × (b ≡ true)
-unfolding pick
-pick-true true b e = (refl, e)
-pick-true false b e = apart (cc)
 
 -- ---- lists
 
@@ -121,7 +114,7 @@ module _ (A : Arena) (bs ms : List ℕ) (r : Row) where
   pub list-added : (s n : ℕ) → length (A .references) ≡ s → length ms ≡ n → all-below (length (A .nodes)) ms ≡ true → list-right G s n ≡ true
   list-added s n p q b =
       list-right-yes G s n (omega (arith, length-append (A .references) ms))
-      (rw (range-added (A .references) ms s n p q) (below-up _ _ ms (on-grown .count) (below-of A (length (A .nodes)) ms b)))
+      (rw (range-added (A .references) ms s n p q) (below-up _ _ ms (on-grown .count) (below-of (length (A .nodes)) ms b)))
 
   pub pairs-added : (s n : ℕ) → length (A .references) ≡ s → length ms ≡ n * 2 → all-below (length (A .nodes)) ms ≡ true → all-names A (firsts ms) ≡ true → pairs-right G s n ≡ true
   unfolding pairs-right

@@ -11,8 +11,8 @@ use Rattle.definition.specs.Arena.{Arena, node, range, fault, find-symbol}
 use Rattle.definition.specs.Build.{Lent, held, bits, byte-slice, known-or-new, create-symbol}
 use Rattle.definition.specs.Graph.{Header, header-of, default-present, vars-count, vars-present, header, vars-links, default-link, links}
 use Rattle.lists.specs.Lists.{apart}
-use Rattle.graph.specs.View.{node-at}
-use Rattle.dump_forest.specs.Right.{fault-fit}
+use Rattle.well_formed.specs.Nodes.{node-at}
+use Rattle.well_formed.specs.Right.{fault-fit}
 use Rattle.builder_laws.specs.Grown.{grown, range-added, node-added}
 use Rattle.builder_laws.specs.Append.{held-appended}
 use Rattle.builder_laws.specs.Checks.{after-check}

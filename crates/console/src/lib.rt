@@ -3,11 +3,21 @@
 // Text is put into a buffer that is written when it is full. A position past the buffer's end says that a write failed:
 // nothing more is put then.
 use definition::Answer;
+use definition::Node;
 use refusal::answer_numbers;
 ghost use Prim.Native.Nat.{_<_};
 
 // The longest input that is taken.
 pub const LONGEST: usize = 16384;
+
+// The entries of the tables that the programs lend; NUMBERED those of the lists of symbols and objects, and of scratch.
+pub const NODES: usize = 1000 * Node::WIDTH;
+
+pub const REFERENCES: usize = 4000;
+
+pub const BYTES: usize = 16384;
+
+pub const NUMBERED: usize = 1000;
 
 // The level limit of load and dump.
 pub const LIMIT: u32 = 64;

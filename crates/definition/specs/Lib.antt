@@ -6,6 +6,7 @@ pub mod Kind
 pub mod Node
 pub mod Arena
 pub mod Load
+pub mod Reader
 pub mod Dump
 pub mod Build
 pub mod Graph

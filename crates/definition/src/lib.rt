@@ -44,6 +44,53 @@ impl ValueKind {
     pub const USER_DEFINED: u8 = b'u';
 }
 
+// A node's words: how many there are, their places, and the kinds' numbers in word 0, where a node begins. A word that a kind
+// does not use is 0.
+pub struct Node {}
+
+impl Node {
+    pub const WIDTH: usize = 7;
+
+    // a bool or an integer; where a byte string starts, and how many bytes it has
+    pub const VALUE: usize = 1;
+
+    pub const START: usize = 1;
+
+    pub const LENGTH: usize = 2;
+
+    // where the list starts, and how many elements or pairs it has
+    pub const LIST: usize = 3;
+
+    pub const COUNT: usize = 4;
+
+    // the name's node
+    pub const NAME: usize = 5;
+
+    // a hash's default, its node + 1 or 0; 1 where a string or a user-defined has a variable list
+    pub const DEFAULT: usize = 6;
+
+    pub const VARIABLES: usize = 6;
+
+    // the kinds
+    pub const NIL: u32 = 0;
+
+    pub const BOOL: u32 = 1;
+
+    pub const FIXNUM: u32 = 2;
+
+    pub const SYMBOL: u32 = 3;
+
+    pub const ARRAY: u32 = 4;
+
+    pub const HASH: u32 = 5;
+
+    pub const OBJECT: u32 = 6;
+
+    pub const STRING: u32 = 7;
+
+    pub const USER_DEFINED: u32 = 8;
+}
+
 // What is not well formed: the counts, or this node.
 pub enum Fault {
     Counts,
@@ -89,6 +136,21 @@ pub struct Loaded {
     pub used: usize,
 }
 
+// A reader's byte, header or integer: its value, for the header 0, and the offset then.
+pub struct Taken {
+    pub answer: Answer,
+    pub value: u32,
+    pub offset: usize,
+}
+
+// A reader's byte string: where its bytes start in the input, how many they are, and the offset then.
+pub struct Text {
+    pub answer: Answer,
+    pub start: usize,
+    pub length: usize,
+    pub offset: usize,
+}
+
 // dump: the number of bytes written.
 pub struct Dumped {
     pub answer: Answer,
@@ -110,7 +172,7 @@ pub struct Number {
 // get: a node's seven words.
 pub struct Words {
     pub answer: Answer,
-    pub words: [u32; 7],
+    pub words: [u32; Node::WIDTH],
 }
 
 // get_symbol: where the name's bytes start, and how many they are.

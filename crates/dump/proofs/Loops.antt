@@ -1,18 +1,18 @@
 -- One turn of the loop over elements, what it keeps, and a value's members.
-use Prim.Native.Nat.{ℕ, zero, suc, _+_, _-_, _*_, _≤_, _<_}
+use Prim.Native.Nat.{ℕ, suc, _+_, _-_, _*_, _≤_, _<_}
 use native.Mathlib.Omega.{arith}
 use mathlib.Core.Path.{_≡_, refl, sym, ap, _∙_, subst}
 use mathlib.Core.List.{List}
 use lib.ListN.{length, getD}
 use borrow.Author.Tests.{eq-eqb, ne-eqb}
 use Rattle.definition.specs.Run.{pure, pick}
-use Rattle.definition.specs.Arena.{Arena, range}
-use Rattle.definition.specs.Dump.{Writer, _>>_, write-elements, write-default, write-value}
-use Rattle.dump_forest.specs.Right.{ListIn}
-use Rattle.dumper.specs.Held.{buffers, Noded, Lent, Listed, Ready, Goes, Meets, listed, default-of, members-of, MembersIn}
-use Rattle.dumper.specs.Laws.{then, still, goes-as, goes-to, went, lead-as, lead-after, lead-first, lead-goes, lead-stop, deep, ready-goes}
-use Rattle.dumper.proofs.Heads.{noded}
-use Rattle.dumper.proofs.Members.{list-rest, member-below, element-next, elements-begin, elements-end, value-deep}
+use Rattle.definition.specs.Node.{width}
+use Rattle.definition.specs.Arena.{Arena, node, range}
+use Rattle.definition.specs.Dump.{Writer, _>>_, write-elements, write-default, write-row, write-level, write-value}
+use Rattle.well_formed.specs.Right.{ListIn}
+use Rattle.dumper.specs.Held.{buffers, Noded, Lent, Listed, Ready, Goes, Leads, Meets, Heads, listed, default-of, members-of, MembersIn}
+use Rattle.dumper.specs.Laws.{then, still, goes-as, goes-to, went, lead-as, lead-after, lead-first, lead-goes, lead-stop, head-goes, deep, ready-goes, ready, ready-head, ready-as}
+use Rattle.dumper.proofs.Members.{list-rest, member-below, element-next, elements-begin, elements-end, value-deep, value-row}
 
 -- ---- elements
 
@@ -41,13 +41,13 @@ module _ {no re sc out out' c c' : List ℕ} (start n levels i r j : ℕ) (some 
       let p : start + i + r ≡ start + j = omega (arith, e) in
       let q : n - i - r ≡ n - j = omega (arith, e) in
       goes-to (λ x. write-elements (write-value room A limit levels) (range (A .references) (p x) (q x)))
-      (subst (λ (x : ℕ). Goes A room (write-elements (write-value room A limit x) (range (A .references) (start + i) (n - i))) (buffers sc out) c (write-elements (write-value room A limit x) (range (A .references) (start + i + r) (n - i - r))) (buffers sc out') c') a (k A room limit (levels - 1) (noded L) l (list-rest start n i h I)))
+      (subst (λ (x : ℕ). Goes A room (write-elements (write-value room A limit x) (range (A .references) (start + i) (n - i))) (buffers sc out) c (write-elements (write-value room A limit x) (range (A .references) (start + i + r) (n - i - r))) (buffers sc out') c') a (k A room limit (levels - 1) (L .noded) l (list-rest start n i h I)))
 
 module _ {no re by sc₀ out₀ c₀ : List ℕ} {start n levels : ℕ} {sc out c : List ℕ} {i : ℕ} (R : Turning no re by sc₀ out₀ c₀ start n levels sc out c i) where
   pub rest-ready : Ready (λ A. Noded A no × Listed A re × ListIn A (start + i) (n - i)) (buffers sc out) c
   rest-ready =
       let H = R .held in
-      record { arena = H .arena; room = H .room; state = H .state; fact = (noded (H .fact .0), H .fact .1, list-rest start n i (R .within) (H .fact .2)); holds = H .holds }
+      record { arena = H .arena; room = H .room; state = H .state; fact = (H .fact .0 .noded, H .fact .1, list-rest start n i (R .within) (H .fact .2)); holds = H .holds }
 
   module _ {sc' out' c' : List ℕ} (j : ℕ) (s : (A : Arena) (room limit : ℕ) → Lent A no by → Listed A re → ListIn A start n → Goes A room (write-elements (write-value room A limit levels) (range (A .references) (start + i) (n - i))) (buffers sc out) c (write-elements (write-value room A limit levels) (range (A .references) (start + j) (n - j))) (buffers sc' out') c') where
     pub turned : j ≤ n → length sc' ≡ length sc → length out' ≡ length out → Turning no re by sc₀ out₀ c₀ start n levels sc' out' c' j
@@ -89,32 +89,68 @@ down-value l t n e = omega arith
 
 -- ---- a value's members
 
--- the list as it was found
-pub list-found : {A : Arena} (t : List ℕ) (v start words : ℕ) → start ≡ getD t (v * 7 + 3) 0 → words ≡ listed (getD t (v * 7) 0) (getD t (v * 7 + 4) 0) → MembersIn A t v → ListIn A start words
-list-found {A} t v start words p q M = subst (λ (x : ℕ). ListIn A x words) (sym p) (subst (λ (x : ℕ). ListIn A (getD t (v * 7 + 3) 0) x) (sym q) (M .0))
-
-module _ (room : ℕ) (A : Arena) (inner : ℕ → Writer) (k s n f start words : ℕ) (p : start ≡ s) (q : words ≡ listed k n) where
-  pub members-found : members-of room A inner k s n f ≡ write-elements inner (range (A .references) start words) >> write-default room A inner (default-of k f)
-  members-found = λ i. write-elements inner (range (A .references) (sym p i) (sym q i)) >> write-default room A inner (default-of k f)
-
 -- a default that isn't there, or is
-pub default-absent : (room : ℕ) (A : Arena) (inner : ℕ → Writer) (k f : ℕ) → (k ≡ 5 → ⊥) → write-default room A inner (default-of k f) ≡ pure tt
-unfolding default-of pick write-default
-default-absent room A inner k f e = rw (ne-eqb k 5 e) refl
+module _ (room : ℕ) (A : Arena) (inner : ℕ → Writer) (k f : ℕ) where
+  default-absent : (k ≡ 5 → ⊥) → write-default room A inner (default-of k f) ≡ pure tt
+  unfolding default-of pick write-default
+  default-absent e = rw (ne-eqb k 5 e) refl
 
-pub default-none : (room : ℕ) (A : Arena) (inner : ℕ → Writer) (k f : ℕ) → k ≡ 5 → f ≡ 0 → write-default room A inner (default-of k f) ≡ pure tt
-unfolding default-of pick write-default
-default-none room A inner k f e z = rw (eq-eqb k 5 e, z) refl
+  default-none : k ≡ 5 → f ≡ 0 → write-default room A inner (default-of k f) ≡ pure tt
+  unfolding default-of pick write-default
+  default-none e z = rw (eq-eqb k 5 e, z) refl
 
-pub default-some : (room : ℕ) (A : Arena) (inner : ℕ → Writer) (k f x : ℕ) → k ≡ 5 → (f ≡ 0 → ⊥) → x ≡ f → write-default room A inner (default-of k f) ≡ inner (x - 1)
-unfolding default-of pick write-default
-default-some room A inner k zero x e n q = absurd (n refl)
-default-some room A inner k (suc f) x e n q =
-    let z : f ≡ x - 1 = omega arith in
-    rw (eq-eqb k 5 e) (ap inner z)
+  default-some : (x : ℕ) → k ≡ 5 → (f ≡ 0 → ⊥) → x ≡ f → write-default room A inner (default-of k f) ≡ inner (x - 1)
+  unfolding default-of pick write-default
+  default-some x e n q =
+      let z : f ≡ suc (x - 1) = omega arith in
+      rw (eq-eqb k 5 e, z) refl
 
-pub default-below : {A : Arena} (t : List ℕ) (v x : ℕ) → getD t (v * 7) 0 ≡ 5 → (getD t (v * 7 + 6) 0 ≡ 0 → ⊥) → x ≡ getD t (v * 7 + 6) 0 → MembersIn A t v → x - 1 < length (A .nodes)
+default-below : {A : Arena} (t : List ℕ) (v x : ℕ) → getD t (v * width) 0 ≡ 5 → (getD t (v * width + 6) 0 ≡ 0 → ⊥) → x ≡ getD t (v * width + 6) 0 → MembersIn A t v → x - 1 < length (A .nodes)
 unfolding default-of pick
 default-below {A} t v x e n q M =
-    let z : getD t (v * 7 + 6) 0 ≤ length (A .nodes) = subst (λ (y : ℕ). y ≤ length (A .nodes)) (rw (eq-eqb (getD t (v * 7) 0) 5 e) refl) (M .1) in
+    let z : getD t (v * width + 6) 0 ≤ length (A .nodes) = subst (λ (y : ℕ). y ≤ length (A .nodes)) (rw (eq-eqb (getD t (v * width) 0) 5 e) refl) (M .1) in
     omega arith
+
+-- node v was begun; its list is the n references from `start` on
+module _ {no re by sc out c sc₁ out₁ c₁ : List ℕ} {w : ℕ} (v levels start n : ℕ) (some : levels ≡ 0 → ⊥) (done : w ≡ 0) (at : start ≡ getD no (v * width + 3) 0) (count : n ≡ listed (getD no (v * width) 0) (getD no (v * width + 4) 0)) (begun : (A : Arena) (room limit : ℕ) → Lent A no by → Listed A re → v < length (A .nodes) → Heads A room limit (write-row room A (write-level limit (levels - 1)) (write-value room A limit (levels - 1)) v (node A v)) (members-of room A (write-value room A limit (levels - 1)) (getD no (v * width) 0) (getD no (v * width + 3) 0) (getD no (v * width + 4) 0) (getD no (v * width + 6) 0)) (buffers sc out) c w (buffers sc₁ out₁) c₁) (inside : (A : Arena) → Lent A no by → v < length (A .nodes) → w ≡ 0 → MembersIn A no v) where
+  list-in : {A : Arena} → Lent A no by → v < length (A .nodes) → ListIn A start n
+  list-in {A} L b = subst (λ (x : ℕ). ListIn A x n) (sym at) (subst (λ (x : ℕ). ListIn A (getD no (v * width + 3) 0) x) (sym count) (inside A L b done .0))
+
+  pub list-ready : Ready (λ A. Lent A no by × Listed A re × (v < length (A .nodes))) (buffers sc out) c → Ready (λ A. Lent A no by × Listed A re × ListIn A start n) (buffers sc₁ out₁) c₁
+  list-ready R = ready-as (λ A f. (f .0, f .1, list-in (f .0) (f .2))) (ready-head _ _ R done (λ A room f. begun A room 0 (f .0) (f .1) (f .2)))
+
+  -- its list was written
+  module _ {sc₂ out₂ c₂ : List ℕ} {x : ℕ} (elements : (A : Arena) (room limit : ℕ) → Lent A no by → Listed A re → ListIn A start n → Meets A room limit (write-elements (write-value room A limit (levels - 1)) (range (A .references) start n)) (buffers sc₁ out₁) c₁ x (buffers sc₂ out₂) c₂) where
+    leads-default : (A : Arena) (room limit : ℕ) → Lent A no by → Listed A re → v < length (A .nodes) → Leads A room limit (write-value room A limit levels v) (write-default room A (write-value room A limit (levels - 1)) (default-of (getD no (v * width) 0) (getD no (v * width + 6) 0))) (buffers sc out) c x (buffers sc₂ out₂) c₂
+    leads-default A room limit L l b =
+        let inner = write-value room A limit (levels - 1) in
+        let last = write-default room A inner (default-of (getD no (v * width) 0) (getD no (v * width + 6) 0)) in
+        lead-as (value-row room A limit levels v some)
+        (lead-after
+        (goes-to (λ i. write-elements inner (range (A .references) (sym at i) (sym count i)) >> last) (head-goes done (begun A room limit L l b)))
+        (lead-first last (elements A room limit L l (list-in L b))))
+
+    pub list-stops : (x ≡ 0 → ⊥) → (A : Arena) (room limit : ℕ) → Lent A no by → Listed A re → v < length (A .nodes) → Meets A room limit (write-value room A limit levels v) (buffers sc out) c x (buffers sc₂ out₂) c₂
+    list-stops e A room limit L l b = lead-stop e (leads-default A room limit L l b)
+
+    module _ (whole : x ≡ 0) where
+      pub no-default : (getD no (v * width) 0 ≡ 5 → ⊥) → (A : Arena) (room limit : ℕ) → Lent A no by → Listed A re → v < length (A .nodes) → Meets A room limit (write-value room A limit levels v) (buffers sc out) c 0 (buffers sc₂ out₂) c₂
+      no-default k A room limit L l b = went (goes-to (default-absent room A _ _ _ k) (lead-goes whole (leads-default A room limit L l b)))
+
+      module _ (hash : getD no (v * width) 0 ≡ 5) where
+        pub zero-default : getD no (v * width + 6) 0 ≡ 0 → (A : Arena) (room limit : ℕ) → Lent A no by → Listed A re → v < length (A .nodes) → Meets A room limit (write-value room A limit levels v) (buffers sc out) c 0 (buffers sc₂ out₂) c₂
+        zero-default d A room limit L l b = went (goes-to (default-none room A _ _ _ hash d) (lead-goes whole (leads-default A room limit L l b)))
+
+        -- and its default is node d - 1
+        module _ (d : ℕ) (some-default : getD no (v * width + 6) 0 ≡ 0 → ⊥) (is : d ≡ getD no (v * width + 6) 0) where
+          default-in : {A : Arena} → Lent A no by → v < length (A .nodes) → d - 1 < length (A .nodes)
+          default-in {A} L b = default-below no v d hash some-default is (inside A L b done)
+
+          pub default-ready : Ready (λ A. Lent A no by × Listed A re × (v < length (A .nodes))) (buffers sc out) c → Ready (λ A. Lent A no by × Listed A re × (d - 1 < length (A .nodes))) (buffers sc₂ out₂) c₂
+          default-ready R = ready-as (λ A f. (f .0, f .1, default-in (f .0) (f .2))) (ready _ _ R whole (λ A room f. leads-default A room 0 (f .0) (f .1) (f .2)))
+
+          pub with-default : {sc₃ out₃ c₃ : List ℕ} {y : ℕ} → ((A : Arena) (room limit : ℕ) → Lent A no by → Listed A re → d - 1 < length (A .nodes) → Meets A room limit (write-value room A limit (levels - 1) (d - 1)) (buffers sc₂ out₂) c₂ y (buffers sc₃ out₃) c₃) → (A : Arena) (room limit : ℕ) → Lent A no by → Listed A re → v < length (A .nodes) → Meets A room limit (write-value room A limit levels v) (buffers sc out) c y (buffers sc₃ out₃) c₃
+          with-default m A room limit L l b =
+              lead-after
+              (goes-to (default-some room A _ _ _ d hash some-default is) (lead-goes whole (leads-default A room limit L l b)))
+              (m A room limit L l (default-in L b))

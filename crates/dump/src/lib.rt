@@ -5,6 +5,7 @@ use arena_check::size;
 use definition::Answer;
 use definition::Counts;
 use definition::Dumped;
+use definition::Node;
 use definition::Refusal;
 use dumper::DEEP;
 use dumper::DONE;
@@ -23,7 +24,7 @@ ghost use Prim.Native.Nat.{ℕ, _-_, _<_};
 ghost use lib.ListN.{length};
 ghost use Rattle.definition.specs.Arena.{Arena, range};
 ghost use Rattle.definition.specs.Dump.{write-elements, write-value, dump-call, dump-call-of};
-ghost use Rattle.dump_forest.specs.Right.{ListIn};
+ghost use Rattle.well_formed.specs.Right.{ListIn};
 ghost use Rattle.dumper.specs.Held.{buffers, Lent, Listed, Ready, Meets, stopped};
 ghost use Rattle.dump.specs.Whole.{whole};
 
@@ -113,7 +114,7 @@ fn write_value(
     if w != DONE {
         return w;
     }
-    let k = nodes[v * 7];
+    let k = nodes[v * Node::WIDTH];
     let x = write_elements(
         &nodes[..],
         &references[..],
@@ -121,17 +122,17 @@ fn write_value(
         scratch,
         output,
         c,
-        size(nodes[v * 7 + 3]),
-        list_words(k, nodes[v * 7 + 4]),
+        size(nodes[v * Node::WIDTH + Node::LIST]),
+        list_words(k, nodes[v * Node::WIDTH + Node::COUNT]),
         levels - 1,
     );
     if x != DONE {
         return x;
     }
-    if k != 5 {
+    if k != Node::HASH {
         return DONE;
     }
-    let d = nodes[v * 7 + 6];
+    let d = nodes[v * Node::WIDTH + Node::DEFAULT];
     if d == 0 {
         return DONE;
     }
@@ -192,7 +193,7 @@ fn refusal(w: u32, limit: u32) -> Refusal
     Refusal::TooDeep(limit)
 }
 
-// Dumps the arena into output; numbers by node stand in scratch meanwhile.
+// Dumps the arena into output, whose rest is zeroed last; numbers by node stand in scratch meanwhile.
 pub fn dump(
     nodes: &[u32],
     references: &[u32],
@@ -225,8 +226,7 @@ pub fn dump(
             written: 0,
         },
         Checked::Right => {
-            zero_words(scratch);
-            zero_bytes(output);
+            zero_words(scratch, 0);
             let mut c = [0usize; 3];
             let w = write_root(
                 &nodes[..],
@@ -238,14 +238,16 @@ pub fn dump(
                 root,
                 limit,
             );
-            zero_words(scratch);
+            zero_words(scratch, 0);
             if w == DONE {
+                let n = c[WRITTEN];
+                zero_bytes(output, n);
                 return Dumped {
                     answer: Answer::Accepted,
-                    written: c[WRITTEN],
+                    written: n,
                 };
             }
-            zero_bytes(output);
+            zero_bytes(output, 0);
             Dumped {
                 answer: Answer::Refused(refusal(w, limit)),
                 written: 0,

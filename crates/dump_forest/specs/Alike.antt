@@ -11,7 +11,7 @@ use Rattle.definition.specs.Graph.{SameGraph}
 use Rattle.definition.specs.Dump.{Written, dump}
 use Rattle.graph.specs.Forest.{F, Text, values}
 use Rattle.graph.specs.Describe.{Says}
-use Rattle.dump_forest.specs.Right.{Right, Fixnums}
+use Rattle.well_formed.specs.Right.{Right, Fixnums}
 use Rattle.dump_forest.specs.Writers.{num, written, ok-inj}
 use Rattle.dump_forest.specs.Sound.{dump-sound}
 use Rattle.dump_forest.specs.Complete.{dump-complete, text-up}

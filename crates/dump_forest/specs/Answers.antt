@@ -22,8 +22,9 @@ use Rattle.lists.specs.Lists.{At, PW, pw-snoc}
 use Rattle.graph.specs.Forest.{Node, leaf, sym, box}
 use Rattle.graph.specs.Describe.{Like, Key}
 use Rattle.graph.specs.Describe as Describe
-use Rattle.graph.specs.View.{see, seen, see-at, at-see, at-node, Name}
-use Rattle.dump_forest.specs.Right.{Right, RowRight, Names}
+use Rattle.graph.specs.View.{see, seen, see-at, at-see}
+use Rattle.well_formed.specs.Nodes.{at-node, Name}
+use Rattle.well_formed.specs.Right.{Right, RowRight, Names}
 use Rattle.dump_forest.specs.Shown.{Shown, nil-shown, false-shown, true-shown, fixnum-shown, symbol-shown, array-shown, hash-shown, default-shown, object-shown, string-shown, string-vars-shown, user-shown, user-vars-shown, shown-at, name-shown}
 use Rattle.dump_forest.specs.Same.{graph-of, same-pairing}
 

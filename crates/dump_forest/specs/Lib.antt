@@ -1,5 +1,4 @@
 -- Dump and the forests that describe an arena; same graph.
-pub mod Right
 pub mod Writers
 pub mod Sound
 pub mod Shown

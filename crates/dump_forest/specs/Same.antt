@@ -14,8 +14,9 @@ use Rattle.lists.specs.Lists.{At, PW}
 use Rattle.graph.specs.Forest.{Node, leaf, sym, box, F}
 use Rattle.graph.specs.Describe
 use Rattle.graph.specs.Describe.{Key, Like, Says, carried}
-use Rattle.graph.specs.View.{see, seen, at-node, see-at, at-see}
-use Rattle.dump_forest.specs.Right.{Right, node-links-below}
+use Rattle.graph.specs.View.{see, seen, see-at, at-see}
+use Rattle.well_formed.specs.Nodes.{at-node}
+use Rattle.well_formed.specs.Right.{Right, node-links-below}
 
 -- ---- an equivalence
 

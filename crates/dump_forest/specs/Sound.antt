@@ -18,8 +18,9 @@ use Rattle.lists.specs.Lists.{At, NotIn, apart, Below, below-join}
 use Rattle.lists.specs.Ranges.{length-range}
 use Rattle.graph.specs.Forest.{Node, leaf, sym, box, Num, fresh, F, fEnd, fLeaf, fBox, fRef, trees, Mode, values, pairs, value-pairs, after, IsValue, Text, tEnd, tEndPairs, tNil, tFalse, tTrue, tFixnum, tObjectLink, tArray, tHash, tHashDefault, tObject, tString, tStringVars, tUser, tUserVars}
 use Rattle.graph.specs.Describe.{E, eEnd, eLeaf, eBox, eRef, eSym, eSymref, e-len}
-use Rattle.graph.specs.View.{see, seen, node-at, at-node, see-at, Name}
-use Rattle.dump_forest.specs.Right.{Right, RowRight, Names, ListIn, PairsIn, Fixnums, default-below}
+use Rattle.graph.specs.View.{see, seen, see-at}
+use Rattle.well_formed.specs.Nodes.{node-at, at-node, Name}
+use Rattle.well_formed.specs.Right.{Right, RowRight, Names, ListIn, PairsIn, Fixnums, default-below}
 use Rattle.dump_forest.specs.Writers.{num, put, ok-inj, un-then, pure-inv, Wrote, wrote-nothing, wrote-then, write-inv, un-write, number-some, number-none, Item, new, again, item-bytes, item, item-name, item-one, item-class, item-value, join-default}
 
 module _ (size : ℕ) (t : List Node) where

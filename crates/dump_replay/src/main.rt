@@ -5,6 +5,7 @@
 // written, and how many bytes are given; then the node words and references. Bytes follow, padded to a word: those of the
 // byte table, then those written.
 use definition::Dumped;
+use definition::Node;
 use dump::dump;
 use replay::bytes_agree;
 use replay::fill_bytes;
@@ -168,7 +169,7 @@ fn replay_all(
 
 fn main() {
     let mut data = io::large_buffer();
-    let mut nodes = [0u32; 7000];
+    let mut nodes = [0u32; 1000 * Node::WIDTH];
     let mut references = [0u32; 4000];
     let mut scratch = [0u32; 4000];
     let mut output = [0u8; 16384];

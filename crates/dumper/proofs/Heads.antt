@@ -10,22 +10,19 @@ use borrow.Author.Tests.{eq-eqb, ne-eqb}
 use Rattle.definition.specs.Run.{pure, pick}
 use Rattle.definition.specs.Integer.{integer-bytes}
 use Rattle.definition.specs.Kind.{NIL, TRUE, FALSE, FIXNUM, ARRAY, HASH, HASH-DEFAULT, OBJECT, STRING, USER-DEFINED}
-use Rattle.definition.specs.Node.{Row, nil, bool, fixnum, symbol, array, hash, object, string, user, kind, vars}
+use Rattle.definition.specs.Node.{width, Row, nil, bool, fixnum, symbol, array, hash, object, string, user, kind, vars}
 use Rattle.definition.specs.Arena.{Arena, node, range, name-of}
 use Rattle.definition.specs.Dump.{Writer, _>>_, write, write-elements, write-default, write-name, write-symbol, write-instance-variables, write-variables, write-object-or-link, write-row, hash-byte}
 use Rattle.lists.specs.Lists.{at-lt}
-use Rattle.graph.specs.View.{at-node, node-at, Name}
-use Rattle.dump_forest.specs.Right.{BytesIn, PairsIn, VarsRight, RowRight}
+use Rattle.lists.specs.Rows.{kind-of, kind-low, row-1, row-2, row-3, row-4, row-5, row-6, row-7, row-8, row-nil}
+use Rattle.well_formed.specs.Nodes.{at-node, node-at, Name}
+use Rattle.well_formed.specs.Right.{BytesIn, PairsIn, VarsRight, RowRight}
 use Rattle.dumper.specs.Held.{Noded, Lent, IsObject, IsSymbol, begun, opened, listed, default-of, members-of, MembersIn}
 use Rattle.dumper.specs.Laws.{assoc, unit-right, write-join}
-use Rattle.dumper.proofs.Rows.{kind-of, kind-low, row-1, row-2, row-3, row-4, row-5, row-6, row-7, row-8, row-nil}
 use Rattle.dumper.proofs.Names.{string-bytes}
 use Rattle.dumper.proofs.Openings.{begun-join}
 
 -- ---- what a row says
-
-pub noded : {A : Arena} {no by : List ℕ} → Lent A no by → Noded A no
-noded L = record { nodes-small = L .nodes-small; nodes-fit = L .nodes-fit; row-at = L .row-at }
 
 pub is-symbol : {A : Arena} (c : ℕ) → Name A c → IsSymbol A c
 unfolding kind
@@ -36,49 +33,49 @@ pub right-row : {A : Arena} {no by : List ℕ} → Lent A no by → (v : ℕ) �
 right-row {A} L v below r e = subst (RowRight A) e (L .right .rows-right v (node A v) (at-node A v below))
 
 module _ {A : Arena} {no : List ℕ} (N : Noded A no) (v : ℕ) (below : v < length (A .nodes)) where
-  pub is-object : (k : ℕ) → getD no (v * 7) 0 ≡ k → 3 < k → k ≤ 8 → IsObject A v
+  pub is-object : (k : ℕ) → getD no (v * width) 0 ≡ k → 3 < k → k ≤ 8 → IsObject A v
   is-object k e h l =
-      let q : kind (node A v) ≡ getD no (v * 7) 0 = ap kind (N .row-at v below) ∙ kind-of _ _ _ _ _ _ _ (omega arith) in
+      let q : kind (node A v) ≡ getD no (v * width) 0 = ap kind (N .row-at v below) ∙ kind-of _ _ _ _ _ _ _ (omega arith) in
       record { below = below; kind-above = omega arith }
 
   abbrev w : ℕ → ℕ
-  w i = getD no (v * 7 + i) 0
+  w i = getD no (v * width + i) 0
 
-  pub fixnum-row : getD no (v * 7) 0 ≡ 2 → node A v ≡ fixnum (w 1)
+  pub fixnum-row : getD no (v * width) 0 ≡ 2 → node A v ≡ fixnum (w 1)
   fixnum-row e = N .row-at v below ∙ row-2 _ _ _ _ _ _ _ e
 
-  pub bool-row : getD no (v * 7) 0 ≡ 1 → node A v ≡ bool (eqb (w 1) 1)
+  pub bool-row : getD no (v * width) 0 ≡ 1 → node A v ≡ bool (eqb (w 1) 1)
   bool-row e = N .row-at v below ∙ row-1 _ _ _ _ _ _ _ e
 
-  pub symbol-here : getD no (v * 7) 0 ≡ 3 → IsSymbol A v
+  pub symbol-here : getD no (v * width) 0 ≡ 3 → IsSymbol A v
   unfolding kind
   symbol-here e = record { below = below; kind-three = ap kind (N .row-at v below ∙ row-3 _ _ _ _ _ _ _ e) }
 
-  pub symbol-row-here : getD no (v * 7) 0 ≡ 3 → node A v ≡ symbol (w 1) (w 2)
+  pub symbol-row-here : getD no (v * width) 0 ≡ 3 → node A v ≡ symbol (w 1) (w 2)
   symbol-row-here e = N .row-at v below ∙ row-3 _ _ _ _ _ _ _ e
 
-  pub nil-row : (getD no (v * 7) 0 ≡ 1 → ⊥) → (getD no (v * 7) 0 ≡ 2 → ⊥) → (getD no (v * 7) 0 ≡ 3 → ⊥) → kind (node A v) ≤ 3 → node A v ≡ nil
+  pub nil-row : (getD no (v * width) 0 ≡ 1 → ⊥) → (getD no (v * width) 0 ≡ 2 → ⊥) → (getD no (v * width) 0 ≡ 3 → ⊥) → kind (node A v) ≤ 3 → node A v ≡ nil
   nil-row a b c h =
       let e = N .row-at v below in
       let q = ap kind e in
       e ∙ row-nil _ _ _ _ _ _ _ a b c (omega arith)
 
-  pub low-kind : (getD no (v * 7) 0 ≡ 4 → ⊥) → (getD no (v * 7) 0 ≡ 5 → ⊥) → (getD no (v * 7) 0 ≡ 6 → ⊥) → (getD no (v * 7) 0 ≡ 7 → ⊥) → (getD no (v * 7) 0 ≡ 8 → ⊥) → kind (node A v) ≤ 3
-  low-kind a b c d f = omega (arith, ap kind (N .row-at v below), kind-low (getD no (v * 7) 0) (w 1) (w 2) (w 3) (w 4) (w 5) (w 6) a b c d f)
+  pub low-kind : (getD no (v * width) 0 ≡ 4 → ⊥) → (getD no (v * width) 0 ≡ 5 → ⊥) → (getD no (v * width) 0 ≡ 6 → ⊥) → (getD no (v * width) 0 ≡ 7 → ⊥) → (getD no (v * width) 0 ≡ 8 → ⊥) → kind (node A v) ≤ 3
+  low-kind a b c d f = omega (arith, ap kind (N .row-at v below), kind-low (getD no (v * width) 0) (w 1) (w 2) (w 3) (w 4) (w 5) (w 6) a b c d f)
 
-  pub array-row : getD no (v * 7) 0 ≡ 4 → node A v ≡ array (w 3) (w 4)
+  pub array-row : getD no (v * width) 0 ≡ 4 → node A v ≡ array (w 3) (w 4)
   array-row e = N .row-at v below ∙ row-4 _ _ _ _ _ _ _ e
 
-  pub hash-row : getD no (v * 7) 0 ≡ 5 → node A v ≡ hash (w 3) (w 4) (w 6)
+  pub hash-row : getD no (v * width) 0 ≡ 5 → node A v ≡ hash (w 3) (w 4) (w 6)
   hash-row e = N .row-at v below ∙ row-5 _ _ _ _ _ _ _ e
 
-  pub object-row : getD no (v * 7) 0 ≡ 6 → node A v ≡ object (w 3) (w 4) (w 5)
+  pub object-row : getD no (v * width) 0 ≡ 6 → node A v ≡ object (w 3) (w 4) (w 5)
   object-row e = N .row-at v below ∙ row-6 _ _ _ _ _ _ _ e
 
-  pub string-row : getD no (v * 7) 0 ≡ 7 → node A v ≡ string (w 1) (w 2) (vars (w 6) (w 3) (w 4))
+  pub string-row : getD no (v * width) 0 ≡ 7 → node A v ≡ string (w 1) (w 2) (vars (w 6) (w 3) (w 4))
   string-row e = N .row-at v below ∙ row-7 _ _ _ _ _ _ _ e
 
-  pub user-row : getD no (v * 7) 0 ≡ 8 → node A v ≡ user (w 1) (w 2) (w 5) (vars (w 6) (w 3) (w 4))
+  pub user-row : getD no (v * width) 0 ≡ 8 → node A v ≡ user (w 1) (w 2) (w 5) (vars (w 6) (w 3) (w 4))
   user-row e = N .row-at v below ∙ row-8 _ _ _ _ _ _ _ e
 
 -- ---- scalars
@@ -210,15 +207,15 @@ bytes-inside s n L h = omega (arith, L .bytes-fit)
 
 -- ---- lists and defaults inside
 
-pub in-pairs : {A : Arena} (t : List ℕ) (v : ℕ) → (getD t (v * 7) 0 ≡ 4 → ⊥) → (getD t (v * 7) 0 ≡ 5 → ⊥) → PairsIn A (getD t (v * 7 + 3) 0) (getD t (v * 7 + 4) 0) → MembersIn A t v
+pub in-pairs : {A : Arena} (t : List ℕ) (v : ℕ) → (getD t (v * width) 0 ≡ 4 → ⊥) → (getD t (v * width) 0 ≡ 5 → ⊥) → PairsIn A (getD t (v * width + 3) 0) (getD t (v * width + 4) 0) → MembersIn A t v
 unfolding listed default-of pick
-in-pairs t v a b P = rw (ne-eqb (getD t (v * 7) 0) 4 a, ne-eqb (getD t (v * 7) 0) 5 b) (P .list, omega arith)
+in-pairs t v a b P = rw (ne-eqb (getD t (v * width) 0) 4 a, ne-eqb (getD t (v * width) 0) 5 b) (P .list, omega arith)
 
 module _ {A : Arena} {no by : List ℕ} (L : Lent A no by) (v : ℕ) (below : v < length (A .nodes)) where
-  pub in-array : getD no (v * 7) 0 ≡ 4 → MembersIn A no v
+  pub in-array : getD no (v * width) 0 ≡ 4 → MembersIn A no v
   unfolding listed default-of pick
-  in-array e = let right = right-row L v below _ (array-row (noded L) v below e) in rw e (right, omega arith)
+  in-array e = let right = right-row L v below _ (array-row (L .noded) v below e) in rw e (right, omega arith)
 
-  pub in-hash : getD no (v * 7) 0 ≡ 5 → MembersIn A no v
+  pub in-hash : getD no (v * width) 0 ≡ 5 → MembersIn A no v
   unfolding listed default-of pick
-  in-hash e = let right = right-row L v below _ (hash-row (noded L) v below e) in rw e right
+  in-hash e = let right = right-row L v below _ (hash-row (L .noded) v below e) in rw e right

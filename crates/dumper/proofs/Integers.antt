@@ -13,13 +13,9 @@ use lib.Seq.{sets}
 use borrow.Author.Tests.{lt-ltb, le-ltb, le-leb, lt-leb, eq-eqb, ne-eqb, leb-true, leb-false, ltb-true, ltb-false}
 use Rattle.definition.specs.Run.{pick}
 use Rattle.definition.specs.Integer.{integer-bytes, low-bytes, fewest}
+use Rattle.lists.specs.Words.{length-low}
 
 -- ---- storing the low bytes
-
-pub length-low : (n w : ℕ) → length (low-bytes n w) ≡ n
-unfolding low-bytes
-length-low zero w = refl
-length-low (suc n) w = ap suc (length-low n (w / 256))
 
 pub low-start : (out : List ℕ) (at n v : ℕ) → sets out at (low-bytes n v) ≡ sets out (at + 0) (low-bytes (n - 0) v)
 low-start out at n v = rw (add-zero, sub-zero) refl

@@ -12,17 +12,14 @@ use Rattle.definition.specs.Arena.{Arena, node, range, firsts}
 use Rattle.definition.specs.Dump.{Writer, _>>_, write, write-elements, write-pairs, write-name, write-value, write-instance-variables, write-row, write-level}
 use Rattle.definition.specs.declared.Refusal.the-variants.{TooDeep}
 use Rattle.lists.specs.Lists.{At, at-lt, at-getD, getD-at}
-use Rattle.lists.specs.Ranges.{length-range, range-get, range-next, range-none}
-use Rattle.graph.specs.View.{node-at}
-use Rattle.dump_forest.specs.Right.{ListIn, PairsIn}
+use Rattle.lists.specs.Ranges.{length-range, range-get, range-has, range-next, range-none}
+use Rattle.well_formed.specs.Nodes.{node-at}
+use Rattle.well_formed.specs.Right.{ListIn, PairsIn}
 use Rattle.dumper.specs.Held.{Listed, IsSymbol}
 use Rattle.dumper.specs.Laws.{assoc, unit-right}
 use Rattle.dumper.proofs.Heads.{is-symbol, symbol-same}
 
 -- ---- entries of a range
-
-range-has : (l : List ℕ) (s n i : ℕ) → s + n ≤ length l → i < n → At (range l s n) i (getD l (s + i) 0)
-range-has l s n i h k = subst (λ (x : ℕ). At (range l s n) i x) (range-get l s n i k) (at-getD (range l s n) i 0 (omega (arith, length-range l s n h)))
 
 first-of : (l : List ℕ) → 0 < length l → At (firsts l) 0 (getD l 0 0)
 unfolding firsts

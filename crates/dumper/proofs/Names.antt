@@ -3,30 +3,21 @@ use Prim.Native.Nat.{ℕ, _+_, _-_, _*_, _≤_, _<_}
 use native.Mathlib.Omega.{arith}
 use mathlib.Core.Path.{_≡_, refl, sym, ap, _∙_, subst}
 use mathlib.Core.List.{List, _∷_, _++_}
-use lib.ListN.{length, getD, set, take, drop, length-take, length-drop}
-use lib.Seq.{sets, length-take-le, ext-getD, getD-take, getD-drop}
+use lib.ListN.{length, getD, set, take, drop, length-drop}
+use lib.Seq.{sets, length-take-le}
 use Rattle.definition.specs.Run.{look}
 use Rattle.definition.specs.Integer.{integer-bytes}
 use Rattle.definition.specs.Kind.{SYMBOL, SYMBOL-LINK}
-use Rattle.definition.specs.Node.{Row, symbol, kind, row-of}
+use Rattle.definition.specs.Node.{width, Row, symbol, kind, row-of}
 use Rattle.definition.specs.Arena.{Arena, node, range, name-of}
 use Rattle.definition.specs.Dump.{_>>_, write, number-symbol, link-or, byte-string-bytes, write-symbol, write-name}
-use Rattle.lists.specs.Ranges.{length-range}
-use Rattle.graph.specs.View.{at-node}
-use Rattle.dump_forest.specs.Right.{BytesIn, RowRight}
+use Rattle.lists.specs.Ranges.{length-range, range-front}
+use Rattle.lists.specs.Rows.{kind-is, row-3}
+use Rattle.well_formed.specs.Nodes.{at-node}
+use Rattle.well_formed.specs.Right.{BytesIn, RowRight}
 use Rattle.dumper.specs.Held.{Buffers, buffers, Lent, IsSymbol, Goes, Meets}
 use Rattle.dumper.specs.Laws.{then, went}
-use Rattle.dumper.proofs.Rows.{kind-is, row-3}
 use Rattle.dumper.proofs.Steps.{chunk, no-chunk, symbol-numbered, word-none, word-some}
-
--- a range inside the front of a table
-pub range-front : (l t : List ℕ) (s n : ℕ) → l ≡ take (length l) t → s + n ≤ length l → length l ≤ length t → range l s n ≡ take n (drop s t)
-unfolding range
-range-front l t s n e h g =
-    ext-getD 0 (take n (drop s l)) (take n (drop s t)) (simp (length-take, length-drop) (omega arith))
-    (λ i k.
-    let lt : i < n = omega (arith, length-take-le n (drop s l) (simp length-drop (omega arith))) in
-    getD-take n (drop s l) i 0 lt ∙ getD-drop s l i 0 ∙ ap (λ (x : List ℕ). getD x (s + i) 0) e ∙ getD-take (length l) t (s + i) 0 (omega arith) ∙ sym (getD-take n (drop s t) i 0 lt ∙ getD-drop s t i 0))
 
 -- a byte string of the arena
 pub string-bytes : {A : Arena} {no by : List ℕ} (s n : ℕ) → Lent A no by → BytesIn A s n → byte-string-bytes (range (A .bytes) s n) ≡ integer-bytes n ++ take n (drop s by)
@@ -59,21 +50,21 @@ is-three k a b s n c f e = kind-is k a b s n c f 3 e (omega arith)
 
 module _ {A : Arena} {no by : List ℕ} {v : ℕ} (L : Lent A no by) (S : IsSymbol A v) where
   abbrev start : ℕ
-  start = getD no (v * 7 + 1) 0
+  start = getD no (v * width + 1) 0
 
   abbrev count : ℕ
-  count = getD no (v * 7 + 2) 0
+  count = getD no (v * width + 2) 0
 
-  pub symbol-row : node A v ≡ symbol (getD no (v * 7 + 1) 0) (getD no (v * 7 + 2) 0)
+  pub symbol-row : node A v ≡ symbol (getD no (v * width + 1) 0) (getD no (v * width + 2) 0)
   symbol-row =
-      let e = L .row-at v (S .below) in
-      let k : getD no (v * 7) 0 ≡ 3 = is-three _ _ _ _ _ _ _ (ap kind (sym e) ∙ S .kind-three) in
+      let e = L .noded .row-at v (S .below) in
+      let k : getD no (v * width) 0 ≡ 3 = is-three _ _ _ _ _ _ _ (ap kind (sym e) ∙ S .kind-three) in
       e ∙ row-3 _ _ _ _ _ _ _ k
 
-  pub symbol-inside : BytesIn A (getD no (v * 7 + 1) 0) (getD no (v * 7 + 2) 0)
+  pub symbol-inside : BytesIn A (getD no (v * width + 1) 0) (getD no (v * width + 2) 0)
   symbol-inside = subst (RowRight A) symbol-row (L .right .rows-right v (node A v) (at-node A v (S .below)))
 
-  pub symbol-fits : getD no (v * 7 + 1) 0 + getD no (v * 7 + 2) 0 ≤ length by
+  pub symbol-fits : getD no (v * width + 1) 0 + getD no (v * width + 2) 0 ≤ length by
   symbol-fits = omega (arith, symbol-inside, L .bytes-fit)
 
   name-bytes : byte-string-bytes (name-of (A .bytes) (node A v)) ≡ integer-bytes count ++ take count (drop start by)

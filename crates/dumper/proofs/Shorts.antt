@@ -2,13 +2,13 @@
 use Prim.Native.Nat.{ℕ, zero, suc, _+_, _-_, _≤_, _<_}
 use native.Mathlib.Omega.{arith}
 use mathlib.Core.Path.{_≡_, refl, sym, ap, _∙_, subst}
-use mathlib.Core.List.{List, [], _∷_}
+use mathlib.Core.List.{List, _∷_}
 use lib.ListN.{length, getD, set}
-use lib.Seq.{sets, getD-set-same}
+use lib.Seq.{sets, set-set, set-getD, getD-set-same}
 use Rattle.definition.specs.Run.{pure}
 use Rattle.definition.specs.Arena.{Arena, range}
 use Rattle.definition.specs.Dump.{Writer, write, write-elements, write-value}
-use Rattle.dump_forest.specs.Right.{ListIn}
+use Rattle.well_formed.specs.Right.{ListIn}
 use Rattle.dumper.specs.Held.{buffers, Noded, Listed, Goes, Shorts}
 use Rattle.dumper.specs.Laws.{then, still, goes-as, goes-first}
 use Rattle.dumper.proofs.Steps.{tagged-goes}
@@ -30,16 +30,6 @@ short-some : {A : Arena} {room : ℕ} {m : Writer} {sc out out' c : List ℕ} {p
 short-some {p = zero} e k = absurd (e refl)
 short-some {p = suc p} e k = k .shorts
 
--- ---- the first count
-
-set-self : (l : List ℕ) → l ≡ set l 0 (getD l 0 0)
-set-self [] = refl
-set-self (x ∷ l) = refl
-
-set-set : (l : List ℕ) (x y : ℕ) → set (set l 0 x) 0 y ≡ set l 0 y
-set-set [] x y = refl
-set-set (z ∷ l) x y = refl
-
 -- ---- what the loop keeps: the counts are as they were, and their first is to be `at`
 
 pub record Running (no re sc out₀ c₀ : List ℕ) (start n : ℕ) (out c : List ℕ) (at i : ℕ) : Type 0 where
@@ -53,7 +43,7 @@ running-start {sc = sc} {out} {c} {start} {n} = record {
   within = omega arith;
   output-length = refl;
   same-counts = refl;
-  goes = λ A room limit levels N L I. goes-as (elements-begin (write-value room A limit (suc levels)) (A .references) start n) (subst (λ (k : List ℕ). Goes A room (write-elements (write-value room A limit (suc levels)) (range (A .references) (start + 0) (n - 0))) (buffers sc out) c (write-elements (write-value room A limit (suc levels)) (range (A .references) (start + 0) (n - 0))) (buffers sc out) k) (set-self c) still);
+  goes = λ A room limit levels N L I. goes-as (elements-begin (write-value room A limit (suc levels)) (A .references) start n) (subst (λ (k : List ℕ). Goes A room (write-elements (write-value room A limit (suc levels)) (range (A .references) (start + 0) (n - 0))) (buffers sc out) c (write-elements (write-value room A limit (suc levels)) (range (A .references) (start + 0) (n - 0))) (buffers sc out) k) (sym (set-getD c 0 0)) still);
 }
 
 module _ {no re sc out₀ c₀ : List ℕ} {start n : ℕ} {out c : List ℕ} {at i : ℕ} (R : Running no re sc out₀ c₀ start n out c at i) where
@@ -64,7 +54,7 @@ module _ {no re sc out₀ c₀ : List ℕ} {start n : ℕ} {out c : List ℕ} {a
     same-counts = R .same-counts;
     goes = λ A room limit levels N L I.
         let s = short-some k (f A room limit levels (set c₀ 0 at) N (member-below start n i v L I h e) (getD-set-same c₀ 0 at 0 (omega (arith, three)))) in
-        let t = subst (λ (x : List ℕ). Goes A room (write-value room A limit (suc levels) v) (buffers sc out) (set c₀ 0 at) (pure tt) (buffers sc out') x) (set-set c₀ at p) s in
+        let t = subst (λ (x : List ℕ). Goes A room (write-value room A limit (suc levels) v) (buffers sc out) (set c₀ 0 at) (pure tt) (buffers sc out') x) (set-set c₀ 0 at p) s in
         then (R .goes A room limit levels N L I) (goes-as (element-next start n i v L I h e (write-value room A limit (suc levels))) (goes-first _ t));
   }
 

@@ -1,15 +1,14 @@
 -- What is held after bytes are written and after a number is given.
 use Prim.Native.Nat.{ℕ, zero, suc, _+_, _-_, _≤_, _<_}
 use native.Mathlib.Omega.{arith}
-use native.Mathlib.Nat.{zero-sub, sub-zero}
 use native.Mathlib.Numerals.{add-one}
 use mathlib.Core.Bool.{Bool, true, false}
 use mathlib.Core.Option.{Option, none, some}
 use mathlib.Core.Path.{_≡_, refl, sym, ap, _∙_, subst}
 use mathlib.Core.List.{List, [], _∷_, _++_}
 use lib.Dec.{eqb}
-use lib.ListN.{length, getD, set, take, drop, replicate, length-append, length-set}
-use lib.Seq.{sets, sets-eq, length-sets, take-append-seam, drop-append-add, getD-set-same, getD-set-other}
+use lib.ListN.{length, getD, set, take, length-append, length-set}
+use lib.Seq.{sets, length-sets, getD-set-same, getD-set-other}
 use borrow.Author.Tests.{le-leb, lt-leb, eqb-true, eqb-false, eq-eqb, ne-eqb}
 use Rattle.definition.specs.Run.{pure, next, _>>=_, look, pick}
 use Rattle.definition.specs.Integer.{integer-bytes}
@@ -17,6 +16,7 @@ use Rattle.definition.specs.Kind.{OBJECT-LINK}
 use Rattle.definition.specs.Node.{kind}
 use Rattle.definition.specs.Arena.{Arena, node}
 use Rattle.definition.specs.Dump.{Written, Writer, _>>_, write, number-in, number-symbol, number-object, link-or, write-object-or-link}
+use Rattle.lists.specs.Lists.{stored-behind}
 use Rattle.dumper.specs.Held.{Buffers, buffers, word, marked, marks, Holds, IsObject, Goes, stopped, Meets}
 
 -- ---- numbers
@@ -75,23 +75,6 @@ marks-lt (x ∷ l) (suc i) h e = omega (arith, marked-le x, marks-lt l i (omega 
 
 -- ---- bytes
 
-drop-zeros : (m k : ℕ) → drop {A = ℕ} m (replicate k 0) ≡ replicate (k - m) 0
-drop-zeros zero k = rw sub-zero
-drop-zeros (suc m) zero = rw zero-sub
-drop-zeros (suc m) (suc k) =
-    let e : suc k - suc m ≡ k - m = omega arith in
-    rw e (drop-zeros m k)
-
--- bytes stored behind those that stand
-pushed : (room : ℕ) (l vs t : List ℕ) → t ≡ l ++ replicate (room - length l) 0 → length t ≡ room → length l + length vs ≤ room → sets t (length l) vs ≡ (l ++ vs) ++ replicate (room - length (l ++ vs)) 0
-pushed room l vs t e z h =
-    let left : room - length l - length vs ≡ room - length (l ++ vs) = omega (arith, length-append l vs) in
-    sets-eq vs t (length l) (omega arith)
-    ∙ ap (λ (x : List ℕ). take (length l) x ++ vs ++ drop (length l + length vs) x) e
-    ∙ ap (λ (x : List ℕ). x ++ vs ++ drop (length l + length vs) (l ++ replicate (room - length l) 0)) (take-append-seam l _)
-    ∙ ap (λ (x : List ℕ). l ++ vs ++ x) (drop-append-add l _ (length vs) ∙ drop-zeros (length vs) (room - length l))
-    ∙ ap (λ (k : ℕ). (l ++ vs) ++ replicate k 0) left
-
 module _ {A : Arena} {room : ℕ} {sc out : List ℕ} {c : List ℕ} where
   -- bytes where there is room
   pub chunk : (bs : List ℕ) (n : ℕ) → length bs ≡ n → getD c 0 0 + n ≤ length out → Goes A room (write room bs) (buffers sc out) c (pure tt) (buffers sc (sets out (getD c 0 0) bs)) (set c 0 (getD c 0 0 + n))
@@ -108,7 +91,7 @@ module _ {A : Arena} {room : ℕ} {sc out : List ℕ} {c : List ℕ} where
             counts = length-set c 0 _ ∙ H .counts;
             sized = length-sets out (getD c 0 0) bs ∙ H .sized;
             fits = omega (arith, len, H .fits);
-            same = ap (λ (k : ℕ). sets out k bs) at ∙ pushed room (s .bytes) bs out (H .same) (H .sized) (omega (arith, H .fits));
+            same = ap (λ (k : ℕ). take (length (s .bytes ++ bs)) (sets out k bs)) at ∙ stored-behind (s .bytes) bs out (H .same) (omega arith);
             count-written = getD-set-same c 0 _ 0 (omega (arith, H .counts)) ∙ omega (arith, len);
             count-symbols = getD-set-other c 0 1 _ 0 (omega arith) ∙ H .count-symbols;
             count-objects = getD-set-other c 0 2 _ 0 (omega arith) ∙ H .count-objects;

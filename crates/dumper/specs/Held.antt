@@ -1,18 +1,19 @@
 -- What output, scratch and counts hold of the definition's state, and what a writer in code has to meet.
-use Prim.Native.Nat.{ℕ, zero, suc, _+_, _-_, _*_, _/_, _≤_, _<_}
+use Prim.Native.Nat.{ℕ, zero, suc, _+_, _*_, _/_, _≤_, _<_}
+use mathlib.Core.Bool.{_||_}
 use mathlib.Core.Path.{_≡_}
 use mathlib.Core.Option.{Option, none, some}
-use mathlib.Core.List.{List, [], _∷_, _++_}
-use lib.Dec.{eqb}
-use lib.ListN.{length, replicate, getD, set, take}
+use mathlib.Core.List.{List, [], _∷_}
+use lib.Dec.{ltb, eqb}
+use lib.ListN.{length, getD, set, take}
 use Rattle.definition.specs.Run.{Outcome, refused, pure, pick}
 use Rattle.definition.specs.Kind.{INSTANCE-VARIABLES}
-use Rattle.definition.specs.Node.{kind, row-of}
-use Rattle.definition.specs.Arena.{Arena, node, range}
+use Rattle.definition.specs.Node.{width, kind, row-of}
+use Rattle.definition.specs.Arena.{Arena, node, range, too-long, bad-nodes, lowest}
 use Rattle.definition.specs.Dump.{Written, Writer, _>>_, write, number-in, write-elements, write-default, write-object-or-link}
 use Rattle.definition.specs.declared.Refusal.{Refusal}
 use Rattle.definition.specs.declared.Refusal.the-variants.{TooDeep, NoSpace}
-use Rattle.dump_forest.specs.Right.{Right, ListIn}
+use Rattle.well_formed.specs.Right.{Right, ListIn}
 
 -- the two slices that the writers change
 pub record Buffers : Type 0 where
@@ -39,16 +40,14 @@ marks (x ∷ l) = marked x + marks l
 -- A's rows are those of the table
 pub record Noded (A : Arena) (no : List ℕ) : Type 0 where
   pub nodes-small : length no ≤ 2147483647
-  pub nodes-fit : length (A .nodes) * 7 ≤ length no
-  pub row-at : (i : ℕ) → i < length (A .nodes) → node A i ≡ row-of (getD no (i * 7) 0) (getD no (i * 7 + 1) 0) (getD no (i * 7 + 2) 0) (getD no (i * 7 + 3) 0) (getD no (i * 7 + 4) 0) (getD no (i * 7 + 5) 0) (getD no (i * 7 + 6) 0)
+  pub nodes-fit : length (A .nodes) * width ≤ length no
+  pub row-at : (i : ℕ) → i < length (A .nodes) → node A i ≡ row-of (getD no (i * width) 0) (getD no (i * width + 1) 0) (getD no (i * width + 2) 0) (getD no (i * width + 3) 0) (getD no (i * width + 4) 0) (getD no (i * width + 5) 0) (getD no (i * width + 6) 0)
 
 -- A is well formed, and its rows and bytes are those of the tables
 pub record Lent (A : Arena) (no by : List ℕ) : Type 0 where
-  pub nodes-small : length no ≤ 2147483647
-  pub nodes-fit : length (A .nodes) * 7 ≤ length no
+  pub noded : Noded A no
   pub bytes-fit : length (A .bytes) ≤ length by
   pub bytes-same : A .bytes ≡ take (length (A .bytes)) by
-  pub row-at : (i : ℕ) → i < length (A .nodes) → node A i ≡ row-of (getD no (i * 7) 0) (getD no (i * 7 + 1) 0) (getD no (i * 7 + 2) 0) (getD no (i * 7 + 3) 0) (getD no (i * 7 + 4) 0) (getD no (i * 7 + 5) 0) (getD no (i * 7 + 6) 0)
   pub right : Right A
 
 -- A's references are those of the table
@@ -57,13 +56,13 @@ pub record Listed (A : Arena) (re : List ℕ) : Type 0 where
   pub references-fit : length (A .references) ≤ length re
   pub references-same : A .references ≡ take (length (A .references)) re
 
--- the bytes written and then zeros in output; the three counts; in scratch each node's number + 1, or 0
+-- output begins with the bytes written; the three counts; in scratch each node's number + 1, or 0
 pub record Holds (A : Arena) (room : ℕ) (s : Written) (B : Buffers) (c : List ℕ) : Type 0 where
   pub small : room ≤ 2147483647
   pub counts : length c ≡ 3
   pub sized : length (B .output) ≡ room
   pub fits : length (s .bytes) ≤ room
-  pub same : B .output ≡ s .bytes ++ replicate (room - length (s .bytes)) 0
+  pub same : take (length (s .bytes)) (B .output) ≡ s .bytes
   pub count-written : getD c 0 0 ≡ length (s .bytes)
   pub count-symbols : getD c 1 0 ≡ length (s .symbols)
   pub count-objects : getD c 2 0 ≡ length (s .objects)
@@ -124,7 +123,7 @@ pub record Leads (A : Arena) (room limit : ℕ) (m m' : Writer) (B : Buffers) (c
 abbrev pub Meets : Arena → ℕ → ℕ → Writer → Buffers → List ℕ → ℕ → Buffers → List ℕ → Type 0
 Meets A room limit m B c r B' c' = Leads A room limit m (pure tt) B c r B' c'
 
--- the same, where the answer 1 says that m is done: a link was written
+-- the same, where the answer 1 says that m is done: a link, a scalar, or a string or user-defined value without variables
 abbrev pub HeadCase : Arena → ℕ → ℕ → Writer → Writer → Buffers → List ℕ → ℕ → Buffers → List ℕ → Type 0
 HeadCase A room limit m m' B c zero B' c' = Goes A room m B c m' B' c'
 HeadCase A room limit m m' B c (suc zero) B' c' = Goes A room m B c (pure tt) B' c'
@@ -158,7 +157,7 @@ members-of room A inner k start n f = write-elements inner (range (A .references
 
 -- its list is inside the references, its default below the node count
 abbrev pub MembersIn : Arena → List ℕ → ℕ → Type 0
-MembersIn A t v = ListIn A (getD t (v * 7 + 3) 0) (listed (getD t (v * 7) 0) (getD t (v * 7 + 4) 0)) × (default-of (getD t (v * 7) 0) (getD t (v * 7 + 6) 0) ≤ length (A .nodes))
+MembersIn A t v = ListIn A (getD t (v * width + 3) 0) (listed (getD t (v * width) 0) (getD t (v * width + 4) 0)) × (default-of (getD t (v * width) 0) (getD t (v * width + 6) 0) ≤ length (A .nodes))
 
 -- the value after `I` where the mark f says that there is one, and then the rest
 unfoldable pub begun : ℕ → Writer → ℕ → Writer → Writer → Writer
@@ -169,6 +168,10 @@ begun room level (suc f) body rest = write room (INSTANCE-VARIABLES ∷ []) >> l
 abbrev pub opened : ℕ → ℕ → List ℕ → Writer → Writer
 opened room v bs rest = write-object-or-link room v (write room bs >> rest)
 
+-- the lowest wrong slice's number by the lengths lent, or 0
+abbrev pub wrong : ℕ → ℕ → ℕ → ℕ → ℕ → ℕ → ℕ
+wrong nodes references bytes output limit scratch = lowest ((1, bad-nodes nodes) ∷ (2, too-long references) ∷ (3, too-long bytes) ∷ (6, too-long output) ∷ (7, ltb 128 limit) ∷ (10, too-long scratch || ltb scratch (nodes / width)) ∷ [])
+
 -- lengths that a dump takes
 pub record Allowed (nodes references bytes output scratch : ℕ) : Type 0 where
   pub nodes-small : nodes ≤ 2147483647
@@ -176,4 +179,4 @@ pub record Allowed (nodes references bytes output scratch : ℕ) : Type 0 where
   pub bytes-small : bytes ≤ 2147483647
   pub output-small : output ≤ 2147483647
   pub scratch-small : scratch ≤ 2147483647
-  pub scratch-fits : nodes / 7 ≤ scratch
+  pub scratch-fits : nodes / width ≤ scratch

@@ -1,5 +1,6 @@
 // What dump's writers do before a value's members: bytes, integers, numbers and links.
 use arena_check::size;
+use definition::Node;
 use definition::ValueKind;
 use store::copy_bytes;
 ghost use mathlib.Core.Path.{_≡_};
@@ -8,11 +9,11 @@ ghost use Prim.Native.Nat.{ℕ, suc, _+_, _-_, _*_, _/_, _<_, _≤_};
 ghost use lib.ListN.{length, getD, take, drop};
 ghost use lib.Seq.{sets};
 ghost use Rattle.definition.specs.Integer.{integer-bytes, low-bytes, fewest};
-ghost use Rattle.definition.specs.Node.{kind};
-ghost use Rattle.definition.specs.Arena.{Arena, Tables, node, range};
-ghost use Rattle.definition.specs.Dump.{Writer, write, write-level, write-name, write-object-or-link, write-elements, write-instance-variables, write-row, write-value, dump-wrong};
-ghost use Rattle.dump_forest.specs.Right.{ListIn, PairsIn};
-ghost use Rattle.dumper.specs.Held.{buffers, Noded, Lent, Listed, Ready, IsObject, IsSymbol, Meets, Leads, Heads, Opens, Shorts, Goes, begun, opened, members-of, MembersIn, listed, Allowed};
+ghost use Rattle.definition.specs.Node.{width, kind};
+ghost use Rattle.definition.specs.Arena.{Arena, node, range};
+ghost use Rattle.definition.specs.Dump.{Writer, write, write-level, write-name, write-object-or-link, write-elements, write-instance-variables, write-row, write-value};
+ghost use Rattle.well_formed.specs.Right.{ListIn, PairsIn};
+ghost use Rattle.dumper.specs.Held.{buffers, Noded, Lent, Listed, Ready, IsObject, IsSymbol, Meets, Leads, Heads, Opens, Shorts, Goes, begun, opened, members-of, MembersIn, listed, wrong, Allowed};
 
 // The places of the three counts: bytes written, symbols and objects numbered.
 pub const WRITTEN: usize = 0;
@@ -205,7 +206,13 @@ fn write_symbol(
     if w != DONE {
         return w;
     }
-    write_byte_string(&bytes[..], output, c, nodes[v * 7 + 1], nodes[v * 7 + 2])
+    write_byte_string(
+        &bytes[..],
+        output,
+        c,
+        nodes[v * Node::WIDTH + Node::START],
+        nodes[v * Node::WIDTH + Node::LENGTH],
+    )
 }
 
 // nil, a bool, an integer or a symbol.
@@ -220,11 +227,16 @@ fn write_scalar(
     requires { ⌜ Ready (λ A. Lent A (now nodes) (now bytes) × (v < length (A .nodes))) (buffers (now scratch) (now output)) (now c) ⌝ }
     ensures { λ r. ⌜ ((A : Arena) (room limit : ℕ) (level : Writer) (inner : ℕ → Writer) → Lent A (now (nodes .entry)) (now (bytes .entry)) → v < length (A .nodes) → kind (node A v) ≤ 3 → Meets A room limit (write-row room A level inner v (node A v)) (buffers (now (scratch .entry)) (now (output .entry))) (now (c .entry)) r (buffers (now (scratch .exit)) (now (output .exit))) (now (c .exit))) ⌝ }
 {
-    match nodes[v * 7] {
-        2 => write_tagged(output, c, ValueKind::FIXNUM, nodes[v * 7 + 1]),
-        3 => write_symbol(&nodes[..], &bytes[..], scratch, output, c, v),
-        1 => {
-            let k = if nodes[v * 7 + 1] == 1 {
+    match nodes[v * Node::WIDTH] {
+        Node::FIXNUM => write_tagged(
+            output,
+            c,
+            ValueKind::FIXNUM,
+            nodes[v * Node::WIDTH + Node::VALUE],
+        ),
+        Node::SYMBOL => write_symbol(&nodes[..], &bytes[..], scratch, output, c, v),
+        Node::BOOL => {
+            let k = if nodes[v * Node::WIDTH + Node::VALUE] == 1 {
                 ValueKind::TRUE
             } else {
                 ValueKind::FALSE
@@ -237,7 +249,7 @@ fn write_scalar(
 
 // Node v from byte `at` on, where it is an integer or a symbol with a number and six bytes are free: the place after it, else 0.
 fn write_short(nodes: &[u32], scratch: &[u32], output: &mut [u8], at: usize, v: usize) -> usize
-    requires { ⌜ (v * 7 + 7 ≤ length (now nodes)) × (v < length (now scratch)) ⌝ }
+    requires { ⌜ (v * width + width ≤ length (now nodes)) × (v < length (now scratch)) ⌝ }
     ensures { λ r. ⌜ ((A : Arena) (room limit levels : ℕ) (counts : List ℕ) → Noded A (now (nodes .entry)) → v < length (A .nodes) → getD counts 0 0 ≡ at → Shorts A room (write-value room A limit (suc levels) v) (now (scratch .entry)) (now (output .entry)) counts r (now (output .exit))) ⌝ }
 {
     if output.len() < 6 {
@@ -246,11 +258,16 @@ fn write_short(nodes: &[u32], scratch: &[u32], output: &mut [u8], at: usize, v: 
     if output.len() - 6 < at {
         return 0;
     }
-    let k = nodes[v * 7];
-    if k == 2 {
-        return store_tagged(output, at, ValueKind::FIXNUM, nodes[v * 7 + 1]);
+    let k = nodes[v * Node::WIDTH];
+    if k == Node::FIXNUM {
+        return store_tagged(
+            output,
+            at,
+            ValueKind::FIXNUM,
+            nodes[v * Node::WIDTH + Node::VALUE],
+        );
     }
-    if k != 3 {
+    if k != Node::SYMBOL {
         return 0;
     }
     let seen = scratch[v];
@@ -412,8 +429,8 @@ fn open_named(
     v: usize,
     levels: u32,
 ) -> u32
-    requires { ⌜ (getD (now nodes) (v * 7) 0 ≡ 6) × Ready (λ A. Lent A (now nodes) (now bytes) × Listed A (now references) × (v < length (A .nodes))) (buffers (now scratch) (now output)) (now c) ⌝ }
-    ensures { λ r. ⌜ ((A : Arena) (room limit : ℕ) → Lent A (now (nodes .entry)) (now (bytes .entry)) → Listed A (now (references .entry)) → v < length (A .nodes) → Heads A room limit (write-row room A (write-level limit levels) (write-value room A limit levels) v (node A v)) (members-of room A (write-value room A limit levels) 6 (getD (now (nodes .entry)) (v * 7 + 3) 0) (getD (now (nodes .entry)) (v * 7 + 4) 0) (getD (now (nodes .entry)) (v * 7 + 6) 0)) (buffers (now (scratch .entry)) (now (output .entry))) (now (c .entry)) r (buffers (now (scratch .exit)) (now (output .exit))) (now (c .exit))) ⌝ }
+    requires { ⌜ (getD (now nodes) (v * width) 0 ≡ 6) × Ready (λ A. Lent A (now nodes) (now bytes) × Listed A (now references) × (v < length (A .nodes))) (buffers (now scratch) (now output)) (now c) ⌝ }
+    ensures { λ r. ⌜ ((A : Arena) (room limit : ℕ) → Lent A (now (nodes .entry)) (now (bytes .entry)) → Listed A (now (references .entry)) → v < length (A .nodes) → Heads A room limit (write-row room A (write-level limit levels) (write-value room A limit levels) v (node A v)) (members-of room A (write-value room A limit levels) 6 (getD (now (nodes .entry)) (v * width + 3) 0) (getD (now (nodes .entry)) (v * width + 4) 0) (getD (now (nodes .entry)) (v * width + 6) 0)) (buffers (now (scratch .entry)) (now (output .entry))) (now (c .entry)) r (buffers (now (scratch .exit)) (now (output .exit))) (now (c .exit))) ⌝ }
     ensures { λ r. ⌜ ((A : Arena) → Lent A (now (nodes .entry)) (now (bytes .entry)) → v < length (A .nodes) → r ≡ 0 → MembersIn A (now (nodes .entry)) v) ⌝ }
 {
     let w = open_object(scratch, output, c, v, ValueKind::OBJECT);
@@ -426,7 +443,7 @@ fn open_named(
         scratch,
         output,
         c,
-        size(nodes[v * 7 + 5]),
+        size(nodes[v * Node::WIDTH + Node::NAME]),
     );
     if s != DONE {
         return s;
@@ -438,8 +455,8 @@ fn open_named(
         scratch,
         output,
         c,
-        nodes[v * 7 + 3],
-        nodes[v * 7 + 4],
+        nodes[v * Node::WIDTH + Node::LIST],
+        nodes[v * Node::WIDTH + Node::COUNT],
         levels,
     )
 }
@@ -455,16 +472,22 @@ fn open_string(
     v: usize,
     levels: u32,
 ) -> u32
-    requires { ⌜ (getD (now nodes) (v * 7) 0 ≡ 7) × Ready (λ A. Lent A (now nodes) (now bytes) × Listed A (now references) × (v < length (A .nodes))) (buffers (now scratch) (now output)) (now c) ⌝ }
-    ensures { λ r. ⌜ ((A : Arena) (room limit : ℕ) → Lent A (now (nodes .entry)) (now (bytes .entry)) → Listed A (now (references .entry)) → v < length (A .nodes) → Heads A room limit (write-row room A (write-level limit levels) (write-value room A limit levels) v (node A v)) (members-of room A (write-value room A limit levels) 7 (getD (now (nodes .entry)) (v * 7 + 3) 0) (getD (now (nodes .entry)) (v * 7 + 4) 0) (getD (now (nodes .entry)) (v * 7 + 6) 0)) (buffers (now (scratch .entry)) (now (output .entry))) (now (c .entry)) r (buffers (now (scratch .exit)) (now (output .exit))) (now (c .exit))) ⌝ }
+    requires { ⌜ (getD (now nodes) (v * width) 0 ≡ 7) × Ready (λ A. Lent A (now nodes) (now bytes) × Listed A (now references) × (v < length (A .nodes))) (buffers (now scratch) (now output)) (now c) ⌝ }
+    ensures { λ r. ⌜ ((A : Arena) (room limit : ℕ) → Lent A (now (nodes .entry)) (now (bytes .entry)) → Listed A (now (references .entry)) → v < length (A .nodes) → Heads A room limit (write-row room A (write-level limit levels) (write-value room A limit levels) v (node A v)) (members-of room A (write-value room A limit levels) 7 (getD (now (nodes .entry)) (v * width + 3) 0) (getD (now (nodes .entry)) (v * width + 4) 0) (getD (now (nodes .entry)) (v * width + 6) 0)) (buffers (now (scratch .entry)) (now (output .entry))) (now (c .entry)) r (buffers (now (scratch .exit)) (now (output .exit))) (now (c .exit))) ⌝ }
     ensures { λ r. ⌜ ((A : Arena) → Lent A (now (nodes .entry)) (now (bytes .entry)) → v < length (A .nodes) → r ≡ 0 → MembersIn A (now (nodes .entry)) v) ⌝ }
 {
-    let f = nodes[v * 7 + 6];
+    let f = nodes[v * Node::WIDTH + Node::VARIABLES];
     let w = open_marked(scratch, output, c, v, ValueKind::STRING, f, levels);
     if w != DONE {
         return w;
     }
-    let s = write_byte_string(&bytes[..], output, c, nodes[v * 7 + 1], nodes[v * 7 + 2]);
+    let s = write_byte_string(
+        &bytes[..],
+        output,
+        c,
+        nodes[v * Node::WIDTH + Node::START],
+        nodes[v * Node::WIDTH + Node::LENGTH],
+    );
     if s != DONE {
         return s;
     }
@@ -478,8 +501,8 @@ fn open_string(
         scratch,
         output,
         c,
-        nodes[v * 7 + 3],
-        nodes[v * 7 + 4],
+        nodes[v * Node::WIDTH + Node::LIST],
+        nodes[v * Node::WIDTH + Node::COUNT],
         levels,
     )
 }
@@ -495,11 +518,11 @@ fn open_user_defined(
     v: usize,
     levels: u32,
 ) -> u32
-    requires { ⌜ (getD (now nodes) (v * 7) 0 ≡ 8) × Ready (λ A. Lent A (now nodes) (now bytes) × Listed A (now references) × (v < length (A .nodes))) (buffers (now scratch) (now output)) (now c) ⌝ }
-    ensures { λ r. ⌜ ((A : Arena) (room limit : ℕ) → Lent A (now (nodes .entry)) (now (bytes .entry)) → Listed A (now (references .entry)) → v < length (A .nodes) → Heads A room limit (write-row room A (write-level limit levels) (write-value room A limit levels) v (node A v)) (members-of room A (write-value room A limit levels) 8 (getD (now (nodes .entry)) (v * 7 + 3) 0) (getD (now (nodes .entry)) (v * 7 + 4) 0) (getD (now (nodes .entry)) (v * 7 + 6) 0)) (buffers (now (scratch .entry)) (now (output .entry))) (now (c .entry)) r (buffers (now (scratch .exit)) (now (output .exit))) (now (c .exit))) ⌝ }
+    requires { ⌜ (getD (now nodes) (v * width) 0 ≡ 8) × Ready (λ A. Lent A (now nodes) (now bytes) × Listed A (now references) × (v < length (A .nodes))) (buffers (now scratch) (now output)) (now c) ⌝ }
+    ensures { λ r. ⌜ ((A : Arena) (room limit : ℕ) → Lent A (now (nodes .entry)) (now (bytes .entry)) → Listed A (now (references .entry)) → v < length (A .nodes) → Heads A room limit (write-row room A (write-level limit levels) (write-value room A limit levels) v (node A v)) (members-of room A (write-value room A limit levels) 8 (getD (now (nodes .entry)) (v * width + 3) 0) (getD (now (nodes .entry)) (v * width + 4) 0) (getD (now (nodes .entry)) (v * width + 6) 0)) (buffers (now (scratch .entry)) (now (output .entry))) (now (c .entry)) r (buffers (now (scratch .exit)) (now (output .exit))) (now (c .exit))) ⌝ }
     ensures { λ r. ⌜ ((A : Arena) → Lent A (now (nodes .entry)) (now (bytes .entry)) → v < length (A .nodes) → r ≡ 0 → MembersIn A (now (nodes .entry)) v) ⌝ }
 {
-    let f = nodes[v * 7 + 6];
+    let f = nodes[v * Node::WIDTH + Node::VARIABLES];
     let w = open_marked(scratch, output, c, v, ValueKind::USER_DEFINED, f, levels);
     if w != DONE {
         return w;
@@ -510,12 +533,18 @@ fn open_user_defined(
         scratch,
         output,
         c,
-        size(nodes[v * 7 + 5]),
+        size(nodes[v * Node::WIDTH + Node::NAME]),
     );
     if x != DONE {
         return x;
     }
-    let s = write_byte_string(&bytes[..], output, c, nodes[v * 7 + 1], nodes[v * 7 + 2]);
+    let s = write_byte_string(
+        &bytes[..],
+        output,
+        c,
+        nodes[v * Node::WIDTH + Node::START],
+        nodes[v * Node::WIDTH + Node::LENGTH],
+    );
     if s != DONE {
         return s;
     }
@@ -529,8 +558,8 @@ fn open_user_defined(
         scratch,
         output,
         c,
-        nodes[v * 7 + 3],
-        nodes[v * 7 + 4],
+        nodes[v * Node::WIDTH + Node::LIST],
+        nodes[v * Node::WIDTH + Node::COUNT],
         levels,
     )
 }
@@ -547,20 +576,34 @@ pub fn open_value(
     levels: u32,
 ) -> u32
     requires { ⌜ Ready (λ A. Lent A (now nodes) (now bytes) × Listed A (now references) × (v < length (A .nodes))) (buffers (now scratch) (now output)) (now c) ⌝ }
-    ensures { λ r. ⌜ ((A : Arena) (room limit : ℕ) → Lent A (now (nodes .entry)) (now (bytes .entry)) → Listed A (now (references .entry)) → v < length (A .nodes) → Heads A room limit (write-row room A (write-level limit levels) (write-value room A limit levels) v (node A v)) (members-of room A (write-value room A limit levels) (getD (now (nodes .entry)) (v * 7) 0) (getD (now (nodes .entry)) (v * 7 + 3) 0) (getD (now (nodes .entry)) (v * 7 + 4) 0) (getD (now (nodes .entry)) (v * 7 + 6) 0)) (buffers (now (scratch .entry)) (now (output .entry))) (now (c .entry)) r (buffers (now (scratch .exit)) (now (output .exit))) (now (c .exit))) ⌝ }
+    ensures { λ r. ⌜ ((A : Arena) (room limit : ℕ) → Lent A (now (nodes .entry)) (now (bytes .entry)) → Listed A (now (references .entry)) → v < length (A .nodes) → Heads A room limit (write-row room A (write-level limit levels) (write-value room A limit levels) v (node A v)) (members-of room A (write-value room A limit levels) (getD (now (nodes .entry)) (v * width) 0) (getD (now (nodes .entry)) (v * width + 3) 0) (getD (now (nodes .entry)) (v * width + 4) 0) (getD (now (nodes .entry)) (v * width + 6) 0)) (buffers (now (scratch .entry)) (now (output .entry))) (now (c .entry)) r (buffers (now (scratch .exit)) (now (output .exit))) (now (c .exit))) ⌝ }
     ensures { λ r. ⌜ ((A : Arena) → Lent A (now (nodes .entry)) (now (bytes .entry)) → v < length (A .nodes) → r ≡ 0 → MembersIn A (now (nodes .entry)) v) ⌝ }
 {
-    match nodes[v * 7] {
-        4 => open_list(scratch, output, c, v, ValueKind::ARRAY, nodes[v * 7 + 4]),
-        5 => {
-            let k = if nodes[v * 7 + 6] == 0 {
+    match nodes[v * Node::WIDTH] {
+        Node::ARRAY => open_list(
+            scratch,
+            output,
+            c,
+            v,
+            ValueKind::ARRAY,
+            nodes[v * Node::WIDTH + Node::COUNT],
+        ),
+        Node::HASH => {
+            let k = if nodes[v * Node::WIDTH + Node::DEFAULT] == 0 {
                 ValueKind::HASH
             } else {
                 ValueKind::HASH_DEFAULT
             };
-            open_list(scratch, output, c, v, k, nodes[v * 7 + 4])
+            open_list(
+                scratch,
+                output,
+                c,
+                v,
+                k,
+                nodes[v * Node::WIDTH + Node::COUNT],
+            )
         }
-        6 => open_named(
+        Node::OBJECT => open_named(
             &nodes[..],
             &references[..],
             &bytes[..],
@@ -570,7 +613,7 @@ pub fn open_value(
             v,
             levels,
         ),
-        7 => open_string(
+        Node::STRING => open_string(
             &nodes[..],
             &references[..],
             &bytes[..],
@@ -580,7 +623,7 @@ pub fn open_value(
             v,
             levels,
         ),
-        8 => open_user_defined(
+        Node::USER_DEFINED => open_user_defined(
             &nodes[..],
             &references[..],
             &bytes[..],
@@ -604,7 +647,11 @@ pub fn open_value(
 pub fn list_words(k: u32, n: u32) -> usize
     ensures { λ r. ⌜ r ≡ listed k n ⌝ }
 {
-    if k == 4 { size(n) } else { size(n) * 2 }
+    if k == Node::ARRAY {
+        size(n)
+    } else {
+        size(n) * 2
+    }
 }
 
 // BAD-TABLES: the lowest wrong slice's number, or 0.
@@ -616,7 +663,7 @@ pub fn wrong_slice(
     limit: u32,
     scratch: usize,
 ) -> u32
-    ensures { λ r. ⌜ ((T : Tables) (sc out : List ℕ) → length (T .nodes) ≡ nodes → length (T .references) ≡ references → length (T .bytes) ≡ bytes → length out ≡ output → length sc ≡ scratch → r ≡ dump-wrong T sc out limit) ⌝ }
+    ensures { λ r. ⌜ r ≡ wrong nodes references bytes output limit scratch ⌝ }
     ensures { λ r. ⌜ (r ≡ 0 → Allowed nodes references bytes output scratch) ⌝ }
 {
     if 2147483647 < nodes {
@@ -625,7 +672,7 @@ pub fn wrong_slice(
     if nodes == 0 {
         return 1;
     }
-    if nodes % 7 != 0 {
+    if nodes % Node::WIDTH != 0 {
         return 1;
     }
     if 2147483647 < references {
@@ -643,7 +690,7 @@ pub fn wrong_slice(
     if 2147483647 < scratch {
         return 10;
     }
-    if scratch < nodes / 7 {
+    if scratch < nodes / Node::WIDTH {
         return 10;
     }
     0

@@ -8,7 +8,8 @@ use Rattle.definition.specs.Node.{Row, nil, bool, fixnum, symbol, array, hash, 
 use Rattle.definition.specs.Arena.{Arena, node, range}
 use Rattle.definition.specs.Graph.{header, links}
 use Rattle.definition.specs.Load.{State}
-use Rattle.lists.specs.Lists.{At, at-lt, getD-at, at-getD, map-at, map-at-inv}
+use Rattle.lists.specs.Lists.{At, at-lt, map-at, map-at-inv}
+use Rattle.well_formed.specs.Nodes.{node-at}
 use Rattle.graph.specs.Forest.{Node, leaf, sym, box}
 use Rattle.graph.specs.Build.{St}
 
@@ -35,15 +36,7 @@ arena-of s h = record { nodes = s .nodes; references = s .references; bytes = s 
 unfoldable pub state-seen : State → St
 state-seen s = record { nodes = seen (arena-of s 0); objs = s .objects; syms = s .symbols }
 
--- ---- the node at a place
-
-pub node-at : (A : Arena) (i : ℕ) (r : Row) → At (A .nodes) i r → node A i ≡ r
-unfolding node
-node-at A i r e = getD-at (A .nodes) i nil r e
-
-pub at-node : (A : Arena) (i : ℕ) → i < length (A .nodes) → At (A .nodes) i (node A i)
-unfolding node
-at-node A i h = at-getD (A .nodes) i nil h
+-- ---- what is seen at a place
 
 pub see-at : (A : Arena) (i : ℕ) (r : Row) → At (A .nodes) i r → At (seen A) i (see A r)
 unfolding seen
@@ -55,7 +48,3 @@ unfolding seen
 at-see A i n e =
     let (r, a, q) = map-at-inv (see A) (A .nodes) i n e in
     (rw (node-at A i r a) q, at-lt (A .nodes) i r a)
-
--- node c is a symbol
-abbrev pub Name : Arena → ℕ → Type 0
-Name A c = (s : ℕ) × (l : ℕ) × At (A .nodes) c (symbol s l)

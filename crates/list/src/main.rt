@@ -1,6 +1,10 @@
 // list: prints the arena that load makes of standard input, or its refusal.
+use console::BYTES;
 use console::Input;
 use console::LONGEST;
+use console::NODES;
+use console::NUMBERED;
+use console::REFERENCES;
 use console::flush;
 use console::read_input;
 use listing::put_listing;
@@ -55,11 +59,11 @@ fn run(
 fn main() {
     let mut input = [0u8; LONGEST + 1];
     let mut out = io::buffer();
-    let mut nodes = [0u32; 7000];
-    let mut references = [0u32; 4000];
-    let mut bytes = [0u8; 16384];
-    let mut symbols = [0u32; 1000];
-    let mut objects = [0u32; 1000];
+    let mut nodes = [0u32; NODES];
+    let mut references = [0u32; REFERENCES];
+    let mut bytes = [0u8; BYTES];
+    let mut symbols = [0u32; NUMBERED];
+    let mut objects = [0u32; NUMBERED];
     run(
         &mut input,
         &mut out,

@@ -1,8 +1,12 @@
 // Prints the listing of each of several inputs, as the program list prints one.
 //
 // Standard input: for each input its length, four bytes, low byte first, and its bytes.
+use console::BYTES;
 use console::Input;
 use console::LONGEST;
+use console::NODES;
+use console::NUMBERED;
+use console::REFERENCES;
 use console::flush;
 use console::read_next;
 use listing::put_listing;
@@ -91,11 +95,11 @@ fn list_all(
 fn main() {
     let mut data = [0u8; LONGEST + 1];
     let mut out = io::buffer();
-    let mut nodes = [0u32; 7000];
-    let mut references = [0u32; 4000];
-    let mut bytes = [0u8; 16384];
-    let mut symbols = [0u32; 1000];
-    let mut objects = [0u32; 1000];
+    let mut nodes = [0u32; NODES];
+    let mut references = [0u32; REFERENCES];
+    let mut bytes = [0u8; BYTES];
+    let mut symbols = [0u32; NUMBERED];
+    let mut objects = [0u32; NUMBERED];
     list_all(
         &mut data,
         &mut out,

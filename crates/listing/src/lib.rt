@@ -1,4 +1,5 @@
-// What the program list prints: an input loaded, and the arena or the refusal as rows of columns.
+// What the programs list and list_all print: an input loaded, or all that stands in it one after the other, and the arena or
+// the refusal as rows of columns.
 use console::LIMIT;
 use console::LONGEST;
 use console::end_row;
@@ -6,8 +7,11 @@ use console::put_number;
 use console::put_refusal;
 use definition::Answer;
 use definition::Counts;
+use definition::Loaded;
+use definition::Node;
 use definition::Refusal;
 use load::load;
+use load::load_at;
 
 fn put_counts(out: &mut [u8], at: usize, counts: Counts, used: usize) -> usize {
     let n = counts.nodes;
@@ -49,7 +53,7 @@ fn byte_of(table: &[u8], i: usize) -> u64 {
 // Node i: its number and its seven words.
 fn put_node(out: &mut [u8], at: usize, nodes: &[u32], i: usize) -> usize {
     let mut p = put_number(out, at, i as u64);
-    for j in 0..7 {
+    for j in 0..Node::WIDTH {
         p = put_word(out, p, &nodes[..], i, j);
     }
     end_row(out, p)
@@ -57,8 +61,8 @@ fn put_node(out: &mut [u8], at: usize, nodes: &[u32], i: usize) -> usize {
 
 fn put_word(out: &mut [u8], at: usize, nodes: &[u32], i: usize, j: usize) -> usize {
     if i < 1000000 {
-        if j < 7 {
-            return put_number(out, at, word_of(&nodes[..], i * 7 + j));
+        if j < Node::WIDTH {
+            return put_number(out, at, word_of(&nodes[..], i * Node::WIDTH + j));
         }
     }
     at
@@ -106,32 +110,22 @@ fn put_arena(
     put_bytes(out, q, &bytes[..], b)
 }
 
-fn put_loaded(
+// What load answered: the counts and the arena, or the refusal.
+fn put_answer(
     out: &mut [u8],
     at: usize,
-    input: &[u8],
-    nodes: &mut [u32],
-    references: &mut [u32],
-    bytes: &mut [u8],
-    symbols: &mut [u32],
-    objects: &mut [u32],
+    r: Loaded,
+    nodes: &[u32],
+    references: &[u32],
+    bytes: &[u8],
 ) -> usize {
-    let r = load(
-        &input[..],
-        nodes,
-        references,
-        bytes,
-        symbols,
-        objects,
-        LIMIT,
-    );
     let answer = r.answer;
     let counts = r.counts;
     let used = r.used;
     match answer {
         Answer::Accepted => {
             let p = put_counts(out, at, counts, used);
-            put_arena(out, p, counts, nodes, references, bytes)
+            put_arena(out, p, counts, &nodes[..], &references[..], &bytes[..])
         }
         Answer::Refused(q) => put_refusal(out, at, Answer::Refused(q)),
     }
@@ -151,14 +145,89 @@ pub fn put_listing(
     if LONGEST < input.len() {
         return put_refusal(out, at, Answer::Refused(Refusal::NoSpace(8)));
     }
-    put_loaded(
-        out,
-        at,
+    let r = load(
         &input[..],
         nodes,
         references,
         bytes,
         symbols,
         objects,
-    )
+        LIMIT,
+    );
+    put_answer(out, at, r, nodes, references, bytes)
+}
+
+// Where the listing of what stands at an offset ends in `out`, and the bytes of input used, 0 where it is refused.
+struct Part {
+    to: usize,
+    used: usize,
+}
+
+// The listing of what stands at an offset.
+fn put_part(
+    out: &mut [u8],
+    to: usize,
+    input: &[u8],
+    at: usize,
+    nodes: &mut [u32],
+    references: &mut [u32],
+    bytes: &mut [u8],
+    symbols: &mut [u32],
+    objects: &mut [u32],
+) -> Part {
+    let r = load_at(
+        &input[..],
+        at,
+        nodes,
+        references,
+        bytes,
+        symbols,
+        objects,
+        LIMIT,
+    );
+    let used = r.used;
+    let p = put_answer(out, to, r, nodes, references, bytes);
+    Part { to: p, used: used }
+}
+
+// The listings of what stands one after the other, put into `out` from `start` on, up to the first that is refused; the
+// position after them.
+pub fn put_listings(
+    out: &mut [u8],
+    start: usize,
+    input: &[u8],
+    nodes: &mut [u32],
+    references: &mut [u32],
+    bytes: &mut [u8],
+    symbols: &mut [u32],
+    objects: &mut [u32],
+) -> usize {
+    if LONGEST < input.len() {
+        return put_refusal(out, start, Answer::Refused(Refusal::NoSpace(8)));
+    }
+    let mut to = start;
+    let mut at = 0;
+    while at < input.len() {
+        let part = put_part(
+            out,
+            to,
+            &input[..],
+            at,
+            nodes,
+            references,
+            bytes,
+            symbols,
+            objects,
+        );
+        let used = part.used;
+        to = part.to;
+        if used == 0 {
+            return to;
+        }
+        if input.len() - at < used {
+            return to;
+        }
+        at = at + used;
+    }
+    to
 }

@@ -1,5 +1,8 @@
--- Laws of lists, of ranges and of the words of rows.
+-- Laws of lists, of tests, of ranges, of the words of rows, and of the tests of slices.
 pub mod Lists
+pub mod Joined
 pub mod Ranges
 pub mod Words
+pub mod Rows
 pub mod Tables
+pub mod Slices

@@ -1,10 +1,11 @@
 -- Lists by index, for relations.
 use Prim.Native.Nat.{ℕ, zero, suc, _+_, _≤_, _<_, zero-le, suc-le-suc}
-use mathlib.Core.Path.{_≡_, refl, ap}
+use mathlib.Core.Path.{_≡_, refl, ap, _∙_}
 use mathlib.Core.Logic.{_⊎_, inl, inr, _≢_}
 use mathlib.Core.Option.{some}
 use mathlib.Core.List.{List, [], _∷_, _++_, map}
-use lib.ListN.{length, getElem?, getD, set, length-append}
+use lib.ListN.{length, getElem?, getD, set, take, drop, length-append}
+use lib.Seq.{sets, sets-eq, take-append-seam}
 use native.Mathlib.Omega.{arith}
 
 -- `At l k v`: v stands at k
@@ -166,3 +167,12 @@ module _ {A B : Type 0} (f : A → B) where
   map-at-inv [] i y e = apart (cc)
   map-at-inv (x ∷ l) zero y e = (x, refl, cc)
   map-at-inv (x ∷ l) (suc i) y e = map-at-inv l i y e
+
+-- ---- a list that begins with another
+
+-- entries stored behind those that stand
+pub stored-behind : {A : Type 0} (l vs t : List A) → take (length l) t ≡ l → length l + length vs ≤ length t → take (length (l ++ vs)) (sets t (length l) vs) ≡ l ++ vs
+stored-behind {A} l vs t e h =
+    let rest = drop (length l + length vs) t in
+    ap (take (length (l ++ vs))) (sets-eq vs t (length l) h ∙ ap (λ (x : List A). x ++ vs ++ rest) e)
+    ∙ take-append-seam (l ++ vs) rest

@@ -3,11 +3,11 @@ use Prim.Native.Nat.{ℕ, zero, suc, _+_, _-_, _≤_, _<_}
 use mathlib.Core.Path.{_≡_, refl, ap}
 use mathlib.Core.Path.{sym as psym, _∙_}
 use mathlib.Core.List.{List, [], _∷_, _++_}
-use lib.ListN.{length, getD, take, drop, length-drop, drop-of-length-le}
-use lib.Seq.{drop-cons, getD-take, getD-drop, length-take-le, drop-append-seam, take-length}
+use lib.ListN.{length, getD, take, drop, length-take, length-drop, drop-of-length-le}
+use lib.Seq.{drop-cons, getD-take, getD-drop, ext-getD, length-take-le, drop-append-seam, take-length}
 use native.Mathlib.Omega.{arith}
 use Rattle.definition.specs.Arena.{range}
-use Rattle.lists.specs.Lists.{At, at-lt, lt-at, at-app, getD-at, apart}
+use Rattle.lists.specs.Lists.{At, at-lt, lt-at, at-app, getD-at, at-getD, apart}
 
 pub length-range-in : (l : List ℕ) (a n : ℕ) → n ≤ length l - a → length (range l a n) ≡ n
 unfolding range
@@ -34,6 +34,9 @@ range-at (x ∷ l) (suc n) zero (suc k) v e =
 range-at (x ∷ l) (suc n) (suc a) k v e =
     let q = range-at l (suc n) a k v e in
     let z : suc a + k ≡ suc (a + k) = omega arith in rw z q
+
+pub range-has : (l : List ℕ) (a n i : ℕ) → a + n ≤ length l → i < n → At (range l a n) i (getD l (a + i) 0)
+range-has l a n i h k = rw (← range-get l a n i k) (at-getD (range l a n) i 0 (omega (arith, length-range l a n h)))
 
 -- ---- one entry after the other
 
@@ -64,6 +67,15 @@ range-same l m (suc n) a h f =
 
 pub range-more : (l m : List ℕ) (a n : ℕ) → a + n ≤ length l → range (l ++ m) a n ≡ range l a n
 range-more l m a n h = range-same l (l ++ m) n a h (λ k v p q e. at-app l m k v e)
+
+-- a range inside the front of a table
+pub range-front : (l t : List ℕ) (s n : ℕ) → l ≡ take (length l) t → s + n ≤ length l → length l ≤ length t → range l s n ≡ take n (drop s t)
+unfolding range
+range-front l t s n e h g =
+    ext-getD 0 (take n (drop s l)) (take n (drop s t)) (simp (length-take, length-drop) (omega arith))
+    (λ i k.
+    let lt : i < n = omega (arith, length-take-le n (drop s l) (simp length-drop (omega arith))) in
+    getD-take n (drop s l) i 0 lt ∙ getD-drop s l i 0 ∙ ap (λ (x : List ℕ). getD x (s + i) 0) e ∙ getD-take (length l) t (s + i) 0 (omega arith) ∙ psym (getD-take n (drop s t) i 0 lt ∙ getD-drop s t i 0))
 
 -- what was added
 pub range-last : (l m : List ℕ) → range (l ++ m) (length l) (length m) ≡ m

@@ -5,11 +5,11 @@ use mathlib.Core.Bool.{Bool, true, false, _&&_}
 use mathlib.Core.Option.{Option, none, some}
 use mathlib.Core.List.{List}
 use lib.ListN.{length, getD, take, drop}
-use lib.Seq.{drop-drop}
+use lib.Seq.{drop-drop, getD-take, getD-drop}
 use native.Mathlib.Omega.{arith}
 use borrow.Author.Tests.{le-leb}
 use Rattle.definition.specs.Run.{pick}
-use Rattle.definition.specs.Node.{nil, width, row, rows}
+use Rattle.definition.specs.Node.{nil, width, row, row-of, rows}
 use Rattle.definition.specs.Arena.{Arena, Tables, arena, node-right, faulty, counts-fit, fault-if, fault}
 use Rattle.definition.specs.Build.{words-at}
 use Rattle.definition.specs.declared.Counts.{Counts}
@@ -32,6 +32,19 @@ unfolding rows words-at
 rows-at zero t i h = absurd (omega arith)
 rows-at (suc n) t zero h = refl
 rows-at (suc n) t (suc i) h = rows-at n (drop width t) i (omega arith) ∙ ap row (words-next t i)
+
+-- the same by its seven words
+pub words-row : (n : ℕ) (t : List ℕ) (i : ℕ) → i < n → getD (rows n t) i nil ≡ row-of (getD t (i * width) 0) (getD t (i * width + 1) 0) (getD t (i * width + 2) 0) (getD t (i * width + 3) 0) (getD t (i * width + 4) 0) (getD t (i * width + 5) 0) (getD t (i * width + 6) 0)
+unfolding row
+words-row n t i h =
+    rows-at n t i h
+    ∙ λ j. row-of (first j) (at 1 (omega arith) j) (at 2 (omega arith) j) (at 3 (omega arith) j) (at 4 (omega arith) j) (at 5 (omega arith) j) (at 6 (omega arith) j)
+  where
+    at : (x : ℕ) → x < width → getD (take width (drop (i * width) t)) x 0 ≡ getD t (i * width + x) 0
+    at x l = getD-take width (drop (i * width) t) x 0 l ∙ getD-drop (i * width) t x 0
+
+    first : getD (take width (drop (i * width) t)) 0 0 ≡ getD t (i * width) 0
+    first = at 0 (omega arith) ∙ ap (λ (x : ℕ). getD t x 0) (omega arith)
 
 -- ---- the test of nodes
 

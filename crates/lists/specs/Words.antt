@@ -1,15 +1,17 @@
--- Words that are compared, and a row's seven words.
-use Prim.Native.Nat.{ℕ, _*_}
-use mathlib.Core.Path.{_≡_, refl}
-use mathlib.Core.Bool.{Bool, true, false}
+-- Words that are compared, a word's low bytes, and a row's seven words.
+use Prim.Native.Nat.{ℕ, zero, suc, _*_, _/_}
+use mathlib.Core.Path.{_≡_, refl, ap}
+use mathlib.Core.Bool.{true, false}
 use mathlib.Core.List.{List, [], _∷_}
 use lib.Dec.{eqb}
 use lib.ListN.{length, length-append}
 use native.Mathlib.Omega.{arith}
 use borrow.Author.Tests.{eqb-true, eq-eqb}
 use Rattle.definition.specs.Run.{pick}
+use Rattle.definition.specs.Integer.{low-bytes}
 use Rattle.definition.specs.Node.{Row, nil, bool, fixnum, symbol, array, hash, object, string, user, absent, present, words, flat, equal}
 use Rattle.lists.specs.Lists.{apart}
+use Rattle.lists.specs.Joined.{pick-true}
 
 -- ---- the test of equal words
 
@@ -18,16 +20,19 @@ unfolding equal pick
 equal-true [] [] e = refl
 equal-true [] (b ∷ m) e = apart (cc)
 equal-true (a ∷ l) [] e = apart (cc)
-equal-true (a ∷ l) (b ∷ m) e = go (eqb a b) refl e (equal-true l m)
-  where
-    go : (x : Bool) → eqb a b ≡ x → pick x (equal l m) false ≡ true → (equal l m ≡ true → l ≡ m) → a ∷ l ≡ b ∷ m
-    go true p q ih = rw (eqb-true a b p, ih q)
-    go false p q ih = apart (cc)
+equal-true (a ∷ l) (b ∷ m) e = let (p, q) = pick-true (eqb a b) (equal l m) e in rw (eqb-true a b p, equal-true l m q)
 
 pub equal-self : (l : List ℕ) → equal l l ≡ true
 unfolding equal pick
 equal-self [] = refl
 equal-self (a ∷ l) = rw (eq-eqb a a refl) (equal-self l)
+
+-- ---- low bytes
+
+pub length-low : (n w : ℕ) → length (low-bytes n w) ≡ n
+unfolding low-bytes
+length-low zero w = refl
+length-low (suc n) w = ap suc (length-low n (w / 256))
 
 -- ---- a row's words
 

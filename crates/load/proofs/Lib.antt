@@ -1,3 +1,3 @@
 -- Laws for the proofs of load and its cycle of readers.
-pub mod Loops
+pub mod Members
 pub mod Whole

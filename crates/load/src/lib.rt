@@ -1,39 +1,53 @@
 // load: the reader of values, and the readers of what has members.
+//
+// The contracts are as in the crate loader. `levels` are those still allowed: in the value reader for the value, in the
+// others for the members. They fall from a value to its members.
 use definition::Answer;
 use definition::Counts;
 use definition::Loaded;
+use definition::Node;
 use definition::Refusal;
 use definition::ValueKind;
 use loader::AT;
 use loader::BYTES;
 use loader::NODES;
-use loader::OBJECTS;
-use loader::Opened;
 use loader::REFERENCES;
-use loader::Read;
-use loader::SYMBOLS;
-use loader::Tried;
 use loader::fill_node;
-use loader::open_container;
-use loader::open_object;
+use loader::open_node;
 use loader::read_header;
 use loader::read_leaf;
+use loader::read_run;
 use loader::read_symbol_like;
 use loader::read_words;
 use loader::set_variables;
-use loader::try_value;
 use loader::wrong_slice;
+use reader::REFUSED;
+use reader::Reader;
+use reader::SHORT_INPUT;
+use reader::TOO_DEEP;
+use reader::refusal_of;
+use reader::start;
+use store::put_node;
 use store::zero_bytes;
 use store::zero_words;
 ghost use mathlib.Core.Path.{_≡_};
-ghost use Prim.Native.Nat.{_+_, _*_, _≤_};
-ghost use lib.ListN.{length};
-ghost use Rattle.definition.specs.Load.{Room, lists, read-elements, read-pairs, read-array, read-hash, read-object, read-variables, read-value, read-symbol-like, load-call};
-ghost use Rattle.loader.specs.Holds.{Held, Meets, Does, Below, references-of};
-ghost use Rattle.load.specs.Call.{call, zeros, emptied};
+ghost use Prim.Native.Nat.{ℕ, _-_, _<_, _≤_};
+ghost use lib.Dec.{eqb};
+ghost use Rattle.definition.specs.Kind.{HASH, HASH-DEFAULT};
+ghost use Rattle.definition.specs.Load.{Room, lists, read-array, read-hash, read-object, read-variables, read-value, read-header, read-symbol-like, load-call};
+ghost use Rattle.definition.specs.Reader.{load-next};
+ghost use Rattle.definition.specs.declared.Answer.the-variants.{Refused};
+ghost use Rattle.loader.specs.Holds.{Held, Meets, members, nodes-of, references-of};
+ghost use Rattle.load.specs.Call.{call, whole, loaded-as};
 
-// n members, from reference word `start` on; integers and symbol links with no call of the reader of values.
-fn read_elements(
+// The parity of names in a list without names.
+const NONE: usize = 2;
+
+// The members for the reference words from `start` to `end`, of which those of parity `names` are names, and then, where
+// `more` is 1, one value, which is the answer. Integers and symbol links are most of a recipe: as many of them as come
+// next are read in a loop of their own. All members of all kinds are read here, and a value is read at one place, so that
+// a level of nesting is one call deep.
+fn read_members(
     input: &[u8],
     nodes: &mut [u32],
     references: &mut [u32],
@@ -41,99 +55,62 @@ fn read_elements(
     symbols: &mut [u32],
     objects: &mut [u32],
     c: &mut [usize; 6],
-    start: u32,
-    n: u32,
-    limit: u32,
+    start: usize,
+    end: usize,
+    more: usize,
+    names: usize,
     levels: u32,
-) -> Read
-    requires { ⌜ (start + n ≤ references-of (now c)) × Held (now input) (lists (now nodes) (now references) (now bytes) (now symbols) (now objects)) (now c) ⌝ }
-    ensures { λ r. ⌜ ((room : Room) → Does (now (input .entry)) room (read-elements (read-value (now (input .entry)) room limit levels) n start) (lists (now (nodes .entry)) (now (references .entry)) (now (bytes .entry)) (now (symbols .entry)) (now (objects .entry))) (now (c .entry)) r (lists (now (nodes .exit)) (now (references .exit)) (now (bytes .exit)) (now (symbols .exit)) (now (objects .exit))) (now (c .exit))) ⌝ }
+) -> u64
+    requires { ⌜ (start ≤ end) × (end ≤ references-of (now c)) × (more ≤ 1) × (more ≡ 1 → names ≡ 2) × Held (now input) (lists (now nodes) (now references) (now bytes) (now symbols) (now objects)) (now c) ⌝ }
+    ensures { λ r. ⌜ ((room : Room) (limit : ℕ) → Meets (now (input .entry)) room limit (members (read-symbol-like (now (input .entry)) room) (read-value (now (input .entry)) room limit levels) names more (end - start) start) (lists (now (nodes .entry)) (now (references .entry)) (now (bytes .entry)) (now (symbols .entry)) (now (objects .entry))) (now (c .entry)) r (lists (now (nodes .exit)) (now (references .exit)) (now (bytes .exit)) (now (symbols .exit)) (now (objects .exit))) (now (c .exit))) ⌝ }
+    ensures { λ r. ⌜ (r < 4294967296 → (more ≡ 0 → r ≡ 0) × (more ≡ 1 → r < nodes-of (now (c .exit)))) ⌝ }
 {
-    let mut i: u32 = 0;
-    while i < n {
-        match try_value(&input[..], nodes, symbols, c, levels) {
-            Tried::Taken(v) => {
-                references[(start + i) as usize] = v;
-                i = i + 1;
-                continue;
-            }
-            Tried::Failed(r) => {
-                return Read::Refused(r);
-            }
-            Tried::Other => match read_value(
-                &input[..],
-                nodes,
-                references,
-                bytes,
-                symbols,
-                objects,
-                c,
-                limit,
-                levels,
-            ) {
-                Read::Value(v) => {
-                    references[(start + i) as usize] = v;
-                    i = i + 1;
-                    continue;
-                }
-                Read::Refused(r) => {
-                    return Read::Refused(r);
-                }
-            },
+    let mut to = start;
+    while to < end + more {
+        let next = read_run(
+            &input[..],
+            nodes,
+            references,
+            symbols,
+            c,
+            to,
+            end,
+            names,
+            levels,
+        );
+        if to < next {
+            to = next;
+            continue;
         }
-    }
-    Read::Value(0)
-}
-
-// n pairs of a name and a value, from reference word `start` on.
-fn read_pairs(
-    input: &[u8],
-    nodes: &mut [u32],
-    references: &mut [u32],
-    bytes: &mut [u8],
-    symbols: &mut [u32],
-    objects: &mut [u32],
-    c: &mut [usize; 6],
-    start: u32,
-    n: u32,
-    limit: u32,
-    levels: u32,
-) -> Read
-    requires { ⌜ (start + n * 2 ≤ references-of (now c)) × Held (now input) (lists (now nodes) (now references) (now bytes) (now symbols) (now objects)) (now c) ⌝ }
-    ensures { λ r. ⌜ ((room : Room) → Does (now (input .entry)) room (read-pairs (read-symbol-like (now (input .entry)) room) (read-value (now (input .entry)) room limit levels) n start) (lists (now (nodes .entry)) (now (references .entry)) (now (bytes .entry)) (now (symbols .entry)) (now (objects .entry))) (now (c .entry)) r (lists (now (nodes .exit)) (now (references .exit)) (now (bytes .exit)) (now (symbols .exit)) (now (objects .exit))) (now (c .exit))) ⌝ }
-{
-    let mut i: u32 = 0;
-    while i < n {
-        match read_symbol_like(&input[..], nodes, bytes, symbols, c) {
-            Read::Value(name) => {
-                references[(start + i * 2) as usize] = name;
-                match read_value(
-                    &input[..],
-                    nodes,
-                    references,
-                    bytes,
-                    symbols,
-                    objects,
-                    c,
-                    limit,
-                    levels,
-                ) {
-                    Read::Value(v) => {
-                        references[(start + i * 2 + 1) as usize] = v;
-                        i = i + 1;
-                        continue;
-                    }
-                    Read::Refused(r) => {
-                        return Read::Refused(r);
-                    }
-                }
+        if to % 2 == names {
+            let name = read_symbol_like(&input[..], nodes, bytes, symbols, c);
+            if REFUSED <= name {
+                return name;
             }
-            Read::Refused(r) => {
-                return Read::Refused(r);
-            }
+            references[to] = name as u32;
+            to = to + 1;
+            continue;
         }
+        let v = read_value(
+            &input[..],
+            nodes,
+            references,
+            bytes,
+            symbols,
+            objects,
+            c,
+            levels,
+        );
+        if REFUSED <= v {
+            return v;
+        }
+        if to == end {
+            return v;
+        }
+        references[to] = v as u32;
+        to = to + 1;
     }
-    Read::Value(0)
+    0
 }
 
 fn read_array(
@@ -144,37 +121,50 @@ fn read_array(
     symbols: &mut [u32],
     objects: &mut [u32],
     c: &mut [usize; 6],
-    limit: u32,
     levels: u32,
-) -> Read
+) -> u64
     requires { ⌜ Held (now input) (lists (now nodes) (now references) (now bytes) (now symbols) (now objects)) (now c) ⌝ }
-    ensures { λ r. ⌜ ((room : Room) → Meets (now (input .entry)) room (read-array (now (input .entry)) room (read-value (now (input .entry)) room limit levels)) (lists (now (nodes .entry)) (now (references .entry)) (now (bytes .entry)) (now (symbols .entry)) (now (objects .entry))) (now (c .entry)) r (lists (now (nodes .exit)) (now (references .exit)) (now (bytes .exit)) (now (symbols .exit)) (now (objects .exit))) (now (c .exit))) ⌝ }
-    ensures { λ r. ⌜ Below (now (c .exit)) r ⌝ }
+    ensures { λ r. ⌜ ((room : Room) (limit : ℕ) → Meets (now (input .entry)) room limit (read-array (now (input .entry)) room (read-value (now (input .entry)) room limit levels)) (lists (now (nodes .entry)) (now (references .entry)) (now (bytes .entry)) (now (symbols .entry)) (now (objects .entry))) (now (c .entry)) r (lists (now (nodes .exit)) (now (references .exit)) (now (bytes .exit)) (now (symbols .exit)) (now (objects .exit))) (now (c .exit))) ⌝ }
+    ensures { λ r. ⌜ (r < 4294967296 → r < nodes-of (now (c .exit))) ⌝ }
 {
-    match open_container(&input[..], nodes, references, objects, c, 1) {
-        Opened::Open(h, _, p, n) => match read_elements(
-            &input[..],
-            nodes,
-            references,
-            bytes,
-            symbols,
-            objects,
-            c,
-            p,
-            n,
-            limit,
-            levels,
-        ) {
-            Read::Value(_) => {
-                fill_node(nodes, h, 4, p, n, 0, 0);
-                Read::Value(h)
-            }
-            Read::Refused(r) => Read::Refused(r),
-        },
-        Opened::Unopened(r) => Read::Refused(r),
+    let h = open_node(nodes, objects, c);
+    if REFUSED <= h {
+        return h;
     }
+    let n = read_words(&input[..], references, c, 1);
+    if REFUSED <= n {
+        return n;
+    }
+    let end = c[REFERENCES];
+    let start = end - n as usize;
+    let w = read_members(
+        &input[..],
+        nodes,
+        references,
+        bytes,
+        symbols,
+        objects,
+        c,
+        start,
+        end,
+        0,
+        NONE,
+        levels,
+    );
+    if REFUSED <= w {
+        return w;
+    }
+    fill_node(nodes, h, Node::ARRAY, start as u32, n as u32, 0, 0)
 }
 
+// How many defaults come after a hash's members, by its kind byte.
+fn defaults(k: u8) -> usize
+    ensures { λ r. ⌜ (k ≡ HASH → r ≡ 0) × (k ≡ HASH-DEFAULT → r ≡ 1) ⌝ }
+{
+    if k == ValueKind::HASH_DEFAULT { 1 } else { 0 }
+}
+
+// A hash, with a default where `more` is 1.
 fn read_hash(
     input: &[u8],
     nodes: &mut [u32],
@@ -183,56 +173,49 @@ fn read_hash(
     symbols: &mut [u32],
     objects: &mut [u32],
     c: &mut [usize; 6],
-    limit: u32,
+    more: usize,
     levels: u32,
-    default: bool,
-) -> Read
-    requires { ⌜ Held (now input) (lists (now nodes) (now references) (now bytes) (now symbols) (now objects)) (now c) ⌝ }
-    ensures { λ r. ⌜ ((room : Room) → Meets (now (input .entry)) room (read-hash default (now (input .entry)) room (read-value (now (input .entry)) room limit levels)) (lists (now (nodes .entry)) (now (references .entry)) (now (bytes .entry)) (now (symbols .entry)) (now (objects .entry))) (now (c .entry)) r (lists (now (nodes .exit)) (now (references .exit)) (now (bytes .exit)) (now (symbols .exit)) (now (objects .exit))) (now (c .exit))) ⌝ }
-    ensures { λ r. ⌜ Below (now (c .exit)) r ⌝ }
+) -> u64
+    requires { ⌜ (more ≤ 1) × Held (now input) (lists (now nodes) (now references) (now bytes) (now symbols) (now objects)) (now c) ⌝ }
+    ensures { λ r. ⌜ ((room : Room) (limit : ℕ) → Meets (now (input .entry)) room limit (read-hash (eqb more 1) (now (input .entry)) room (read-value (now (input .entry)) room limit levels)) (lists (now (nodes .entry)) (now (references .entry)) (now (bytes .entry)) (now (symbols .entry)) (now (objects .entry))) (now (c .entry)) r (lists (now (nodes .exit)) (now (references .exit)) (now (bytes .exit)) (now (symbols .exit)) (now (objects .exit))) (now (c .exit))) ⌝ }
+    ensures { λ r. ⌜ (r < 4294967296 → r < nodes-of (now (c .exit))) ⌝ }
 {
-    match open_container(&input[..], nodes, references, objects, c, 2) {
-        Opened::Open(h, _, p, n) => match read_elements(
-            &input[..],
-            nodes,
-            references,
-            bytes,
-            symbols,
-            objects,
-            c,
-            p,
-            n * 2,
-            limit,
-            levels,
-        ) {
-            Read::Value(_) => {
-                if default {
-                    match read_value(
-                        &input[..],
-                        nodes,
-                        references,
-                        bytes,
-                        symbols,
-                        objects,
-                        c,
-                        limit,
-                        levels,
-                    ) {
-                        Read::Value(d) => {
-                            fill_node(nodes, h, 5, p, n, 0, d + 1);
-                            Read::Value(h)
-                        }
-                        Read::Refused(r) => Read::Refused(r),
-                    }
-                } else {
-                    fill_node(nodes, h, 5, p, n, 0, 0);
-                    Read::Value(h)
-                }
-            }
-            Read::Refused(r) => Read::Refused(r),
-        },
-        Opened::Unopened(r) => Read::Refused(r),
+    let h = open_node(nodes, objects, c);
+    if REFUSED <= h {
+        return h;
     }
+    let n = read_words(&input[..], references, c, 2);
+    if REFUSED <= n {
+        return n;
+    }
+    let end = c[REFERENCES];
+    let start = end - n as usize * 2;
+    let d = read_members(
+        &input[..],
+        nodes,
+        references,
+        bytes,
+        symbols,
+        objects,
+        c,
+        start,
+        end,
+        more,
+        NONE,
+        levels,
+    );
+    if REFUSED <= d {
+        return d;
+    }
+    fill_node(
+        nodes,
+        h,
+        Node::HASH,
+        start as u32,
+        n as u32,
+        0,
+        d as u32 + more as u32,
+    )
 }
 
 fn read_object(
@@ -243,35 +226,100 @@ fn read_object(
     symbols: &mut [u32],
     objects: &mut [u32],
     c: &mut [usize; 6],
-    limit: u32,
     levels: u32,
-) -> Read
+) -> u64
     requires { ⌜ Held (now input) (lists (now nodes) (now references) (now bytes) (now symbols) (now objects)) (now c) ⌝ }
-    ensures { λ r. ⌜ ((room : Room) → Meets (now (input .entry)) room (read-object (now (input .entry)) room (read-value (now (input .entry)) room limit levels)) (lists (now (nodes .entry)) (now (references .entry)) (now (bytes .entry)) (now (symbols .entry)) (now (objects .entry))) (now (c .entry)) r (lists (now (nodes .exit)) (now (references .exit)) (now (bytes .exit)) (now (symbols .exit)) (now (objects .exit))) (now (c .exit))) ⌝ }
-    ensures { λ r. ⌜ Below (now (c .exit)) r ⌝ }
+    ensures { λ r. ⌜ ((room : Room) (limit : ℕ) → Meets (now (input .entry)) room limit (read-object (now (input .entry)) room (read-value (now (input .entry)) room limit levels)) (lists (now (nodes .entry)) (now (references .entry)) (now (bytes .entry)) (now (symbols .entry)) (now (objects .entry))) (now (c .entry)) r (lists (now (nodes .exit)) (now (references .exit)) (now (bytes .exit)) (now (symbols .exit)) (now (objects .exit))) (now (c .exit))) ⌝ }
+    ensures { λ r. ⌜ (r < 4294967296 → r < nodes-of (now (c .exit))) ⌝ }
 {
-    match open_object(&input[..], nodes, references, bytes, symbols, objects, c) {
-        Opened::Open(h, name, p, n) => match read_pairs(
-            &input[..],
-            nodes,
-            references,
-            bytes,
-            symbols,
-            objects,
-            c,
-            p,
-            n,
-            limit,
-            levels,
-        ) {
-            Read::Value(_) => {
-                fill_node(nodes, h, 6, p, n, name, 0);
-                Read::Value(h)
-            }
-            Read::Refused(r) => Read::Refused(r),
-        },
-        Opened::Unopened(r) => Read::Refused(r),
+    let h = open_node(nodes, objects, c);
+    if REFUSED <= h {
+        return h;
     }
+    let name = read_symbol_like(&input[..], nodes, bytes, symbols, c);
+    if REFUSED <= name {
+        return name;
+    }
+    let n = read_words(&input[..], references, c, 2);
+    if REFUSED <= n {
+        return n;
+    }
+    let end = c[REFERENCES];
+    let start = end - n as usize * 2;
+    let w = read_members(
+        &input[..],
+        nodes,
+        references,
+        bytes,
+        symbols,
+        objects,
+        c,
+        start,
+        end,
+        0,
+        end % 2,
+        levels,
+    );
+    if REFUSED <= w {
+        return w;
+    }
+    fill_node(
+        nodes,
+        h,
+        Node::OBJECT,
+        start as u32,
+        n as u32,
+        name as u32,
+        0,
+    )
+}
+
+// The value after `I`; a string, which is the most frequent, with no call of the reader of members.
+fn read_inner(
+    input: &[u8],
+    nodes: &mut [u32],
+    references: &mut [u32],
+    bytes: &mut [u8],
+    symbols: &mut [u32],
+    objects: &mut [u32],
+    c: &mut [usize; 6],
+    levels: u32,
+) -> u64
+    requires { ⌜ Held (now input) (lists (now nodes) (now references) (now bytes) (now symbols) (now objects)) (now c) ⌝ }
+    ensures { λ r. ⌜ ((room : Room) (limit : ℕ) → Meets (now (input .entry)) room limit (read-value (now (input .entry)) room limit levels) (lists (now (nodes .entry)) (now (references .entry)) (now (bytes .entry)) (now (symbols .entry)) (now (objects .entry))) (now (c .entry)) r (lists (now (nodes .exit)) (now (references .exit)) (now (bytes .exit)) (now (symbols .exit)) (now (objects .exit))) (now (c .exit))) ⌝ }
+    ensures { λ r. ⌜ (r < 4294967296 → r < nodes-of (now (c .exit))) ⌝ }
+{
+    let at = c[AT];
+    if 0 < levels {
+        if at < input.len() {
+            if input[at] == ValueKind::STRING {
+                c[AT] = at + 1;
+                return read_leaf(
+                    &input[..],
+                    nodes,
+                    bytes,
+                    symbols,
+                    objects,
+                    c,
+                    ValueKind::STRING,
+                );
+            }
+        }
+    }
+    read_members(
+        &input[..],
+        nodes,
+        references,
+        bytes,
+        symbols,
+        objects,
+        c,
+        0,
+        0,
+        1,
+        NONE,
+        levels,
+    )
 }
 
 // What follows `I`: a value, then its variables; only then it is tested whether it can have any.
@@ -283,14 +331,13 @@ fn read_variables(
     symbols: &mut [u32],
     objects: &mut [u32],
     c: &mut [usize; 6],
-    limit: u32,
     levels: u32,
-) -> Read
+) -> u64
     requires { ⌜ Held (now input) (lists (now nodes) (now references) (now bytes) (now symbols) (now objects)) (now c) ⌝ }
-    ensures { λ r. ⌜ ((room : Room) → Meets (now (input .entry)) room (read-variables (now (input .entry)) room (read-value (now (input .entry)) room limit levels)) (lists (now (nodes .entry)) (now (references .entry)) (now (bytes .entry)) (now (symbols .entry)) (now (objects .entry))) (now (c .entry)) r (lists (now (nodes .exit)) (now (references .exit)) (now (bytes .exit)) (now (symbols .exit)) (now (objects .exit))) (now (c .exit))) ⌝ }
-    ensures { λ r. ⌜ Below (now (c .exit)) r ⌝ }
+    ensures { λ r. ⌜ ((room : Room) (limit : ℕ) → Meets (now (input .entry)) room limit (read-variables (now (input .entry)) room (read-value (now (input .entry)) room limit levels)) (lists (now (nodes .entry)) (now (references .entry)) (now (bytes .entry)) (now (symbols .entry)) (now (objects .entry))) (now (c .entry)) r (lists (now (nodes .exit)) (now (references .exit)) (now (bytes .exit)) (now (symbols .exit)) (now (objects .exit))) (now (c .exit))) ⌝ }
+    ensures { λ r. ⌜ (r < 4294967296 → r < nodes-of (now (c .exit))) ⌝ }
 {
-    match read_value(
+    let h = read_inner(
         &input[..],
         nodes,
         references,
@@ -298,33 +345,35 @@ fn read_variables(
         symbols,
         objects,
         c,
-        limit,
         levels,
-    ) {
-        Read::Value(h) => match read_words(&input[..], references, c, 2) {
-            Opened::Open(_, _, p, n) => match read_pairs(
-                &input[..],
-                nodes,
-                references,
-                bytes,
-                symbols,
-                objects,
-                c,
-                p,
-                n,
-                limit,
-                levels,
-            ) {
-                Read::Value(_) => match set_variables(nodes, h, p, n) {
-                    Read::Value(v) => Read::Value(v),
-                    Read::Refused(r) => Read::Refused(r),
-                },
-                Read::Refused(r) => Read::Refused(r),
-            },
-            Opened::Unopened(q) => Read::Refused(q),
-        },
-        Read::Refused(r) => Read::Refused(r),
+    );
+    if REFUSED <= h {
+        return h;
     }
+    let n = read_words(&input[..], references, c, 2);
+    if REFUSED <= n {
+        return n;
+    }
+    let end = c[REFERENCES];
+    let start = end - n as usize * 2;
+    let done = read_members(
+        &input[..],
+        nodes,
+        references,
+        bytes,
+        symbols,
+        objects,
+        c,
+        start,
+        end,
+        0,
+        end % 2,
+        levels,
+    );
+    if REFUSED <= done {
+        return done;
+    }
+    set_variables(nodes, h, start as u32, n as u32)
 }
 
 // A value, while there are levels left.
@@ -336,133 +385,121 @@ fn read_value(
     symbols: &mut [u32],
     objects: &mut [u32],
     c: &mut [usize; 6],
-    limit: u32,
     levels: u32,
-) -> Read
+) -> u64
     requires { ⌜ Held (now input) (lists (now nodes) (now references) (now bytes) (now symbols) (now objects)) (now c) ⌝ }
-    ensures { λ r. ⌜ ((room : Room) → Meets (now (input .entry)) room (read-value (now (input .entry)) room limit levels) (lists (now (nodes .entry)) (now (references .entry)) (now (bytes .entry)) (now (symbols .entry)) (now (objects .entry))) (now (c .entry)) r (lists (now (nodes .exit)) (now (references .exit)) (now (bytes .exit)) (now (symbols .exit)) (now (objects .exit))) (now (c .exit))) ⌝ }
-    ensures { λ r. ⌜ Below (now (c .exit)) r ⌝ }
+    ensures { λ r. ⌜ ((room : Room) (limit : ℕ) → Meets (now (input .entry)) room limit (read-value (now (input .entry)) room limit levels) (lists (now (nodes .entry)) (now (references .entry)) (now (bytes .entry)) (now (symbols .entry)) (now (objects .entry))) (now (c .entry)) r (lists (now (nodes .exit)) (now (references .exit)) (now (bytes .exit)) (now (symbols .exit)) (now (objects .exit))) (now (c .exit))) ⌝ }
+    ensures { λ r. ⌜ (r < 4294967296 → r < nodes-of (now (c .exit))) ⌝ }
 {
     if levels == 0 {
-        return Read::Refused(Refusal::TooDeep(limit));
+        return TOO_DEEP;
     }
     let at = c[AT];
-    if at < input.len() {
-        let k = input[at];
-        c[AT] = at + 1;
-        match k {
-            ValueKind::ARRAY => match read_array(
-                &input[..],
-                nodes,
-                references,
-                bytes,
-                symbols,
-                objects,
-                c,
-                limit,
-                levels - 1,
-            ) {
-                Read::Value(v) => Read::Value(v),
-                Read::Refused(r) => Read::Refused(r),
-            },
-            ValueKind::HASH => match read_hash(
-                &input[..],
-                nodes,
-                references,
-                bytes,
-                symbols,
-                objects,
-                c,
-                limit,
-                levels - 1,
-                false,
-            ) {
-                Read::Value(v) => Read::Value(v),
-                Read::Refused(r) => Read::Refused(r),
-            },
-            ValueKind::HASH_DEFAULT => match read_hash(
-                &input[..],
-                nodes,
-                references,
-                bytes,
-                symbols,
-                objects,
-                c,
-                limit,
-                levels - 1,
-                true,
-            ) {
-                Read::Value(v) => Read::Value(v),
-                Read::Refused(r) => Read::Refused(r),
-            },
-            ValueKind::OBJECT => match read_object(
-                &input[..],
-                nodes,
-                references,
-                bytes,
-                symbols,
-                objects,
-                c,
-                limit,
-                levels - 1,
-            ) {
-                Read::Value(v) => Read::Value(v),
-                Read::Refused(r) => Read::Refused(r),
-            },
-            ValueKind::INSTANCE_VARIABLES => match read_variables(
-                &input[..],
-                nodes,
-                references,
-                bytes,
-                symbols,
-                objects,
-                c,
-                limit,
-                levels - 1,
-            ) {
-                Read::Value(v) => Read::Value(v),
-                Read::Refused(r) => Read::Refused(r),
-            },
-            _ => match read_leaf(&input[..], nodes, bytes, symbols, objects, c, k) {
-                Read::Value(v) => Read::Value(v),
-                Read::Refused(r) => Read::Refused(r),
-            },
-        }
-    } else {
-        Read::Refused(Refusal::ShortInput)
+    if input.len() <= at {
+        return SHORT_INPUT;
+    }
+    let k = input[at];
+    c[AT] = at + 1;
+    match k {
+        ValueKind::ARRAY => read_array(
+            &input[..],
+            nodes,
+            references,
+            bytes,
+            symbols,
+            objects,
+            c,
+            levels - 1,
+        ),
+        ValueKind::HASH | ValueKind::HASH_DEFAULT => read_hash(
+            &input[..],
+            nodes,
+            references,
+            bytes,
+            symbols,
+            objects,
+            c,
+            defaults(k),
+            levels - 1,
+        ),
+        ValueKind::OBJECT => read_object(
+            &input[..],
+            nodes,
+            references,
+            bytes,
+            symbols,
+            objects,
+            c,
+            levels - 1,
+        ),
+        ValueKind::INSTANCE_VARIABLES => read_variables(
+            &input[..],
+            nodes,
+            references,
+            bytes,
+            symbols,
+            objects,
+            c,
+            levels - 1,
+        ),
+        _ => read_leaf(&input[..], nodes, bytes, symbols, objects, c, k),
     }
 }
 
-fn zero_all(
+// The header and the root value.
+fn read_root(
+    input: &[u8],
     nodes: &mut [u32],
     references: &mut [u32],
     bytes: &mut [u8],
     symbols: &mut [u32],
     objects: &mut [u32],
-)
-    ensures { λ _. ⌜ (lists (now (nodes .exit)) (now (references .exit)) (now (bytes .exit)) (now (symbols .exit)) (now (objects .exit))) ≡ zeros (lists (now (nodes .entry)) (now (references .entry)) (now (bytes .entry)) (now (symbols .entry)) (now (objects .entry))) ⌝ }
+    c: &mut [usize; 6],
+    limit: u32,
+) -> u64
+    requires { ⌜ Held (now input) (lists (now nodes) (now references) (now bytes) (now symbols) (now objects)) (now c) ⌝ }
+    ensures { λ r. ⌜ ((room : Room) → Meets (now (input .entry)) room limit (whole (now (input .entry)) room limit) (lists (now (nodes .entry)) (now (references .entry)) (now (bytes .entry)) (now (symbols .entry)) (now (objects .entry))) (now (c .entry)) r (lists (now (nodes .exit)) (now (references .exit)) (now (bytes .exit)) (now (symbols .exit)) (now (objects .exit))) (now (c .exit))) ⌝ }
+    ensures { λ r. ⌜ (r < 4294967296 → r < nodes-of (now (c .exit))) ⌝ }
 {
-    zero_words(nodes);
-    zero_words(references);
-    zero_bytes(bytes);
-    zero_words(symbols);
-    zero_words(objects);
+    let w = read_header(&input[..], c);
+    if REFUSED <= w {
+        return w;
+    }
+    read_members(
+        &input[..],
+        nodes,
+        references,
+        bytes,
+        symbols,
+        objects,
+        c,
+        0,
+        0,
+        1,
+        NONE,
+        limit,
+    )
 }
 
-// The first n words are zeroed.
-fn zero_first(words: &mut [u32], n: usize)
-    requires { ⌜ n ≤ length (now words) ⌝ }
-    ensures { λ _. ⌜ now (words .exit) ≡ emptied n (now (words .entry)) ⌝ }
+// The answer of a refused load: this node count, and zeros.
+fn refused(q: Refusal, nodes: usize) -> Loaded
+    ensures { λ r. ⌜ r ≡ loaded-as (Refused q) nodes 0 0 0 0 ⌝ }
 {
-    let mut i = 0;
-    while i < n {
-        words[i] = 0;
-        i = i + 1;
+    Loaded {
+        answer: Answer::Refused(q),
+        counts: Counts {
+            nodes: nodes,
+            references: 0,
+            bytes: 0,
+            root: 0,
+        },
+        used: 0,
     }
 }
 
-// Loads what the input's bytes say into the tables; the two lists are scratch.
-pub fn load(
+// Loads a whole input. Nothing is zeroed that is written over: of the tables what is left at the end, of the lists all at
+// the end.
+fn load_whole(
     input: &[u8],
     nodes: &mut [u32],
     references: &mut [u32],
@@ -483,71 +520,123 @@ pub fn load(
         input.len(),
     );
     if w != 0 {
-        return Loaded {
-            answer: Answer::Refused(Refusal::BadTables(w)),
-            counts: Counts {
-                nodes: 0,
-                references: 0,
-                bytes: 0,
-                root: 0,
-            },
-            used: 0,
-        };
+        return refused(Refusal::BadTables(w), 0);
     }
-    zero_all(nodes, references, bytes, symbols, objects);
     let mut c = [0usize; 6];
     c[NODES] = 1;
-    match read_header(&input[..], &mut c) {
-        Read::Value(_) => match read_value(
-            &input[..],
-            nodes,
-            references,
-            bytes,
-            symbols,
-            objects,
-            &mut c,
-            limit,
-            limit,
-        ) {
-            Read::Value(h) => {
-                let listed = c[SYMBOLS];
-                let numbered = c[OBJECTS];
-                zero_first(symbols, listed);
-                zero_first(objects, numbered);
-                Loaded {
-                    answer: Answer::Accepted,
-                    counts: Counts {
-                        nodes: c[NODES],
-                        references: c[REFERENCES],
-                        bytes: c[BYTES],
-                        root: h,
-                    },
-                    used: c[AT],
-                }
-            }
-            Read::Refused(r) => {
-                zero_all(nodes, references, bytes, symbols, objects);
-                Loaded {
-                    answer: Answer::Refused(r),
-                    counts: Counts {
-                        nodes: 1,
-                        references: 0,
-                        bytes: 0,
-                        root: 0,
-                    },
-                    used: 0,
-                }
-            }
-        },
-        Read::Refused(r) => Loaded {
-            answer: Answer::Refused(r),
-            counts: Counts {
-                nodes: 1,
-                references: 0,
-                bytes: 0,
-                root: 0,
-            },
-            used: 0,
-        },
+    put_node(nodes, 0, Node::NIL, 0, 0, 0, 0, 0, 0);
+    let h = read_root(
+        &input[..],
+        nodes,
+        references,
+        bytes,
+        symbols,
+        objects,
+        &mut c,
+        limit,
+    );
+    zero_words(symbols, 0);
+    zero_words(objects, 0);
+    if REFUSED <= h {
+        zero_words(nodes, 0);
+        zero_words(references, 0);
+        zero_bytes(bytes, 0);
+        return refused(refusal_of(h, limit), 1);
     }
+    zero_words(nodes, c[NODES] * Node::WIDTH);
+    zero_words(references, c[REFERENCES]);
+    zero_bytes(bytes, c[BYTES]);
+    Loaded {
+        answer: Answer::Accepted,
+        counts: Counts {
+            nodes: c[NODES],
+            references: c[REFERENCES],
+            bytes: c[BYTES],
+            root: h as u32,
+        },
+        used: c[AT],
+    }
+}
+
+// The offset, or the end where it is past it.
+fn inside(at: usize, length: usize) -> usize
+    ensures { λ r. ⌜ (r ≤ length) × (at ≤ length → r ≡ at) × (length < at → r ≡ length) ⌝ }
+{
+    if at < length {
+        return at;
+    }
+    length
+}
+
+// Loads what stands at an offset of an input, past the end nothing.
+pub fn load_at(
+    input: &[u8],
+    at: usize,
+    nodes: &mut [u32],
+    references: &mut [u32],
+    bytes: &mut [u8],
+    symbols: &mut [u32],
+    objects: &mut [u32],
+    limit: u32,
+) -> Loaded
+    ensures { λ r. ⌜ call r (lists (now (nodes .exit)) (now (references .exit)) (now (bytes .exit)) (now (symbols .exit)) (now (objects .exit))) ≡ load-next (now (input .entry)) at (lists (now (nodes .entry)) (now (references .entry)) (now (bytes .entry)) (now (symbols .entry)) (now (objects .entry))) limit ⌝ }
+{
+    let from = inside(at, input.len());
+    load_whole(
+        &input[from..],
+        nodes,
+        references,
+        bytes,
+        symbols,
+        objects,
+        limit,
+    )
+}
+
+// Loads what stands at a reader's offset into the tables; the two lists are scratch. The next load begins at the offset with
+// the bytes used added: none where it is refused.
+pub fn load_next<'a>(
+    r: Reader<'a>,
+    nodes: &mut [u32],
+    references: &mut [u32],
+    bytes: &mut [u8],
+    symbols: &mut [u32],
+    objects: &mut [u32],
+    limit: u32,
+) -> Loaded
+    ensures { λ l. ⌜ call l (lists (now (nodes .exit)) (now (references .exit)) (now (bytes .exit)) (now (symbols .exit)) (now (objects .exit))) ≡ load-next (now (r .entry .input)) (r .entry .offset) (lists (now (nodes .entry)) (now (references .entry)) (now (bytes .entry)) (now (symbols .entry)) (now (objects .entry))) limit ⌝ }
+{
+    load_at(
+        r.input,
+        r.offset,
+        nodes,
+        references,
+        bytes,
+        symbols,
+        objects,
+        limit,
+    )
+}
+
+// Loads what the input's bytes say into the tables; the two lists are scratch.
+pub fn load(
+    input: &[u8],
+    nodes: &mut [u32],
+    references: &mut [u32],
+    bytes: &mut [u8],
+    symbols: &mut [u32],
+    objects: &mut [u32],
+    limit: u32,
+) -> Loaded
+    ensures { λ r. ⌜ call r (lists (now (nodes .exit)) (now (references .exit)) (now (bytes .exit)) (now (symbols .exit)) (now (objects .exit))) ≡ load-call (now (input .entry)) (lists (now (nodes .entry)) (now (references .entry)) (now (bytes .entry)) (now (symbols .entry)) (now (objects .entry))) limit ⌝ }
+{
+    load_next(
+        start(input),
+        nodes,
+        references,
+        bytes,
+        symbols,
+        objects,
+        limit,
+    )
 }

@@ -24,17 +24,13 @@ use Rattle.load_forest.specs.Readers.{load-traced, read-byte-then, read-
 use Rattle.states.specs.States.{with-node, with-symbol, with-object-node, with-bytes, with-word, with-row, with-room}
 use Rattle.states.specs.Rows.{list-length, Listed, is-array, is-hash, Varied, varied-string, varied-user}
 
--- every entry is a byte
-abbrev pub AreBytes : List ℕ → Type 0
-AreBytes l = Below 256 l
-
-pub part-bytes : (input b : List ℕ) → AreBytes input → Part input b → AreBytes b
+pub part-bytes : (input b : List ℕ) → Below 256 input → Part input b → Below 256 b
 part-bytes input b h (i, n, e) k v a = h (i + k) v (range-at input n i k v (rw e at a))
 
 -- ---- the integer
 
 -- n bytes over the bits above stay below (above + 1) · 256ⁿ
-little-below : (bs : List ℕ) (above : ℕ) → AreBytes bs → little bs above < (above + 1) * 256 ^ length bs
+little-below : (bs : List ℕ) (above : ℕ) → Below 256 bs → little bs above < (above + 1) * 256 ^ length bs
 unfolding little
 little-below [] above h = omega arith
 little-below (b ∷ bs) above h =
@@ -79,7 +75,7 @@ form-fits b h =
     (λ e₂. choose (leb b 251) _ _ (λ e. mod-lt (2 ^ 32 + b - 251) (omega arith))
     (λ e₃. let l = leb-false b 251 e₃ in ones-fit (b - 252) b (omega arith) (omega arith)))))
 
-form-below : (input : List ℕ) → AreBytes input → (f : Form) → Fits f → (s t : State) (w : ℕ) → L.read-form input f s ≡ ok w t → w < 4294967296
+form-below : (input : List ℕ) → Below 256 input → (f : Form) → Fits f → (s t : State) (w : ℕ) → L.read-form input f s ≡ ok w t → w < 4294967296
 unfolding L.read-form _>>=_ pure Fits
 form-below input h (form-value x) g s t w e = let z : x ≡ w = cc in omega arith
 form-below input h (data-bytes n above) g s t w e =
@@ -89,7 +85,7 @@ form-below input h (data-bytes n above) g s t w e =
     let q : little bs above < (above + 1) * 256 ^ n = rw (length-range-in input (s .at) n l) at (little-below bs above (part-bytes input bs h (s .at, n, refl))) in
     omega arith
 
-pub integer-below : (input : List ℕ) → AreBytes input → (s t : State) (w : ℕ) → L.read-integer input s ≡ ok w t → w < 4294967296
+pub integer-below : (input : List ℕ) → Below 256 input → (s t : State) (w : ℕ) → L.read-integer input s ≡ ok w t → w < 4294967296
 unfolding L.read-integer _>>=_
 integer-below input h s t w e =
     read-byte-then input s _ w t e λ l e₁.
@@ -99,12 +95,12 @@ integer-below input h s t w e =
 
 pub record Small (s : State) : Type 0 where
   pub fixnums : (i w : ℕ) → At (s .nodes) i (fixnum w) → w < 4294967296
-  pub bytes : AreBytes (s .bytes)
+  pub bytes : Below 256 (s .bytes)
 
 small-same : (s t : State) → t .nodes ≡ s .nodes → t .bytes ≡ s .bytes → Small s → Small t
 small-same s t n b x = record { fixnums = λ i w a. x .fixnums i w (rw n at a); bytes = λ k v a. x .bytes k v (rw b at a) }
 
-small-bytes : (b : List ℕ) (s : State) → AreBytes b → Small s → Small (with-bytes b s)
+small-bytes : (b : List ℕ) (s : State) → Below 256 b → Small s → Small (with-bytes b s)
 small-bytes b s h x = record { fixnums = x .fixnums; bytes = below-join 256 (s .bytes) b (x .bytes) h }
 
 small-node : (r : Row) (s : State) → ((w : ℕ) → r ≡ fixnum w → w < 4294967296) → Small s → Small (with-node r s)
@@ -121,7 +117,7 @@ small-row i r s h x = record { fixnums = λ k w a. go k w (at-set-inv (s .nodes)
     go k w (inl a) = absurd (h w (psym (a .1)))
     go k w (inr a) = x .fixnums k w (a .1)
 
-plain-small : {input : List ℕ} → AreBytes input → (r : Row) → Plain input r → (w : ℕ) → r ≡ fixnum w → w < 4294967296
+plain-small : {input : List ℕ} → Below 256 input → (r : Row) → Plain input r → (w : ℕ) → r ≡ fixnum w → w < 4294967296
 plain-small h r plain-nil w e = apart (cc)
 plain-small h r (plain-bool b) w e = apart (cc)
 plain-small {input = input} h r (plain-fixnum v s t x) w e = let z : v ≡ w = cc in rw (← z) (integer-below input h s t v x)
@@ -137,7 +133,7 @@ varied-no-fixnum r r′ varied-user w e = apart (cc)
 small-opened : (r : Row) (s : State) → ((w : ℕ) → r ≡ fixnum w → ⊥) → Small s → Small (with-object-node r s)
 small-opened r s h x = small-same (with-node r s) (with-object-node r s) refl refl (small-node r s (λ w e. absurd (h w e)) x)
 
-small : {input : List ℕ} {room : Room} {m : Mode} {s t : State} {vs : List ℕ} → Trace input room m s vs t → AreBytes input → Small s → Small t
+small : {input : List ℕ} {room : Room} {m : Mode} {s t : State} {vs : List ℕ} → Trace input room m s vs t → Below 256 input → Small s → Small t
 small {s = s} (reading k a b x) h y = small x h (small-same s (at-set k s) refl refl y)
 small (reading-after {t = t} k a b x) h y = small-same t (at-set k t) refl refl (small x h y)
 small {s = s} (plain r p l) h y = small-node r s (plain-small h r p) y
@@ -171,5 +167,5 @@ begin-small = record { fixnums = λ i w a. one i w a; bytes = λ k v a. apart (c
     one zero w a = apart (cc)
     one (suc i) w a = apart (cc)
 
-pub load-small : (input : List ℕ) (room : Room) (limit h : ℕ) (s : State) → AreBytes input → load input room limit ≡ ok h s → Small s
+pub load-small : (input : List ℕ) (room : Room) (limit h : ℕ) (s : State) → Below 256 input → load input room limit ≡ ok h s → Small s
 load-small input room limit h s b e = small (load-traced input room limit s h e) b begin-small

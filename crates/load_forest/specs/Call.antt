@@ -2,7 +2,7 @@
 use Prim.Native.Nat.{ℕ, zero, suc, _+_, _-_, _/_, _%_, _≤_, _<_}
 use mathlib.Core.Path.{_≡_, refl, ap}
 use mathlib.Core.Path.{_∙_}
-use mathlib.Core.Bool.{Bool, true, false, not, _||_}
+use mathlib.Core.Bool.{Bool, true, false}
 use mathlib.Core.Logic.{_≢_}
 use mathlib.Core.Option.{none}
 use mathlib.Core.List.{List, [], _∷_, _++_, append-assoc}
@@ -17,6 +17,7 @@ use Rattle.definition.specs.Load.{State, Room, Lists, lists, room-of, load, loa
 use Rattle.definition.specs.declared.Answer.the-variants.{Accepted, Refused}
 use Rattle.definition.specs.declared.Counts.{Counts}
 use Rattle.definition.specs.declared.Refusal.{Refusal}
+use Rattle.lists.specs.Joined.{or-none}
 use Rattle.lists.specs.Lists.{At, apart}
 use Rattle.lists.specs.Words.{equal-self, length-words, length-flat}
 use Rattle.lists.specs.Tables.{counts-fit-yes, fault-none}
@@ -120,10 +121,6 @@ pub load-used : (input : List ℕ) (room : Room) (limit h : ℕ) (s : State) →
 load-used input room limit h s e = forwards (load-traced input room limit s h e) .ends (omega arith)
 
 -- ---- what is lent is allowed
-
-pub or-none : (a b : Bool) → a || b ≡ false → (a ≡ false) × (b ≡ false)
-or-none false b e = (refl, e)
-or-none true b e = apart (cc)
 
 pub lowest-none : (k : ℕ) (b : Bool) (ts : List (ℕ × Bool)) → lowest ((suc k, b) ∷ ts) ≡ 0 → (b ≡ false) × (lowest ts ≡ 0)
 unfolding lowest pick

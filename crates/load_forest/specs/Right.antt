@@ -16,7 +16,9 @@ use Rattle.definition.specs.Load.{State, Room, at-set, begin, load}
 use Rattle.lists.specs.Lists.{At, at-lt, at-app, at-snoc, at-snoc-inv, at-set-same, at-set-other, at-set-inv, len-snoc, apart, Below, below-up, below-snoc, below-first, below-join, no-at, below-one}
 use Rattle.lists.specs.Ranges.{range-more}
 use Rattle.graph.specs.Forest.{sym}
-use Rattle.graph.specs.View.{arena-of, state-seen, Name}
+use Rattle.graph.specs.View.{arena-of, state-seen}
+use Rattle.well_formed.specs.Nodes.{Name}
+use Rattle.well_formed.specs.Right.{name-below}
 use Rattle.states.specs.States.{keeps-refl, keeps-trans, with-node, with-object, with-symbol, with-object-node, with-bytes, with-words, with-word, with-row, with-room, with-new-symbol}
 use Rattle.load_forest.specs.Trace.{Mode, value, name, elements, pairs, One, Plain, plain-nil, plain-bool, plain-fixnum, Trace, reading, reading-after, plain, known, new, symbol-link, object-link, list, hash-default, object-pairs, string-bytes, user-bytes, variables, no-elements, element, no-pairs, pair}
 use Rattle.load_forest.specs.Readers.{load-traced}
@@ -38,9 +40,6 @@ pub record Right (s : State) : Type 0 where
   pub rows : (i : ℕ) (r : Row) → At (s .nodes) i r → RowRight s r
   pub objects : Below (length (s .nodes)) (s .objects)
   pub symbols : (k c : ℕ) → At (s .symbols) k c → IsName s c
-
-pub name-below : (s : State) (c : ℕ) → IsName s c → c < length (s .nodes)
-name-below s c (a, l, e) = at-lt (s .nodes) c (symbol a l) e
 
 pub name-kept : {s t : State} (c : ℕ) → Kept s t → IsName s c → IsName t c
 name-kept c κ (a, l, e) = (a, l, κ .stands c (symbol a l) tt e)
@@ -161,8 +160,8 @@ given-value : (t : State) (v : ℕ) → v < length (t .nodes) → Given value t 
 given-value t v h = record { below = below-one _ v h; named = λ k c a. no-at k c a }
 
 given-name : (m : Mode) → One m → (t : State) (v : ℕ) → IsName t v → Given m t (v ∷ [])
-given-name value o t v n = given-value t v (name-below t v n)
-given-name name o t v n = record { below = below-one _ v (name-below t v n); named = names-first (arena-of t 0) v [] n (λ k c a. no-at k c a) }
+given-name value o t v n = given-value t v (name-below (arena-of t 0) v n)
+given-name name o t v n = record { below = below-one _ v (name-below (arena-of t 0) v n); named = names-first (arena-of t 0) v [] n (λ k c a. no-at k c a) }
 given-name (elements n i) o t v x = absurd o
 given-name (pairs n i) o t v x = absurd o
 
@@ -205,7 +204,7 @@ string-right s a l i = bare s (string a l absent) i refl refl
 
 user-right : (s : State) (a l c : ℕ) → Inside s (user a l c absent) → IsName s c → RowRight s (user a l c absent)
 unfolding links row-names vars-links firsts
-user-right s a l c i n = record { inside = i; below = below-one _ c (name-below s c n); names = names-first (arena-of s 0) c [] n (λ k d a. no-at k d a) }
+user-right s a l c i n = record { inside = i; below = below-one _ c (name-below (arena-of s 0) c n); names = names-first (arena-of s 0) c [] n (λ k d a. no-at k d a) }
 
 listed-right : {p : ℕ} (s : State) (r : Row) (ms : List ℕ) → Listed p r → Inside s r → range (s .references) p (list-length r) ≡ ms → Below (length (s .nodes)) ms → RowRight s r
 unfolding links row-names list-length default-link
@@ -228,7 +227,7 @@ object-right : (s : State) (p n c : ℕ) (ms : List ℕ) → Inside s (object p 
 unfolding links row-names
 object-right s p n c ms i e x b h = record {
   inside = i;
-  below = below-first _ c (range (s .references) p (n * 2)) (name-below s c x) (λ k v a. b k v (rw e at a));
+  below = below-first _ c (range (s .references) p (n * 2)) (name-below (arena-of s 0) c x) (λ k v a. b k v (rw e at a));
   names = names-first (arena-of s 0) c (firsts (range (s .references) p (n * 2))) x (λ k d a. h k d (subst (λ (l : List ℕ). At (firsts l) k d) e a));
 }
 
@@ -375,7 +374,7 @@ done-pair t u w n i c v vs κ₁ κ₂ g₁ g₂ x =
     record {
       right = x .right;
       given = record {
-        below = below-first _ c (v ∷ vs) (name-below w c m₃) (below-first _ v vs (omega (arith, κ₂ .grows, g₂ .below 0 v refl)) (x .given .below));
+        below = below-first _ c (v ∷ vs) (name-below (arena-of w 0) c m₃) (below-first _ v vs (omega (arith, κ₂ .grows, g₂ .below 0 v refl)) (x .given .below));
         named = names-first (arena-of w 0) c (firsts vs) m₃ (x .given .named);
       };
     }

@@ -5,6 +5,7 @@
 // nodes, references and bytes is laid out; then those node words and references. Bytes follow, padded to a word: those
 // laid out, then the input.
 use definition::Loaded;
+use definition::Node;
 use load::load;
 use replay::bytes_agree;
 use replay::fill_bytes;
@@ -198,7 +199,7 @@ fn replay_all(
 
 fn main() {
     let mut data = [0u8; 131072];
-    let mut nodes = [0u32; 7000];
+    let mut nodes = [0u32; 1000 * Node::WIDTH];
     let mut references = [0u32; 4000];
     let mut bytes = [0u8; 16384];
     let mut symbols = [0u32; 1000];

@@ -9,13 +9,8 @@ use Rattle.definition.specs.Run.{Outcome, ok, refused, pure, refuse, next, _>>=
 use Rattle.definition.specs.Node.{Row, nil, bool, fixnum, symbol, array, hash, object, string, user, absent, present, words}
 use Rattle.definition.specs.Load.{Room, State, Reader, Lists}
 use Rattle.definition.specs.declared.Refusal.{Refusal}
-use Rattle.loader.specs.Holds.{Holds, Held, Grown, Goes, Meets, Sees, Does, Trying, Opening, Plain, Free, nodes-of, references-of}
-use Rattle.loader.specs.declared.Read.{Read}
-use Rattle.loader.specs.declared.Read.the-variants.{Value, Refused}
-use Rattle.loader.specs.declared.Tried.{Tried}
-use Rattle.loader.specs.declared.Tried.the-variants.{Taken, Failed, Other}
-use Rattle.loader.specs.declared.Opened.{Opened}
-use Rattle.loader.specs.declared.Opened.the-variants.{Open, Unopened}
+use Rattle.loader.specs.Holds.{Holds, Held, Grown, Goes, Refuses, Leads, Meets, Plain, Free, nodes-of, references-of}
+use Rattle.reader.specs.Answers.{refusal-at}
 use Rattle.lists.specs.Words.{length-flat}
 use Rattle.loader.proofs.Stores.{at-held, flat-word}
 
@@ -40,17 +35,6 @@ bind-assoc m f g s = next-assoc (m s) f g
 grown-same : (s : State) → Grown s s
 grown-same s = record { nodes = omega arith; references = omega arith; plain = λ i l p. p }
 
-module _ {A : Type 0} {view : List ℕ → ℕ → A} {input : List ℕ} {room : Room} where
-  pub told : {m : Reader A} {T T' : Lists} {c : List ℕ} {c' : List ℕ} {r r' : Read} → r ≡ r' → Sees view input room m T c r T' c' → Sees view input room m T c r' T' c'
-  told {m} {T} {T'} {c} {c'} e k = subst (λ r. Sees view input room m T c r T' c') e k
-
-  pub bind : {B : Type 0} {m : Reader A} {T T' : Lists} {c c' : List ℕ} {h : ℕ} {r : Read} (f : A → Reader B) → r ≡ Value h → Sees view input room m T c r T' c' → Goes input room (m >>= f) T c (f (view c' h)) T' c'
-  bind {m = m} {c' = c'} {h = h} f e k' = let k = told e k' in record { goes = λ s H. let w = k .meets .goes s H in record { state = w .state; holds = w .holds; same = bind-ok m f s (w .state) (view c' h) (w .same); grown = w .grown } }
-
-module _ {A B : Type 0} {view : List ℕ → ℕ → A} {view' : List ℕ → ℕ → B} {input : List ℕ} {room : Room} where
-  pub stop : {m : Reader A} {T T' T'' : Lists} {c c' c'' : List ℕ} {q : Refusal} {r : Read} (f : A → Reader B) → r ≡ Refused q → Sees view input room m T c r T' c' → Sees view' input room (m >>= f) T c (Refused q) T'' c''
-  stop {m} {q = q} f e k = record { meets = λ s H. bind-refused m f s q (told e k .meets s H) }
-
 pub then : {A : Type 0} {input : List ℕ} {room : Room} {m m' m'' : Reader A} {T T' T'' : Lists} {c c' c'' : List ℕ} → Goes input room m T c m' T' c' → Goes input room m' T' c' m'' T'' c'' → Goes input room m T c m'' T'' c''
 then a b = record {
   goes = λ s H.
@@ -59,20 +43,62 @@ then a b = record {
       record { state = v .state; holds = v .holds; same = w .same ∙ v .same; grown = record { nodes = omega arith; references = omega arith; plain = λ i l p. v .grown .plain i (omega (arith, w .grown .nodes)) (w .grown .plain i l p) } };
 }
 
-module _ {A : Type 0} {view : List ℕ → ℕ → A} {input : List ℕ} {room : Room} where
-  pub ends : {m m' : Reader A} {T T' T'' : Lists} {c c' c'' : List ℕ} {r : Read} → Goes input room m T c m' T' c' → Sees view input room m' T' c' r T'' c'' → Sees view input room m T c r T'' c''
-  ends {r = Value h} a k = record { meets = then a (k .meets) }
-  ends {r = Refused q} a k = record { meets = λ s H. let w = a .goes s H in w .same ∙ k .meets (w .state) (w .holds) }
-
 pub still : {A : Type 0} {input : List ℕ} {room : Room} {m m' : Reader A} {T : Lists} {c : List ℕ} → ((s : State) → Holds input room s T c → m s ≡ m' s) → Goes input room m T c m' T c
 still e = record { goes = λ s H. record { state = s; holds = H; same = e s H; grown = grown-same s } }
 
--- what is held goes on to be held
-pub held-there : {A : Type 0} {input : List ℕ} {T T' : Lists} {c c' : List ℕ} {m m' : Room → Reader A} → Held input T c → ((room : Room) → Goes input room (m room) T c (m' room) T' c') → Held input T' c'
-held-there d k = let w = k (d .room) .goes (d .state) (d .holds) in record { room = d .room; state = w .state; holds = w .holds }
+-- the reader left by another name
+pub goes-to : {A : Type 0} {input : List ℕ} {room : Room} {m m' n' : Reader A} {T T' : Lists} {c c' : List ℕ} → m' ≡ n' → Goes input room m T c m' T' c' → Goes input room m T c n' T' c'
+goes-to {input = input} {room} {m} {T = T} {T'} {c} {c'} e g = subst (λ x. Goes input room m T c x T' c') e g
 
-pub held : {A : Type 0} {view : List ℕ → ℕ → A} {input : List ℕ} {T T' : Lists} {c c' : List ℕ} {m : Room → Reader A} {h : ℕ} {r : Read} → Held input T c → r ≡ Value h → ((room : Room) → Sees view input room (m room) T c r T' c') → Held input T' c'
-held d e k = let w = told e (k (d .room)) .meets .goes (d .state) (d .holds) in record { room = d .room; state = w .state; holds = w .holds }
+-- a step that goes, and then the rest
+pub goes-first : {A B : Type 0} {input : List ℕ} {room : Room} {m : Reader A} {a : A} {T T' : Lists} {c c' : List ℕ} (f : A → Reader B) → Goes input room m T c (pure a) T' c' → Goes input room (m >>= f) T c (f a) T' c'
+goes-first {m = m} {a = a} f g = record { goes = λ s H. let w = g .goes s H in record { state = w .state; holds = w .holds; same = bind-ok m f s (w .state) a (w .same); grown = w .grown } }
+
+-- ---- by the number answered
+
+-- the first step of more
+pub lead-first : {A B : Type 0} {input : List ℕ} {room : Room} {limit : ℕ} {m : Reader A} {a : A} {T T' : Lists} {c c' : List ℕ} {r : ℕ} (f : A → Reader B) → Leads input room limit m (pure a) T c r T' c' → Leads input room limit (m >>= f) (f a) T c r T' c'
+lead-first {limit = limit} {m = m} {r = r} f k = record { goes = λ l. goes-first f (k .goes l); stops = λ l. record { refuses = λ s H. bind-refused m f s (refusal-at limit r) (k .stops l .refuses s H) } }
+
+module _ {A : Type 0} {input : List ℕ} {room : Room} {limit : ℕ} where
+  -- what was done before
+  pub lead-after : {m m' m'' : Reader A} {T T' T'' : Lists} {c c' c'' : List ℕ} {r : ℕ} → Goes input room m T c m' T' c' → Leads input room limit m' m'' T' c' r T'' c'' → Leads input room limit m m'' T c r T'' c''
+  lead-after a k = record { goes = λ l. then a (k .goes l); stops = λ l. record { refuses = λ s H. let w = a .goes s H in w .same ∙ k .stops l .refuses (w .state) (w .holds) } }
+
+  -- a refusal is handed on
+  pub lead-stop : {m m' m'' : Reader A} {T T' T'' : Lists} {c c' c'' : List ℕ} {r : ℕ} → 4294967296 ≤ r → Leads input room limit m m' T c r T' c' → Leads input room limit m m'' T c r T'' c''
+  lead-stop h k = record { goes = λ l. absurd (omega (arith, h, l)); stops = k .stops }
+
+  -- the reader by another name
+  pub lead-as : {m n m' : Reader A} {T T' : Lists} {c c' : List ℕ} {r : ℕ} → m ≡ n → Leads input room limit n m' T c r T' c' → Leads input room limit m m' T c r T' c'
+  lead-as {m' = m'} {T} {T'} {c} {c'} {r} e k = subst (λ x. Leads input room limit x m' T c r T' c') (sym e) k
+
+  -- what a refusal or a value is made of
+  pub denied : {m m' : Reader A} {T T' : Lists} {c c' : List ℕ} {r : ℕ} (q : Refusal) → 4294967296 ≤ r → refusal-at limit r ≡ q → Refuses input room m T c q → Leads input room limit m m' T c r T' c'
+  denied q h e k = record { goes = λ l. absurd (omega (arith, h, l)); stops = λ l. record { refuses = λ s H. k .refuses s H ∙ ap refused (sym e) } }
+
+  pub given : {m m' : Reader A} {T T' : Lists} {c c' : List ℕ} {r : ℕ} → ((s : State) → Holds input room s T c → r < 4294967296) → Goes input room m T c m' T' c' → Leads input room limit m m' T c r T' c'
+  given {r = r} h k = record { goes = λ l. k; stops = λ l. record { refuses = λ s H. absurd (omega (arith, l, h s H)) } }
+
+-- the number by another name
+pub met-as : {input : List ℕ} {room : Room} {limit : ℕ} {m : Reader ℕ} {T T' : Lists} {c c' : List ℕ} {r r' : ℕ} → r' ≡ r → Meets input room limit m T c r T' c' → Meets input room limit m T c r' T' c'
+met-as {input} {room} {limit} {m} {T} {T'} {c} {c'} e k = subst (λ x. Meets input room limit m T c x T' c') (sym e) k
+
+-- nothing more to do; a refusal and nothing else
+pub gives : {A : Type 0} {input : List ℕ} {room : Room} {limit : ℕ} {T : Lists} {c : List ℕ} {r : ℕ} (a : A) → r < 4294967296 → Leads input room limit (pure a) (pure a) T c r T c
+gives a l = given (λ s H. l) (still (λ s H. refl))
+
+pub refuses : {A : Type 0} {input : List ℕ} {room : Room} {limit : ℕ} {m' : Reader A} {T T' : Lists} {c c' : List ℕ} {r : ℕ} (q : Refusal) → 4294967296 ≤ r → refusal-at limit r ≡ q → Leads input room limit (refuse q) m' T c r T' c'
+unfolding refuse
+refuses q h e = denied q h e (record { refuses = λ s H. refl })
+
+-- ---- what is held goes on to be held
+
+pub held-goes : {A : Type 0} {input : List ℕ} {T T' : Lists} {c c' : List ℕ} {m m' : Room → Reader A} → Held input T c → ((room : Room) → Goes input room (m room) T c (m' room) T' c') → Held input T' c'
+held-goes d k = let w = k (d .room) .goes (d .state) (d .holds) in record { room = d .room; state = w .state; holds = w .holds }
+
+pub held : {A : Type 0} {input : List ℕ} {T T' : Lists} {c c' : List ℕ} {m m' : Room → Reader A} {r limit : ℕ} → Held input T c → r < 4294967296 → ((room : Room) → Leads input room limit (m room) (m' room) T c r T' c') → Held input T' c'
+held {m = m} {m' = m'} d l k = held-goes {m = m} {m' = m'} d (λ room. k room .goes l)
 
 -- ---- what grew, by tables and counts
 
@@ -136,63 +162,8 @@ grew-there d k =
       free = λ i l f. plain-free H' i (omega (arith, w .grown .nodes, H .count-nodes, H' .count-nodes)) (w .grown .plain i (there H i l) (free-plain H i l f));
     }
 
-pub grew : {A : Type 0} {view : List ℕ → ℕ → A} {input : List ℕ} {T T' : Lists} {c c' : List ℕ} {m : Room → Reader A} {h : ℕ} {r : Read} → Held input T c → r ≡ Value h → ((room : Room) → Sees view input room (m room) T c r T' c') → Grew T c T' c'
-grew {view = view} {c' = c'} {m = m} {h = h} d e k = grew-there {m = m} {m' = λ room. pure (view c' h)} d (λ room. told e (k room) .meets)
+pub grew : {A : Type 0} {input : List ℕ} {T T' : Lists} {c c' : List ℕ} {m m' : Room → Reader A} {r limit : ℕ} → Held input T c → r < 4294967296 → ((room : Room) → Leads input room limit (m room) (m' room) T c r T' c') → Grew T c T' c'
+grew {m = m} {m' = m'} d l k = grew-there {m = m} {m' = m'} d (λ room. k room .goes l)
 
--- ---- a reader that only gives or refuses
-
-pub gives : {input : List ℕ} {room : Room} {T : Lists} {c : List ℕ} (h : ℕ) → Meets input room (pure h) T c (Value h) T c
-gives h = record { meets = still (λ s H. refl) }
-
-pub done : {input : List ℕ} {room : Room} {T : Lists} {c : List ℕ} (h : ℕ) → Does input room (pure tt) T c (Value h) T c
-done h = record { meets = still (λ s H. refl) }
-
-pub refuses : {A : Type 0} {view : List ℕ → ℕ → A} {input : List ℕ} {room : Room} {T T' : Lists} {c c' : List ℕ} (q : Refusal) → Sees view input room (refuse q) T c (Refused q) T' c'
-unfolding refuse
-refuses q = record { meets = λ s H. refl }
-
--- the reader by another name
-pub equally : {A : Type 0} {view : List ℕ → ℕ → A} {input : List ℕ} {room : Room} {m m' : Reader A} {T T' : Lists} {c c' : List ℕ} {r : Read} → m ≡ m' → Sees view input room m' T c r T' c' → Sees view input room m T c r T' c'
-equally {A} {view} {input} {room} {T = T} {T'} {c} {c'} {r} e k = subst (λ x. Sees view input room x T c r T' c') (sym e) k
-
--- ---- a value tried
-
-module _ {input : List ℕ} {room : Room} {m : Reader ℕ} {T T' : Lists} {c c' : List ℕ} where
-  pub taken : {h : ℕ} {r : Read} → r ≡ Value h → Meets input room m T c r T' c' → Trying input room m T c (Taken h) T' c'
-  taken e k = record { tries = told e k .meets }
-
-  pub failed : {q : Refusal} {r : Read} → r ≡ Refused q → Meets input room m T c r T' c' → Trying input room m T c (Failed q) T' c'
-  failed e k = record { tries = told e k .meets }
-
-  tried : {r r' : Tried} → r ≡ r' → Trying input room m T c r T' c' → Trying input room m T c r' T' c'
-  tried e k = subst (λ r. Trying input room m T c r T' c') e k
-
-  pub tried-taken : {h : ℕ} {r : Tried} → r ≡ Taken h → Trying input room m T c r T' c' → Meets input room m T c (Value h) T' c'
-  tried-taken e k = record { meets = tried e k .tries }
-
-  pub tried-failed : {q : Refusal} {r : Tried} → r ≡ Failed q → Trying input room m T c r T' c' → Meets input room m T c (Refused q) T' c'
-  tried-failed e k = record { meets = tried e k .tries }
-
-  pub tried-other : {r : Tried} → r ≡ Other → Trying input room m T c r T' c' → Goes input room m T c m T' c'
-  tried-other e k = tried e k .tries
-
-pub untried : {input : List ℕ} {room : Room} {m : Reader ℕ} {T : Lists} {c : List ℕ} → Trying input room m T c Other T c
-untried = record { tries = still (λ s H. refl) }
-
--- ---- a list of members opened
-
-module _ {input : List ℕ} {room : Room} {m : Reader ℕ} {k : ℕ → ℕ → ℕ → ℕ → Reader ℕ} {T T' : Lists} {c c' : List ℕ} where
-  open-told : {r r' : Opened} → r ≡ r' → Opening input room m k T c r T' c' → Opening input room m k T c r' T' c'
-  open-told e o = subst (λ x. Opening input room m k T c x T' c') e o
-
-  pub goes-on : {r : Opened} {h w p n : ℕ} → r ≡ Open h w p n → Opening input room m k T c r T' c' → Goes input room m T c (k h w p n) T' c'
-  goes-on e o = open-told e o .opens
-
-  pub not-open : {T'' : Lists} {c'' : List ℕ} {r : Opened} {q : Refusal} → r ≡ Unopened q → Opening input room m k T c r T' c' → Meets input room m T c (Refused q) T'' c''
-  not-open e o = record { meets = open-told e o .opens }
-
-  pub opened : {h w p n : ℕ} → Goes input room m T c (k h w p n) T' c' → Opening input room m k T c (Open h w p n) T' c'
-  opened g = record { opens = g }
-
-  pub unopened : {q : Refusal} → Meets input room m T c (Refused q) T' c' → Opening input room m k T c (Unopened q) T' c'
-  unopened g = record { opens = g .meets }
+pub still-below : {T T' : Lists} {c c' : List ℕ} {h : ℕ} → h < nodes-of c → Grew T c T' c' → h < nodes-of c'
+still-below l g = omega arith

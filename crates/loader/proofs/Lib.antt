@@ -4,6 +4,5 @@ pub mod Stores
 pub mod Laws
 pub mod Names
 pub mod Steps
-pub mod Little
-pub mod Integers
 pub mod Readers
+pub mod Run

@@ -1,5 +1,5 @@
 -- Symbols by name: among the nodes and on the symbol list.
-use Prim.Native.Nat.{ℕ, zero, suc, _+_, _≤_, _<_}
+use Prim.Native.Nat.{ℕ, zero, suc, _+_, _-_, _≤_, _<_}
 use native.Mathlib.Omega.{arith}
 use native.Mathlib.Numerals.{add-one}
 use native.Mathlib.Nat.{add-zero, zero-add}
@@ -15,6 +15,14 @@ use Rattle.definition.specs.Run.{pick}
 use Rattle.definition.specs.Node.{Row, nil, bool, fixnum, symbol, array, hash, object, string, user, kind, words, equal}
 use Rattle.definition.specs.Arena.{range, name-of, named, find-symbol}
 use Rattle.loader.specs.Holds.{Plain, Symbolic, Fit, AllFit, AllSymbolic, Names, find-listed}
+
+-- a test that did not hold
+pub untrue : {A : Type 0} → false ≡ true → A
+untrue e = absurd (subst test e tt)
+  where
+    test : Bool → Type 0
+    test true = ⊥
+    test false = Unit {0}
 
 -- ---- one row
 
@@ -299,26 +307,28 @@ module _ (input bytes : List ℕ) (from to n i : ℕ) (a : from + n ≤ length i
       let y : i < length rhs = simp (length-take, length-drop) (omega arith) in
       same-cons lhs rhs i x y ∙ ap (λ (v : ℕ). pick (eqb v (getD rhs i 0)) (equal (drop (suc i) lhs) (drop (suc i) rhs)) false) (at-lhs l) ∙ ap (λ (v : ℕ). pick (eqb (getD input (from + i) 0) v) (equal (drop (suc i) lhs) (drop (suc i) rhs)) false) (at-rhs l)
 
-  pub same-more : i < n → getD input (from + i) 0 ≡ getD bytes (to + i) 0 → equal lhs rhs ≡ equal (drop i lhs) (drop i rhs) → equal lhs rhs ≡ equal (drop (i + 1) lhs) (drop (i + 1) rhs)
-  unfolding pick
-  same-more l e p = p ∙ turn l ∙ ap (λ (t : Bool). pick t (equal (drop (suc i) lhs) (drop (suc i) rhs)) false) (eq-eqb _ _ e) ∙ ap (λ (k : ℕ). equal (drop k lhs) (drop k rhs)) (sym (add-one i))
-
-  pub same-not : i < n → (getD input (from + i) 0 ≡ getD bytes (to + i) 0 → ⊥) → equal lhs rhs ≡ equal (drop i lhs) (drop i rhs) → false ≡ equal lhs rhs
-  unfolding pick
-  same-not l e p = sym (p ∙ turn l ∙ ap (λ (t : Bool). pick t (equal (drop (suc i) lhs) (drop (suc i) rhs)) false) (ne-eqb _ _ e))
-
   pub same-apart-at : i < n → (getD input (from + i) 0 ≡ getD bytes (to + i) 0 → ⊥) → false ≡ equal lhs rhs
   same-apart-at l e =
       let x : i < length lhs = simp (length-take, length-drop) (omega arith) in
       let y : i < length rhs = simp (length-take, length-drop) (omega arith) in
       sym (same-apart lhs rhs i x y (λ q. e (sym (at-lhs l) ∙ q ∙ at-rhs l)))
 
-  pub same-all : n ≤ i → equal lhs rhs ≡ equal (drop i lhs) (drop i rhs) → true ≡ equal lhs rhs
+  -- nothing is left to compare
+  pub same-none : equal (drop n lhs) (drop n rhs) ≡ true
   unfolding equal
-  same-all l p =
-      let x : length lhs ≤ i = simp (length-take, length-drop) (omega arith) in
-      let y : length rhs ≤ i = simp (length-take, length-drop) (omega arith) in
-      sym (p ∙ ap (λ (v : List ℕ). equal v (drop i rhs)) (drop-of-length-le lhs x) ∙ ap (λ (v : List ℕ). equal [] v) (drop-of-length-le rhs y))
+  same-none =
+      let x : length lhs ≤ n = simp (length-take, length-drop) (omega arith) in
+      let y : length rhs ≤ n = simp (length-take, length-drop) (omega arith) in
+      ap (λ (v : List ℕ). equal v (drop n rhs)) (drop-of-length-le lhs x) ∙ ap (λ (v : List ℕ). equal [] v) (drop-of-length-le rhs y)
+
+-- one byte more from the end, before which i are left
+pub same-more : (input bytes : List ℕ) (from to n i : ℕ) → from + n ≤ length input → to + n ≤ length bytes → 0 < i → i ≤ n → getD input (from + (i - 1)) 0 ≡ getD bytes (to + (i - 1)) 0 → equal (drop i (take n (drop from input))) (drop i (take n (drop to bytes))) ≡ true → equal (drop (i - 1) (take n (drop from input))) (drop (i - 1) (take n (drop to bytes))) ≡ true
+unfolding pick
+same-more input bytes from to n i a b h l e p =
+    let s : suc (i - 1) ≡ i = omega arith in
+    turn input bytes from to n (i - 1) a b (omega arith)
+    ∙ ap (λ (t : Bool). pick t (equal (drop (suc (i - 1)) (take n (drop from input))) (drop (suc (i - 1)) (take n (drop to bytes)))) false) (eq-eqb _ _ e)
+    ∙ rw s p
 
 -- different lengths
 pub same-length : (X Y : List ℕ) → (length X ≡ length Y → ⊥) → equal X Y ≡ false

@@ -5,68 +5,86 @@ use mathlib.Core.Path.{_≡_, refl, sym, ap, _∙_, subst}
 use mathlib.Core.Bool.{Bool, true, false}
 use mathlib.Core.List.{List}
 use mathlib.Core.Option.{Option, none, some}
+use lib.Dec.{eqb}
 use lib.ListN.{length, getD, set, drop}
 use borrow.Author.Tests.{ne-eqb, eq-eqb}
 use mir.Syntax.{w32}
 use mir.Val.{Fits}
-use Rattle.definition.specs.Run.{pure, pick, look, _>>=_}
+use Rattle.definition.specs.Run.{pure, refuse, pick, look, _>>=_}
 use Rattle.definition.specs.Kind.{NIL, TRUE, FALSE, FIXNUM, SYMBOL, SYMBOL-LINK, OBJECT-LINK, INSTANCE-VARIABLES, ARRAY, HASH, HASH-DEFAULT, OBJECT, STRING, USER-DEFINED}
 use Rattle.definition.specs.Node.{nil, symbol}
 use Rattle.definition.specs.Arena.{find-symbol, named}
-use Rattle.definition.specs.Load.{Room, State, Reader, Lists, Head, Unknown, head, value-of, read-value, read-symbol, read-symbol-link, read-symbol-like, intern, intern-as, add-symbol, add-bytes, add-node}
-use Rattle.definition.specs.declared.Refusal.the-variants.{ShortInput, NotASymbol}
-use Rattle.loader.specs.Holds.{Holds, Held, Goes, Meets, Leaf, Allowed, new-symbol, find-listed, at-of, nodes-of, symbols-of}
-use Rattle.loader.specs.declared.Read.{Read}
-use Rattle.loader.specs.declared.Read.the-variants.{Refused}
+use Rattle.definition.specs.Load.{Room, State, Reader, Lists, Head, Unknown, head, value-of, read-header, read-value, read-symbol, read-symbol-link, read-symbol-like, intern, intern-as, add-symbol, add-bytes, add-node}
+use Rattle.definition.specs.declared.Refusal.the-variants.{NotASymbol, TooDeep}
+use Rattle.loader.specs.Holds.{Holds, Held, Goes, Leads, Does, Leaf, Allowed, new-symbol, find-listed, at-of, nodes-of, symbols-of}
+use Rattle.reader.specs.Answers.{Reads, coded, at-name, at-level}
 use Rattle.loader.proofs.Stores.{at-held}
 use Rattle.loader.proofs.Names.{listed-here, listed-on, listed-none}
-use Rattle.loader.proofs.Laws.{bind, stop, ends, still, equally, refuses, bind-assoc, Grew}
-use Rattle.loader.proofs.Steps.{byte-read, byte-missing}
+use Rattle.loader.proofs.Laws.{still, given, goes-to, goes-first, lead-first, lead-after, lead-stop, lead-as, refuses, bind-assoc}
+use Rattle.loader.proofs.Steps.{moved, byte-goes, byte-missing}
 
 -- ---- a value after its kind byte
 
--- the kind byte is read, and then the rest
-pub kind : {input : List ℕ} {room : Room} {T T' : Lists} {c c' : List ℕ} {r : Read} (limit levels : ℕ) → (levels ≡ 0 → ⊥) → at-of c < length input → Meets input room (value-of input room (read-value input room limit (levels - 1)) (getD input (at-of c) 0) (head (getD input (at-of c) 0))) T (set c 0 (at-of c + 1)) r T' c' → Meets input room (read-value input room limit levels) T c r T' c'
-unfolding read-value
-kind {input} {room} {T} {T'} {c} {c'} {r} limit levels n l k =
-    let a : levels ≡ suc (levels - 1) = omega arith in
-    let m : Meets input room (read-value input room limit (suc (levels - 1))) T c r T' c' = ends (bind (λ k. value-of input room (read-value input room limit (levels - 1)) k (head k)) refl (byte-read l)) k in
-    subst (λ x. Meets input room (read-value input room limit x) T c r T' c') (sym a) m
+module _ {input : List ℕ} {room : Room} {T : Lists} {c : List ℕ} (limit levels : ℕ) where
+  -- the kind byte is read, and the rest is left
+  pub kind-read : (levels ≡ 0 → ⊥) → at-of c < length input → Goes input room (read-value input room limit levels) T c (value-of input room (read-value input room limit (levels - 1)) (getD input (at-of c) 0) (head (getD input (at-of c) 0))) T (set c 0 (at-of c + 1))
+  unfolding read-value
+  kind-read n l =
+      let a : levels ≡ suc (levels - 1) = omega arith in
+      let rest = read-value input room limit (levels - 1) in
+      subst (λ x. Goes input room (read-value input room limit x) T c (value-of input room rest (getD input (at-of c) 0) (head (getD input (at-of c) 0))) T (set c 0 (at-of c + 1))) (sym a) (goes-first (λ k. value-of input room rest k (head k)) (byte-goes l))
 
-pub no-kind : {input : List ℕ} {room : Room} {T T' : Lists} {c c' : List ℕ} (limit levels : ℕ) → (levels ≡ 0 → ⊥) → length input ≤ at-of c → Meets input room (read-value input room limit levels) T c (Refused ShortInput) T' c'
-unfolding read-value
-no-kind {input} {room} {T} {T'} {c} {c'} limit levels n l =
-    let a : levels ≡ suc (levels - 1) = omega arith in
-    subst (λ x. Meets input room (read-value input room limit x) T c (Refused ShortInput) T' c') (sym a) (stop {T' = T} {c' = c} (λ k. value-of input room (read-value input room limit (levels - 1)) k (head k)) refl (byte-missing l))
+  pub kind-missing : {T' : Lists} {c' : List ℕ} {m' : Reader ℕ} → (levels ≡ 0 → ⊥) → length input ≤ at-of c → Leads input room limit (read-value input room limit levels) m' T c (coded 4 0) T' c'
+  unfolding read-value
+  kind-missing {T'} {c'} {m'} n l =
+      let a : levels ≡ suc (levels - 1) = omega arith in
+      subst (λ x. Leads input room limit (read-value input room limit x) m' T c (coded 4 0) T' c') (sym a)
+      (lead-stop {T' = T} {c' = c} (omega arith) (lead-first {a = 0} (λ k. value-of input room (read-value input room limit (levels - 1)) k (head k)) (byte-missing l)))
+
+  pub level-missing : {T' : Lists} {c' : List ℕ} {m' : Reader ℕ} → levels ≡ 0 → Leads input room limit (read-value input room limit levels) m' T c (coded 11 0) T' c'
+  unfolding read-value
+  level-missing {T'} {c'} {m'} e = rw e (refuses (TooDeep limit) (omega arith) (at-level limit))
 
 -- the rest of a value by its head
-pub headed : {input : List ℕ} {room : Room} {T T' : Lists} {c c' : List ℕ} {r : Read} (inner : Reader ℕ) (k : ℕ) (hd : Head) → head k ≡ hd → Meets input room (value-of input room inner k hd) T c r T' c' → Meets input room (value-of input room inner k (head k)) T c r T' c'
-headed {input} {room} inner k hd e m = equally (ap (λ h. value-of input room inner k h) e) m
+pub headed : {input : List ℕ} {room : Room} {limit : ℕ} {T T' : Lists} {c c' : List ℕ} {r : ℕ} {m' : Reader ℕ} (inner : Reader ℕ) (k : ℕ) (hd : Head) → head k ≡ hd → Leads input room limit (value-of input room inner k hd) m' T c r T' c' → Leads input room limit (value-of input room inner k (head k)) m' T c r T' c'
+headed {input} {room} inner k hd e m = lead-as (ap (λ h. value-of input room inner k h) e) m
 
 -- none of the fourteen
 pub other : (k : ℕ) → Leaf k → (k ≡ FIXNUM → ⊥) → (k ≡ SYMBOL-LINK → ⊥) → (k ≡ STRING → ⊥) → (k ≡ SYMBOL → ⊥) → (k ≡ NIL → ⊥) → (k ≡ TRUE → ⊥) → (k ≡ FALSE → ⊥) → (k ≡ OBJECT-LINK → ⊥) → (k ≡ USER-DEFINED → ⊥) → head k ≡ Unknown
 unfolding head pick
 other k l a b c d e f g h i = simp (ne-eqb k FIXNUM a, ne-eqb k SYMBOL-LINK b, ne-eqb k STRING c, ne-eqb k SYMBOL d, ne-eqb k NIL e, ne-eqb k TRUE f, ne-eqb k FALSE g, ne-eqb k OBJECT-LINK h, ne-eqb k USER-DEFINED i, ne-eqb k ARRAY (l .array), ne-eqb k HASH (l .hash), ne-eqb k HASH-DEFAULT (l .default), ne-eqb k OBJECT (l .object), ne-eqb k INSTANCE-VARIABLES (l .variables))
 
+-- ---- the header
+
+module _ {input : List ℕ} {room : Room} {limit : ℕ} {T : Lists} {c : List ℕ} {r : ℕ} where
+  pub header-read : r < 4294967296 → at-of c + 2 ≤ length input → Reads (read-header input) tt (at-of c) r (at-of c + 2) → Does input room limit (read-header input) T c r T (set c 0 (at-of c + 2))
+  header-read l h k = given (λ s H. l) (moved (at-of c + 2) h (λ s H. k .reads l s (sym (H .count-at))))
+
+  pub header-stop : {T' : Lists} {c' : List ℕ} → 4294967296 ≤ r → Reads (read-header input) tt (at-of c) r (at-of c + 2) → Does input room limit (read-header input) T c r T' c'
+  header-stop l k = record { goes = λ h. absurd (omega (arith, l, h)); stops = λ h. record { refuses = λ s H. k .stops h limit s (sym (H .count-at)) } }
+
 -- ---- a name
 
-module _ {input : List ℕ} {room : Room} {T T' : Lists} {c c' : List ℕ} {r : Read} where
-  pub like-symbol : at-of c < length input → getD input (at-of c) 0 ≡ SYMBOL → Meets input room (read-symbol input room) T (set c 0 (at-of c + 1)) r T' c' → Meets input room (read-symbol-like input room) T c r T' c'
-  unfolding read-symbol-like pick
-  like-symbol l e k = ends (bind _ refl (byte-read l)) (equally (simp (eq-eqb _ _ e)) k)
-
-  pub like-link : at-of c < length input → getD input (at-of c) 0 ≡ SYMBOL-LINK → Meets input room (read-symbol-link input) T (set c 0 (at-of c + 1)) r T' c' → Meets input room (read-symbol-like input room) T c r T' c'
-  unfolding read-symbol-like pick
-  like-link l e k = ends (bind _ refl (byte-read l)) (equally (rw e) k)
-
-module _ {input : List ℕ} {room : Room} {T T' : Lists} {c c' : List ℕ} where
-  pub like-neither : at-of c < length input → (getD input (at-of c) 0 ≡ SYMBOL → ⊥) → (getD input (at-of c) 0 ≡ SYMBOL-LINK → ⊥) → Meets input room (read-symbol-like input room) T c (Refused (NotASymbol (getD input (at-of c) 0))) T' c'
-  unfolding read-symbol-like pick
-  like-neither l a b = ends (bind _ refl (byte-read l)) (equally (simp (ne-eqb _ _ a, ne-eqb _ _ b)) (refuses _))
-
-  pub like-missing : length input ≤ at-of c → Meets input room (read-symbol-like input room) T c (Refused ShortInput) T' c'
+module _ {input : List ℕ} {room : Room} {T : Lists} {c : List ℕ} (l : at-of c < length input) where
+  like : Goes input room (read-symbol-like input room) T c (pick (eqb (getD input (at-of c) 0) SYMBOL) (read-symbol input room) (pick (eqb (getD input (at-of c) 0) SYMBOL-LINK) (read-symbol-link input) (refuse (NotASymbol (getD input (at-of c) 0))))) T (set c 0 (at-of c + 1))
   unfolding read-symbol-like
-  like-missing l = stop {T' = T} {c' = c} _ refl (byte-missing l)
+  like = goes-first _ (byte-goes l)
+
+  pub like-symbol : getD input (at-of c) 0 ≡ SYMBOL → Goes input room (read-symbol-like input room) T c (read-symbol input room) T (set c 0 (at-of c + 1))
+  unfolding pick
+  like-symbol e = goes-to (simp (eq-eqb _ _ e)) like
+
+  pub like-link : getD input (at-of c) 0 ≡ SYMBOL-LINK → Goes input room (read-symbol-like input room) T c (read-symbol-link input) T (set c 0 (at-of c + 1))
+  unfolding pick
+  like-link e = goes-to (rw e refl) like
+
+  pub like-neither : {limit : ℕ} {T' : Lists} {c' : List ℕ} {m' : Reader ℕ} → getD input (at-of c) 0 ≤ 255 → (getD input (at-of c) 0 ≡ SYMBOL → ⊥) → (getD input (at-of c) 0 ≡ SYMBOL-LINK → ⊥) → Leads input room limit (read-symbol-like input room) m' T c (coded 9 (getD input (at-of c) 0)) T' c'
+  unfolding pick
+  like-neither {limit} h a b = lead-after (goes-to (simp (ne-eqb _ _ a, ne-eqb _ _ b)) like) (refuses (NotASymbol (getD input (at-of c) 0)) (omega arith) (at-name limit (getD input (at-of c) 0) h))
+
+pub like-missing : {input : List ℕ} {room : Room} {limit : ℕ} {T T' : Lists} {c c' : List ℕ} {m' : Reader ℕ} → length input ≤ at-of c → Leads input room limit (read-symbol-like input room) m' T c (coded 4 0) T' c'
+unfolding read-symbol-like
+like-missing {T = T} {c = c} l = lead-stop {T' = T} {c' = c} (omega arith) (lead-first {a = 0} _ (byte-missing l))
 
 -- ---- a symbol found or made
 
@@ -100,11 +118,11 @@ module _ {input : List ℕ} {T : Lists} {c : List ℕ} (H : Held input T c) wher
   pub next-fits : {h : ℕ} → h < nodes-of c → Fits w32 (h + 1)
   next-fits l = record { fits = omega arith }
 
-pub times-fits : (n e : ℕ) → n < 2147483648 → e ≤ 2 → Fits w32 (n * e)
-times-fits n zero l h = record { fits = omega arith }
-times-fits n (suc zero) l h = record { fits = omega arith }
-times-fits n (suc (suc zero)) l h = record { fits = omega arith }
-times-fits n (suc (suc (suc e))) l h = absurd (omega arith)
+pub twice-at-most : (n e : ℕ) → n < 2147483648 → e ≤ 2 → n * e < 18446744073709551616
+twice-at-most n zero l h = omega arith
+twice-at-most n (suc zero) l h = omega arith
+twice-at-most n (suc (suc zero)) l h = omega arith
+twice-at-most n (suc (suc (suc e))) l h = absurd (omega arith)
 
 pub allowed : {n r b y o : ℕ} → (n ≡ 0 → ⊥) → n ≤ 2147483647 → n % 7 ≡ 0 → r ≤ 2147483647 → b ≤ 2147483647 → y ≤ 2147483647 → o ≤ 2147483647 → Allowed n r b y o
 allowed a b c d e f g = record { whole = omega arith; one = omega arith; nodes-small = b; references-small = d; bytes-small = e; symbols-small = f; objects-small = g }
@@ -126,6 +144,3 @@ module _ {input : List ℕ} {room : Room} {s : State} {T : Lists} {c : List ℕ}
 
   pub found-none : (name : List ℕ) → symbols-of c ≤ i → find-listed (s .bytes) name (s .nodes) (drop i (s .symbols)) ≡ none
   found-none name l = listed-none (s .bytes) name (s .nodes) (s .symbols) i (omega (arith, H .count-symbols))
-
-pub still-below : {T T' : Lists} {c c' : List ℕ} {h : ℕ} → h < nodes-of c → Grew T c T' c' → h < nodes-of c'
-still-below l g = omega arith

@@ -8,19 +8,20 @@ use lib.ListN.{length, take, drop, set, getD, replicate, length-take, length-dro
 use lib.Seq.{sets}
 use borrow.Author.Tests.{lt-ltb, le-ltb, le-leb, lt-leb}
 use Rattle.definition.specs.Run.{Outcome, ok, pure, refuse, next, look, pick, _>>=_}
-use Rattle.definition.specs.Integer.{data-bytes, little}
+use Rattle.definition.specs.Integer.{form, value}
 use Rattle.definition.specs.Node.{Row, nil, bool, fixnum, symbol, array, hash, object, string, user, absent, present, words, flat, equal}
 use Rattle.definition.specs.Arena.{range, named}
-use Rattle.definition.specs.Load.{Room, State, Reader, Lists, lists, at-set, nodes-set, references-set, bytes-set, symbols-set, objects-set, read-byte, read-bytes, read-form, add-node, reserve, add-bytes, add-symbol, add-object, fill, put-reference, entry, set-variables}
+use Rattle.definition.specs.Load.{Room, State, Reader, Lists, lists, at-set, nodes-set, references-set, bytes-set, symbols-set, objects-set, read-byte, read-bytes, read-integer, add-node, reserve, add-bytes, add-symbol, add-object, fill, put-reference, entry, set-variables}
 use Rattle.definition.specs.declared.Refusal.{Refusal}
-use Rattle.definition.specs.declared.Refusal.the-variants.{ShortInput, NotAnObject, NoSpace}
-use Rattle.loader.specs.Holds.{Padded, Holds, Held, Grown, Went, Meets, Sees, Does, AllBelow, Plain, Symbolic, Fit, AllFit, AllSymbolic, Names, Free, span, span-of, new-symbol, settle, at-of, nodes-of, references-of, bytes-of, symbols-of, objects-of}
-use Rattle.loader.specs.declared.Read.the-variants.{Value, Refused}
+use Rattle.definition.specs.declared.Refusal.the-variants.{ShortInput, MissingSymbol, MissingObject, NotAnObject, NoSpace}
+use Rattle.reader.specs.Answers.{coded, at-short, at-symbol, at-object, at-variables, at-space}
+use Rattle.reader.specs.Integers.{size-of, word-of, size-some, integer-read, integer-short, integer-none, integer-small}
+use Rattle.loader.specs.Holds.{Begins, Holds, Held, Grown, Went, Goes, Leads, Meets, Spans, AllBelow, Plain, Symbolic, Fit, AllFit, AllSymbolic, Names, Free, span, span-of, new-symbol, settle, at-of, nodes-of, references-of, bytes-of, symbols-of, objects-of}
 use Rattle.loader.proofs.Counts.{Only, is, none}
 use Rattle.loader.proofs.Counts as K
-use Rattle.loader.proofs.Stores.{push, skip, put, put-row, push-row, at-held, sets-first}
+use Rattle.loader.proofs.Stores.{push, put, put-row, push-row, at-held, sets-first, split}
 use Rattle.loader.proofs.Names.{symbolic-below, symbolic-more, symbolic-set, symbolic-known, symbolic-new, names-bytes, names-more, names-set, names-known, names-new, plain-set, symbol-named, same-length, range-more}
-use Rattle.loader.proofs.Laws.{word, word-0, there, free-plain}
+use Rattle.loader.proofs.Laws.{word, word-0, there, free-plain, denied, given}
 
 -- ---- rows that fit
 
@@ -71,23 +72,23 @@ at-changed : {input : List ℕ} {room : Room} {s : State} {c c' : List ℕ} {T :
 at-changed H o e h = record { small = H .small; counts = o .sized ∙ H .counts; nodes = H .nodes; references = H .references; bytes = H .bytes; symbols = H .symbols; objects = H .objects; count-at = e; inside = h; count-nodes = o .others 1 (omega arith) ∙ H .count-nodes; room-nodes = H .room-nodes; count-references = o .others 2 (omega arith) ∙ H .count-references; count-bytes = o .others 3 (omega arith) ∙ H .count-bytes; count-symbols = o .others 4 (omega arith) ∙ H .count-symbols; count-objects = o .others 5 (omega arith) ∙ H .count-objects; below = H .below; fit = H .fit; symbolic = H .symbolic; names = H .names }
 
 module _ {input : List ℕ} {room : Room} {s : State} {c c' : List ℕ} {no re by sy ob : List ℕ} (H : Holds input room s (lists no re by sy ob) c) where
-  nodes-changed : {rows : List Row} {no' : List ℕ} → Only 1 c c' → Padded (room .nodes * 7) (flat rows) no' → nodes-of c' ≡ length rows → length (s .nodes) ≤ length rows → length rows ≤ room .nodes → AllFit (length (s .bytes)) rows → AllSymbolic rows (s .symbols) → Names (s .bytes) rows (s .symbols) → Holds input room (nodes-set rows s) (lists no' re by sy ob) c'
+  nodes-changed : {rows : List Row} {no' : List ℕ} → Only 1 c c' → Begins (room .nodes * 7) (flat rows) no' → nodes-of c' ≡ length rows → length (s .nodes) ≤ length rows → length rows ≤ room .nodes → AllFit (length (s .bytes)) rows → AllSymbolic rows (s .symbols) → Names (s .bytes) rows (s .symbols) → Holds input room (nodes-set rows s) (lists no' re by sy ob) c'
   nodes-changed o p e g h f y m = record { small = H .small; counts = o .sized ∙ H .counts; nodes = p; references = H .references; bytes = H .bytes; symbols = H .symbols; objects = H .objects; count-at = o .others 0 (omega arith) ∙ H .count-at; inside = H .inside; count-nodes = e; room-nodes = h; count-references = o .others 2 (omega arith) ∙ H .count-references; count-bytes = o .others 3 (omega arith) ∙ H .count-bytes; count-symbols = o .others 4 (omega arith) ∙ H .count-symbols; count-objects = o .others 5 (omega arith) ∙ H .count-objects; below = λ i l. omega (arith, H .below i l); fit = f; symbolic = y; names = m }
 
-  references-changed : {l re' : List ℕ} → Only 2 c c' → Padded (room .references) l re' → references-of c' ≡ length l → Holds input room (references-set l s) (lists no re' by sy ob) c'
+  references-changed : {l re' : List ℕ} → Only 2 c c' → Begins (room .references) l re' → references-of c' ≡ length l → Holds input room (references-set l s) (lists no re' by sy ob) c'
   references-changed o p e = record { small = H .small; counts = o .sized ∙ H .counts; nodes = H .nodes; references = p; bytes = H .bytes; symbols = H .symbols; objects = H .objects; count-at = o .others 0 (omega arith) ∙ H .count-at; inside = H .inside; count-nodes = o .others 1 (omega arith) ∙ H .count-nodes; room-nodes = H .room-nodes; count-references = e; count-bytes = o .others 3 (omega arith) ∙ H .count-bytes; count-symbols = o .others 4 (omega arith) ∙ H .count-symbols; count-objects = o .others 5 (omega arith) ∙ H .count-objects; below = H .below; fit = H .fit; symbolic = H .symbolic; names = H .names }
 
-  bytes-changed : {by' : List ℕ} (bs : List ℕ) → Only 3 c c' → Padded (room .bytes) (s .bytes ++ bs) by' → bytes-of c' ≡ length (s .bytes ++ bs) → length (s .bytes) ≤ length (s .bytes ++ bs) → Holds input room (bytes-set (s .bytes ++ bs) s) (lists no re by' sy ob) c'
+  bytes-changed : {by' : List ℕ} (bs : List ℕ) → Only 3 c c' → Begins (room .bytes) (s .bytes ++ bs) by' → bytes-of c' ≡ length (s .bytes ++ bs) → length (s .bytes) ≤ length (s .bytes ++ bs) → Holds input room (bytes-set (s .bytes ++ bs) s) (lists no re by' sy ob) c'
   bytes-changed bs o p e g = record { small = H .small; counts = o .sized ∙ H .counts; nodes = H .nodes; references = H .references; bytes = p; symbols = H .symbols; objects = H .objects; count-at = o .others 0 (omega arith) ∙ H .count-at; inside = H .inside; count-nodes = o .others 1 (omega arith) ∙ H .count-nodes; room-nodes = H .room-nodes; count-references = o .others 2 (omega arith) ∙ H .count-references; count-bytes = e; count-symbols = o .others 4 (omega arith) ∙ H .count-symbols; count-objects = o .others 5 (omega arith) ∙ H .count-objects; below = H .below; fit = λ i l. fit-more (getD (s .nodes) i nil) g (H .fit i l); symbolic = H .symbolic; names = names-bytes (s .bytes) bs (s .nodes) (s .symbols) (H .fit) (H .names) }
 
-  symbols-changed : {l sy' : List ℕ} → Only 4 c c' → Padded (room .symbols) l sy' → symbols-of c' ≡ length l → AllSymbolic (s .nodes) l → Names (s .bytes) (s .nodes) l → Holds input room (symbols-set l s) (lists no re by sy' ob) c'
+  symbols-changed : {l sy' : List ℕ} → Only 4 c c' → Begins (room .symbols) l sy' → symbols-of c' ≡ length l → AllSymbolic (s .nodes) l → Names (s .bytes) (s .nodes) l → Holds input room (symbols-set l s) (lists no re by sy' ob) c'
   symbols-changed o p e y m = record { small = H .small; counts = o .sized ∙ H .counts; nodes = H .nodes; references = H .references; bytes = H .bytes; symbols = p; objects = H .objects; count-at = o .others 0 (omega arith) ∙ H .count-at; inside = H .inside; count-nodes = o .others 1 (omega arith) ∙ H .count-nodes; room-nodes = H .room-nodes; count-references = o .others 2 (omega arith) ∙ H .count-references; count-bytes = o .others 3 (omega arith) ∙ H .count-bytes; count-symbols = e; count-objects = o .others 5 (omega arith) ∙ H .count-objects; below = H .below; fit = H .fit; symbolic = y; names = m }
 
-  objects-changed : {l ob' : List ℕ} → Only 5 c c' → Padded (room .objects) l ob' → objects-of c' ≡ length l → AllBelow (length (s .nodes)) l → Holds input room (objects-set l s) (lists no re by sy ob') c'
+  objects-changed : {l ob' : List ℕ} → Only 5 c c' → Begins (room .objects) l ob' → objects-of c' ≡ length l → AllBelow (length (s .nodes)) l → Holds input room (objects-set l s) (lists no re by sy ob') c'
   objects-changed o p e b = record { small = H .small; counts = o .sized ∙ H .counts; nodes = H .nodes; references = H .references; bytes = H .bytes; symbols = H .symbols; objects = p; count-at = o .others 0 (omega arith) ∙ H .count-at; inside = H .inside; count-nodes = o .others 1 (omega arith) ∙ H .count-nodes; room-nodes = H .room-nodes; count-references = o .others 2 (omega arith) ∙ H .count-references; count-bytes = o .others 3 (omega arith) ∙ H .count-bytes; count-symbols = o .others 4 (omega arith) ∙ H .count-symbols; count-objects = e; below = b; fit = H .fit; symbolic = H .symbolic; names = H .names }
 
   -- a symbol's node and its entry
-  symbol-changed : {no' sy' c₁ : List ℕ} (r : Row) → Only 1 c c₁ → Only 4 c₁ c' → Padded (room .nodes * 7) (flat (s .nodes ++ (r ∷ []))) no' → Padded (room .symbols) (s .symbols ++ (length (s .nodes) ∷ [])) sy' → nodes-of c₁ ≡ length (s .nodes ++ (r ∷ [])) → symbols-of c' ≡ length (s .symbols ++ (length (s .nodes) ∷ [])) → length (s .nodes) ≤ length (s .nodes ++ (r ∷ [])) → length (s .nodes ++ (r ∷ [])) ≤ room .nodes → Fit (length (s .bytes)) r → Symbolic r → Holds input room (symbols-set (s .symbols ++ (length (s .nodes) ∷ [])) (nodes-set (s .nodes ++ (r ∷ [])) s)) (lists no' re by sy' ob) c'
+  symbol-changed : {no' sy' c₁ : List ℕ} (r : Row) → Only 1 c c₁ → Only 4 c₁ c' → Begins (room .nodes * 7) (flat (s .nodes ++ (r ∷ []))) no' → Begins (room .symbols) (s .symbols ++ (length (s .nodes) ∷ [])) sy' → nodes-of c₁ ≡ length (s .nodes ++ (r ∷ [])) → symbols-of c' ≡ length (s .symbols ++ (length (s .nodes) ∷ [])) → length (s .nodes) ≤ length (s .nodes ++ (r ∷ [])) → length (s .nodes ++ (r ∷ [])) ≤ room .nodes → Fit (length (s .bytes)) r → Symbolic r → Holds input room (symbols-set (s .symbols ++ (length (s .nodes) ∷ [])) (nodes-set (s .nodes ++ (r ∷ [])) s)) (lists no' re by sy' ob) c'
   symbol-changed r a o p q e d g h f y = record { small = H .small; counts = o .sized ∙ a .sized ∙ H .counts; nodes = p; references = H .references; bytes = H .bytes; symbols = q; objects = H .objects; count-at = o .others 0 (omega arith) ∙ a .others 0 (omega arith) ∙ H .count-at; inside = H .inside; count-nodes = o .others 1 (omega arith) ∙ e; room-nodes = h; count-references = o .others 2 (omega arith) ∙ a .others 2 (omega arith) ∙ H .count-references; count-bytes = o .others 3 (omega arith) ∙ a .others 3 (omega arith) ∙ H .count-bytes; count-symbols = d; count-objects = o .others 5 (omega arith) ∙ a .others 5 (omega arith) ∙ H .count-objects; below = λ i l. omega (arith, H .below i l); fit = fit-snoc _ r (s .nodes) (H .fit) f; symbolic = symbolic-new (s .nodes) r (s .symbols) y (H .symbolic); names = names-new (s .bytes) (s .nodes) r (s .symbols) (H .symbolic) (H .names) }
 
 pub found-below : {input : List ℕ} {T : Lists} {c : List ℕ} {i : ℕ} → Held input T c → i < objects-of c → getD (T .objects) i 0 < nodes-of c
@@ -129,244 +130,231 @@ grown-set s k r l p =
     let e : length (set (s .nodes) k r) ≡ length (s .nodes) = length-set (s .nodes) k r in
     record { nodes = omega (arith, e); references = omega arith; plain = λ i u q. plain-set (s .nodes) k r i l p q }
 
+-- some state is held where this one is
+held-at : {input : List ℕ} {room : Room} {s : State} {T : Lists} {c : List ℕ} → Holds input room s T c → Held input T c
+held-at {room = room} {s} H = record { room = room; state = s; holds = H }
+
 module _ {input : List ℕ} {room : Room} {c : List ℕ} {no re by sy ob : List ℕ} where
-  pub row-added : {no' : List ℕ} (row : Row) (ws : List ℕ) → words row ≡ ws → Plain row → nodes-of c < length no / 7 → no' ≡ sets no (nodes-of c * 7) ws → Meets input room (add-node room row) (lists no re by sy ob) c (Value (nodes-of c)) (lists no' re by sy ob) (set c 1 (nodes-of c + 1))
-  unfolding add-node pick
-  row-added {no'} row ws e pl h f = record {
-    meets = record {
-      goes = λ s H.
-          let k : nodes-of c ≡ length (s .nodes) = H .count-nodes in
-          let lt : length (s .nodes) < room .nodes = omega arith in
-          let o = K.put 1 (nodes-of c + 1) c in
-          let j = is 1 (nodes-of c + 1) c (H .counts) (omega arith) in
-          let n : nodes-of c + 1 ≡ length (s .nodes ++ (row ∷ [])) = simp length-append (omega arith) in
-          let p : Padded (room .nodes * 7) (flat (s .nodes ++ (row ∷ []))) no' = rw (f, ← e, k) (push-row (room .nodes) (s .nodes) row (H .nodes) lt) in
-          went (nodes-changed H o p (j ∙ n) (simp length-append (omega arith)) (omega arith) (fit-snoc _ row (s .nodes) (H .fit) (plain-fit _ row pl)) (symbolic-more (s .nodes) row (s .symbols) (H .symbolic)) (names-more (s .bytes) (s .nodes) row (s .symbols) pl (H .symbolic) (H .names)))
-          (simp (lt-ltb _ _ lt, k)) (grown-snoc s row _ refl refl);
-    };
-  }
-
-  pub row-full : (row : Row) {T' : Lists} {c' : List ℕ} → length no / 7 ≤ nodes-of c → Meets input room (add-node room row) (lists no re by sy ob) c (Refused (NoSpace 1)) T' c'
-  unfolding add-node pick
-  row-full row h = record { meets = λ s H. let le : room .nodes ≤ length (s .nodes) = omega arith in simp (le-ltb _ _ le) }
-
   row-went : {no' : List ℕ} (i : ℕ) (row : Row) (ws : List ℕ) → words row ≡ ws → Plain row → i < nodes-of c → no' ≡ sets no (i * 7) ws → (s : State) → Holds input room s (lists no re by sy ob) c → Plain (getD (s .nodes) i nil) → Went input room s (fill i row s) (pure i) (lists no' re by sy ob) c
   unfolding fill
   row-went {no'} i row ws e pl h f s H q =
       let n : nodes-of c ≡ length (set (s .nodes) i row) = H .count-nodes ∙ sym (length-set (s .nodes) i row) in
       let le : length (set (s .nodes) i row) ≤ room .nodes = simp length-set (H .room-nodes) in
-      let p : Padded (room .nodes * 7) (flat (set (s .nodes) i row)) no' = rw (f, ← e) (put-row (s .nodes) i row (H .nodes) (omega arith)) in
+      let p : Begins (room .nodes * 7) (flat (set (s .nodes) i row)) no' = rw (f, ← e) (put-row (s .nodes) i row (H .nodes) (omega arith)) in
       went (nodes-changed H (none 1 c) p n (simp length-set (omega arith)) le (fit-set _ row (s .nodes) i (H .fit) (plain-fit _ row pl)) (symbolic-set (s .nodes) i row (s .symbols) q (H .symbolic)) (names-set (s .bytes) (s .nodes) i row (s .symbols) pl q (H .names)))
       refl (grown-set s i row (omega (arith, H .count-nodes)) pl)
 
-  pub row-filled : {no' : List ℕ} (i : ℕ) (row : Row) (ws : List ℕ) → words row ≡ ws → Plain row → i < nodes-of c → Free no i → no' ≡ sets no (i * 7) ws → Meets input room (fill i row) (lists no re by sy ob) c (Value i) (lists no' re by sy ob) c
-  row-filled i row ws e pl h q f = record { meets = record { goes = λ s H. row-went i row ws e pl h f s H (free-plain H i h q) } }
-
-  pub object-added : (h : ℕ) → h < nodes-of c → objects-of c < length ob → Meets input room (add-object room h) (lists no re by sy ob) c (Value h) (lists no re by sy (set ob (objects-of c) h)) (set c 5 (objects-of c + 1))
-  unfolding add-object pick
-  object-added h b l = record {
-    meets = record {
-      goes = λ s H.
-          let k : objects-of c ≡ length (s .objects) = H .count-objects in
-          let lt : length (s .objects) < room .objects = omega arith in
-          let o = K.put 5 (objects-of c + 1) c in
-          let n : objects-of c + 1 ≡ length (s .objects ++ (h ∷ [])) = simp length-append (omega arith) in
-          let p : Padded (room .objects) (s .objects ++ (h ∷ [])) (set ob (objects-of c) h) = rw k (push (h ∷ []) (H .objects) (omega arith)) in
-          went (objects-changed H o p (is 5 _ c (H .counts) (omega arith) ∙ n) (below-snoc (s .objects) (H .below) (omega arith)))
-          (simp (lt-ltb _ _ lt)) (grown-rows refl (omega arith));
-    };
+  pub words-reserved : {re' : List ℕ} (n : ℕ) → n ≤ length re - references-of c → re' ≡ sets re (references-of c) (replicate n 0) → Goes input room (reserve room n) (lists no re by sy ob) c (pure (references-of c)) (lists no re' by sy ob) (set c 2 (references-of c + n))
+  unfolding reserve pick
+  words-reserved {re'} n l f = record {
+    goes = λ s H.
+        let k : references-of c ≡ length (s .references) = H .count-references in
+        let z = length-replicate {A = ℕ} n 0 in
+        let le : n ≤ room .references - length (s .references) = omega arith in
+        let o = K.put 2 (references-of c + n) c in
+        let j = is 2 (references-of c + n) c (H .counts) (omega arith) in
+        let e : references-of c + n ≡ length (s .references ++ replicate n 0) = simp (length-append, length-replicate) (omega arith) in
+        let p : Begins (room .references) (s .references ++ replicate n 0) re' = rw (f, k) (push (replicate n 0) (H .references) (omega (arith, z, H .references .fits))) in
+        went (references-changed H o p (j ∙ e)) (simp (le-leb _ _ le, k)) (grown-rows refl (omega (arith, e, k)));
   }
 
-  pub object-full : (h : ℕ) {T' : Lists} {c' : List ℕ} → length ob ≤ objects-of c → Meets input room (add-object room h) (lists no re by sy ob) c (Refused (NoSpace 5)) T' c'
-  unfolding add-object pick
-  object-full h l = record { meets = λ s H. let le : room .objects ≤ length (s .objects) = omega arith in simp (le-ltb _ _ le) }
-
-  pub symbol-added : (h : ℕ) → ((s : State) → Holds input room s (lists no re by sy ob) c → Symbolic (getD (s .nodes) h nil)) → symbols-of c < length sy → Meets input room (add-symbol room h) (lists no re by sy ob) c (Value h) (lists no re by (set sy (symbols-of c) h) ob) (set c 4 (symbols-of c + 1))
-  unfolding add-symbol pick
-  symbol-added h y l = record {
-    meets = record {
-      goes = λ s H.
-          let k : symbols-of c ≡ length (s .symbols) = H .count-symbols in
-          let lt : length (s .symbols) < room .symbols = omega arith in
-          let o = K.put 4 (symbols-of c + 1) c in
-          let n : symbols-of c + 1 ≡ length (s .symbols ++ (h ∷ [])) = simp length-append (omega arith) in
-          let p : Padded (room .symbols) (s .symbols ++ (h ∷ [])) (set sy (symbols-of c) h) = rw k (push (h ∷ []) (H .symbols) (omega arith)) in
-          went (symbols-changed H o p (is 4 _ c (H .counts) (omega arith) ∙ n) (symbolic-known (s .nodes) (s .symbols) h (y s H) (H .symbolic)) (names-known (s .bytes) (s .nodes) (s .symbols) h (y s H) (H .names)))
-          (simp (lt-ltb _ _ lt)) (grown-rows refl (omega arith));
-    };
+  pub reference-put : (i v : ℕ) → i < references-of c → Goes input room (put-reference i v) (lists no re by sy ob) c (pure tt) (lists no (set re i v) by sy ob) c
+  unfolding put-reference
+  reference-put i v l = record {
+    goes = λ s H.
+        let e : references-of c ≡ length (set (s .references) i v) = H .count-references ∙ sym (length-set (s .references) i v) in
+        went (references-changed H (none 2 c) (put i v (H .references) (omega arith)) e) refl (grown-rows refl (omega (arith, length-set (s .references) i v)));
   }
 
-  pub symbol-full : (h : ℕ) {T' : Lists} {c' : List ℕ} → length sy ≤ symbols-of c → Meets input room (add-symbol room h) (lists no re by sy ob) c (Refused (NoSpace 4)) T' c'
+  pub row-goes : {no' : List ℕ} (row : Row) (ws : List ℕ) → words row ≡ ws → Plain row → nodes-of c < length no / 7 → no' ≡ sets no (nodes-of c * 7) ws → Goes input room (add-node room row) (lists no re by sy ob) c (pure (nodes-of c)) (lists no' re by sy ob) (set c 1 (nodes-of c + 1))
+  unfolding add-node pick
+  row-goes {no'} row ws e pl h f = record {
+    goes = λ s H.
+        let k : nodes-of c ≡ length (s .nodes) = H .count-nodes in
+        let lt : length (s .nodes) < room .nodes = omega arith in
+        let o = K.put 1 (nodes-of c + 1) c in
+        let j = is 1 (nodes-of c + 1) c (H .counts) (omega arith) in
+        let n : nodes-of c + 1 ≡ length (s .nodes ++ (row ∷ [])) = simp length-append (omega arith) in
+        let p : Begins (room .nodes * 7) (flat (s .nodes ++ (row ∷ []))) no' = rw (f, ← e, k) (push-row (room .nodes) (s .nodes) row (H .nodes) lt) in
+        went (nodes-changed H o p (j ∙ n) (simp length-append (omega arith)) (omega arith) (fit-snoc _ row (s .nodes) (H .fit) (plain-fit _ row pl)) (symbolic-more (s .nodes) row (s .symbols) (H .symbolic)) (names-more (s .bytes) (s .nodes) row (s .symbols) pl (H .symbolic) (H .names)))
+        (simp (lt-ltb _ _ lt, k)) (grown-snoc s row _ refl refl);
+  }
+
+  pub symbol-listed : (i : ℕ) (q : Refusal) → i < symbols-of c → Goes input room (look λ s. entry (s .symbols) i q) (lists no re by sy ob) c (pure (getD sy i 0)) (lists no re by sy ob) c
+  unfolding look entry pick
+  symbol-listed i q l = record {
+    goes = λ s H.
+        let lt : i < length (s .symbols) = omega arith in
+        went H (simp (lt-ltb _ _ lt, at-held i (H .symbols) lt)) (grown-rows refl (omega arith));
+  }
+
+module _ {input : List ℕ} {room : Room} {limit : ℕ} {c : List ℕ} {no re by sy ob : List ℕ} where
+  pub row-added : {no' : List ℕ} (row : Row) (ws : List ℕ) → words row ≡ ws → Plain row → nodes-of c < length no / 7 → no' ≡ sets no (nodes-of c * 7) ws → Meets input room limit (add-node room row) (lists no re by sy ob) c (nodes-of c) (lists no' re by sy ob) (set c 1 (nodes-of c + 1))
+  row-added row ws e pl h f = given (λ s H. omega arith) (row-goes row ws e pl h f)
+
+  pub row-full : (row : Row) {T' : Lists} {c' : List ℕ} → length no / 7 ≤ nodes-of c → Meets input room limit (add-node room row) (lists no re by sy ob) c (coded 12 1) T' c'
+  unfolding add-node pick
+  row-full row h = denied (NoSpace 1) (omega arith) (at-space limit 1 (omega arith)) (record { refuses = λ s H. let le : room .nodes ≤ length (s .nodes) = omega arith in simp (le-ltb _ _ le) })
+
+  pub row-filled : {no' : List ℕ} (i : ℕ) (row : Row) (ws : List ℕ) → words row ≡ ws → Plain row → i < nodes-of c → Free no i → no' ≡ sets no (i * 7) ws → Meets input room limit (fill i row) (lists no re by sy ob) c i (lists no' re by sy ob) c
+  row-filled i row ws e pl h q f = given (λ s H. omega arith) (record { goes = λ s H. row-went i row ws e pl h f s H (free-plain H i h q) })
+
+  pub object-added : (h : ℕ) → h < nodes-of c → objects-of c < length ob → Meets input room limit (add-object room h) (lists no re by sy ob) c h (lists no re by sy (set ob (objects-of c) h)) (set c 5 (objects-of c + 1))
+  unfolding add-object pick
+  object-added h b l = given (λ s H. omega arith) (record {
+    goes = λ s H.
+        let k : objects-of c ≡ length (s .objects) = H .count-objects in
+        let lt : length (s .objects) < room .objects = omega arith in
+        let o = K.put 5 (objects-of c + 1) c in
+        let n : objects-of c + 1 ≡ length (s .objects ++ (h ∷ [])) = simp length-append (omega arith) in
+        let p : Begins (room .objects) (s .objects ++ (h ∷ [])) (set ob (objects-of c) h) = rw k (push (h ∷ []) (H .objects) (omega arith)) in
+        went (objects-changed H o p (is 5 _ c (H .counts) (omega arith) ∙ n) (below-snoc (s .objects) (H .below) (omega arith)))
+        (simp (lt-ltb _ _ lt)) (grown-rows refl (omega arith));
+  })
+
+  pub object-full : (h : ℕ) {T' : Lists} {c' : List ℕ} → length ob ≤ objects-of c → Meets input room limit (add-object room h) (lists no re by sy ob) c (coded 12 5) T' c'
+  unfolding add-object pick
+  object-full h l = denied (NoSpace 5) (omega arith) (at-space limit 5 (omega arith)) (record { refuses = λ s H. let le : room .objects ≤ length (s .objects) = omega arith in simp (le-ltb _ _ le) })
+
+  pub symbol-added : (h : ℕ) → ((s : State) → Holds input room s (lists no re by sy ob) c → Symbolic (getD (s .nodes) h nil)) → symbols-of c < length sy → Meets input room limit (add-symbol room h) (lists no re by sy ob) c h (lists no re by (set sy (symbols-of c) h) ob) (set c 4 (symbols-of c + 1))
   unfolding add-symbol pick
-  symbol-full h l = record { meets = λ s H. let le : room .symbols ≤ length (s .symbols) = omega arith in simp (le-ltb _ _ le) }
+  symbol-added h y l = given (λ s H. omega (arith, symbolic-below (s .nodes) h (y s H))) (record {
+    goes = λ s H.
+        let k : symbols-of c ≡ length (s .symbols) = H .count-symbols in
+        let lt : length (s .symbols) < room .symbols = omega arith in
+        let o = K.put 4 (symbols-of c + 1) c in
+        let n : symbols-of c + 1 ≡ length (s .symbols ++ (h ∷ [])) = simp length-append (omega arith) in
+        let p : Begins (room .symbols) (s .symbols ++ (h ∷ [])) (set sy (symbols-of c) h) = rw k (push (h ∷ []) (H .symbols) (omega arith)) in
+        went (symbols-changed H o p (is 4 _ c (H .counts) (omega arith) ∙ n) (symbolic-known (s .nodes) (s .symbols) h (y s H) (H .symbolic)) (names-known (s .bytes) (s .nodes) (s .symbols) h (y s H) (H .names)))
+        (simp (lt-ltb _ _ lt)) (grown-rows refl (omega arith));
+  })
+
+  pub symbol-full : (h : ℕ) {T' : Lists} {c' : List ℕ} → length sy ≤ symbols-of c → Meets input room limit (add-symbol room h) (lists no re by sy ob) c (coded 12 4) T' c'
+  unfolding add-symbol pick
+  symbol-full h l = denied (NoSpace 4) (omega arith) (at-space limit 4 (omega arith)) (record { refuses = λ s H. let le : room .symbols ≤ length (s .symbols) = omega arith in simp (le-ltb _ _ le) })
 
   -- a symbol's node, put on the symbol list
-  pub symbol-new : {no' : List ℕ} (start n l : ℕ) → l ≡ n → start + n ≤ bytes-of c → nodes-of c < length no / 7 → symbols-of c < length sy → no' ≡ sets no (nodes-of c * 7) (3 ∷ start ∷ n ∷ 0 ∷ 0 ∷ 0 ∷ 0 ∷ []) → Meets input room (new-symbol room start l) (lists no re by sy ob) c (Value (nodes-of c)) (lists no' re by (set sy (symbols-of c) (nodes-of c)) ob) (set (set c 1 (nodes-of c + 1)) 4 (symbols-of c + 1))
+  pub symbol-new : {no' : List ℕ} (start n l : ℕ) → l ≡ n → start + n ≤ bytes-of c → nodes-of c < length no / 7 → symbols-of c < length sy → no' ≡ sets no (nodes-of c * 7) (3 ∷ start ∷ n ∷ 0 ∷ 0 ∷ 0 ∷ 0 ∷ []) → Meets input room limit (new-symbol room start l) (lists no re by sy ob) c (nodes-of c) (lists no' re by (set sy (symbols-of c) (nodes-of c)) ob) (set (set c 1 (nodes-of c + 1)) 4 (symbols-of c + 1))
   unfolding add-node add-symbol pick _>>=_ next words
-  symbol-new {no'} start n l z b h u f = record {
-    meets = record {
-      goes = λ s H.
-          let row = symbol start l in
-          let k : nodes-of c ≡ length (s .nodes) = H .count-nodes in
-          let ky : symbols-of c ≡ length (s .symbols) = H .count-symbols in
-          let lt : length (s .nodes) < room .nodes = omega arith in
-          let ly : length (s .symbols) < room .symbols = omega arith in
-          let c₁ = set c 1 (nodes-of c + 1) in
-          let a = K.put 1 (nodes-of c + 1) c in
-          let o = K.put 4 (symbols-of c + 1) c₁ in
-          let j = is 1 (nodes-of c + 1) c (H .counts) (omega arith) in
-          let jy = is 4 (symbols-of c + 1) c₁ (a .sized ∙ H .counts) (omega arith) in
-          let m : nodes-of c + 1 ≡ length (s .nodes ++ (row ∷ [])) = simp length-append (omega arith) in
-          let my : symbols-of c + 1 ≡ length (s .symbols ++ (length (s .nodes) ∷ [])) = simp length-append (omega arith) in
-          let ws : no' ≡ sets no (nodes-of c * 7) (words row) = f ∙ ap (λ (x : ℕ). sets no (nodes-of c * 7) (3 ∷ start ∷ x ∷ 0 ∷ 0 ∷ 0 ∷ 0 ∷ [])) (sym z) in
-          let p : Padded (room .nodes * 7) (flat (s .nodes ++ (row ∷ []))) no' = rw (ws, k) (push-row (room .nodes) (s .nodes) row (H .nodes) lt) in
-          let q : Padded (room .symbols) (s .symbols ++ (length (s .nodes) ∷ [])) (set sy (symbols-of c) (nodes-of c)) = rw (ky, k) (push (length (s .nodes) ∷ []) (H .symbols) (omega arith)) in
-          went (symbol-changed H row a o p q (j ∙ m) (jy ∙ my) (simp length-append (omega arith)) (omega arith) (omega (arith, H .count-bytes)) tt)
-          (simp (lt-ltb _ _ lt, lt-ltb _ _ ly, k)) (grown-snoc s row _ refl refl);
-    };
-  }
+  symbol-new {no'} start n l z b h u f = given (λ s H. omega arith) (record {
+    goes = λ s H.
+        let row = symbol start l in
+        let k : nodes-of c ≡ length (s .nodes) = H .count-nodes in
+        let ky : symbols-of c ≡ length (s .symbols) = H .count-symbols in
+        let lt : length (s .nodes) < room .nodes = omega arith in
+        let ly : length (s .symbols) < room .symbols = omega arith in
+        let c₁ = set c 1 (nodes-of c + 1) in
+        let a = K.put 1 (nodes-of c + 1) c in
+        let o = K.put 4 (symbols-of c + 1) c₁ in
+        let j = is 1 (nodes-of c + 1) c (H .counts) (omega arith) in
+        let jy = is 4 (symbols-of c + 1) c₁ (a .sized ∙ H .counts) (omega arith) in
+        let m : nodes-of c + 1 ≡ length (s .nodes ++ (row ∷ [])) = simp length-append (omega arith) in
+        let my : symbols-of c + 1 ≡ length (s .symbols ++ (length (s .nodes) ∷ [])) = simp length-append (omega arith) in
+        let ws : no' ≡ sets no (nodes-of c * 7) (words row) = f ∙ ap (λ (x : ℕ). sets no (nodes-of c * 7) (3 ∷ start ∷ x ∷ 0 ∷ 0 ∷ 0 ∷ 0 ∷ [])) (sym z) in
+        let p : Begins (room .nodes * 7) (flat (s .nodes ++ (row ∷ []))) no' = rw (ws, k) (push-row (room .nodes) (s .nodes) row (H .nodes) lt) in
+        let q : Begins (room .symbols) (s .symbols ++ (length (s .nodes) ∷ [])) (set sy (symbols-of c) (nodes-of c)) = rw (ky, k) (push (length (s .nodes) ∷ []) (H .symbols) (omega arith)) in
+        went (symbol-changed H row a o p q (j ∙ m) (jy ∙ my) (simp length-append (omega arith)) (omega arith) (omega (arith, H .count-bytes)) tt)
+        (simp (lt-ltb _ _ lt, lt-ltb _ _ ly, k)) (grown-snoc s row _ refl refl);
+  })
 
-  pub symbol-no-node : (start l : ℕ) {T' : Lists} {c' : List ℕ} → length no / 7 ≤ nodes-of c → Meets input room (new-symbol room start l) (lists no re by sy ob) c (Refused (NoSpace 1)) T' c'
+  pub symbol-no-node : (start l : ℕ) {T' : Lists} {c' : List ℕ} → length no / 7 ≤ nodes-of c → Meets input room limit (new-symbol room start l) (lists no re by sy ob) c (coded 12 1) T' c'
   unfolding add-node pick _>>=_ next
-  symbol-no-node start l h = record { meets = λ s H. let le : room .nodes ≤ length (s .nodes) = omega arith in simp (le-ltb _ _ le) }
+  symbol-no-node start l h = denied (NoSpace 1) (omega arith) (at-space limit 1 (omega arith)) (record { refuses = λ s H. let le : room .nodes ≤ length (s .nodes) = omega arith in simp (le-ltb _ _ le) })
 
-  pub symbol-no-entry : (start l : ℕ) {T' : Lists} {c' : List ℕ} → nodes-of c < length no / 7 → length sy ≤ symbols-of c → Meets input room (new-symbol room start l) (lists no re by sy ob) c (Refused (NoSpace 4)) T' c'
+  pub symbol-no-entry : (start l : ℕ) {T' : Lists} {c' : List ℕ} → nodes-of c < length no / 7 → length sy ≤ symbols-of c → Meets input room limit (new-symbol room start l) (lists no re by sy ob) c (coded 12 4) T' c'
   unfolding add-node add-symbol pick _>>=_ next
-  symbol-no-entry start l h u = record {
-    meets = λ s H.
+  symbol-no-entry start l h u = denied (NoSpace 4) (omega arith) (at-space limit 4 (omega arith)) (record {
+    refuses = λ s H.
         let lt : length (s .nodes) < room .nodes = omega arith in
         let le : room .symbols ≤ length (s .symbols) = omega arith in
         simp (lt-ltb _ _ lt, le-ltb _ _ le);
-  }
+  })
 
-  pub object-found : (i : ℕ) (q : Refusal) → i < objects-of c → Meets input room (look λ s. entry (s .objects) i q) (lists no re by sy ob) c (Value (getD ob i 0)) (lists no re by sy ob) c
+  pub object-found : (i : ℕ) (q : Refusal) → i < objects-of c → Meets input room limit (look λ s. entry (s .objects) i q) (lists no re by sy ob) c (getD ob i 0) (lists no re by sy ob) c
   unfolding look entry pick
-  object-found i q l = record {
-    meets = record {
-      goes = λ s H.
-          let lt : i < length (s .objects) = omega arith in
-          went H (simp (lt-ltb _ _ lt, at-held i (H .objects) lt)) (grown-rows refl (omega arith));
-    };
-  }
+  object-found i q l = given (λ s H. omega (arith, found-below (held-at H) l)) (record {
+    goes = λ s H.
+        let lt : i < length (s .objects) = omega arith in
+        went H (simp (lt-ltb _ _ lt, at-held i (H .objects) lt)) (grown-rows refl (omega arith));
+  })
 
-  pub object-missing : (i : ℕ) (q : Refusal) {T' : Lists} {c' : List ℕ} → objects-of c ≤ i → Meets input room (look λ s. entry (s .objects) i q) (lists no re by sy ob) c (Refused q) T' c'
+  pub object-missing : (i : ℕ) {T' : Lists} {c' : List ℕ} → i < 4294967296 → objects-of c ≤ i → Meets input room limit (look λ s. entry (s .objects) i (MissingObject i)) (lists no re by sy ob) c (coded 8 i) T' c'
   unfolding look entry pick
-  object-missing i q l = record { meets = λ s H. let le : length (s .objects) ≤ i = omega arith in simp (le-ltb _ _ le) }
+  object-missing i f l = denied (MissingObject i) (omega arith) (at-object limit i f) (record { refuses = λ s H. let le : length (s .objects) ≤ i = omega arith in simp (le-ltb _ _ le) })
 
-  pub symbol-found : (i : ℕ) (q : Refusal) → i < symbols-of c → Meets input room (look λ s. entry (s .symbols) i q) (lists no re by sy ob) c (Value (getD sy i 0)) (lists no re by sy ob) c
+  pub symbol-found : (i : ℕ) (q : Refusal) → i < symbols-of c → Meets input room limit (look λ s. entry (s .symbols) i q) (lists no re by sy ob) c (getD sy i 0) (lists no re by sy ob) c
+  symbol-found i q l = given (λ s H. omega (arith, symbol-below (held-at H) l)) (symbol-listed i q l)
+
+  pub symbol-missing : (i : ℕ) {T' : Lists} {c' : List ℕ} → i < 4294967296 → symbols-of c ≤ i → Meets input room limit (look λ s. entry (s .symbols) i (MissingSymbol i)) (lists no re by sy ob) c (coded 7 i) T' c'
   unfolding look entry pick
-  symbol-found i q l = record {
-    meets = record {
-      goes = λ s H.
-          let lt : i < length (s .symbols) = omega arith in
-          went H (simp (lt-ltb _ _ lt, at-held i (H .symbols) lt)) (grown-rows refl (omega arith));
-    };
-  }
+  symbol-missing i f l = denied (MissingSymbol i) (omega arith) (at-symbol limit i f) (record { refuses = λ s H. let le : length (s .symbols) ≤ i = omega arith in simp (le-ltb _ _ le) })
 
-  pub symbol-missing : (i : ℕ) (q : Refusal) {T' : Lists} {c' : List ℕ} → symbols-of c ≤ i → Meets input room (look λ s. entry (s .symbols) i q) (lists no re by sy ob) c (Refused q) T' c'
-  unfolding look entry pick
-  symbol-missing i q l = record { meets = λ s H. let le : length (s .symbols) ≤ i = omega arith in simp (le-ltb _ _ le) }
-
-  pub words-reserved : (n : ℕ) → n ≤ length re - references-of c → references-of c ≤ length re → Meets input room (reserve room n) (lists no re by sy ob) c (Value (references-of c)) (lists no re by sy ob) (set c 2 (references-of c + n))
+  pub words-short : (n : ℕ) {T' : Lists} {c' : List ℕ} → length re - references-of c < n → Meets input room limit (reserve room n) (lists no re by sy ob) c (coded 12 2) T' c'
   unfolding reserve pick
-  words-reserved n l l2 = record {
-    meets = record {
-      goes = λ s H.
-          let k : references-of c ≡ length (s .references) = H .count-references in
-          let le : n ≤ room .references - length (s .references) = omega arith in
-          let o = K.put 2 (references-of c + n) c in
-          let j = is 2 (references-of c + n) c (H .counts) (omega arith) in
-          let e : references-of c + n ≡ length (s .references ++ replicate n 0) = simp (length-append, length-replicate) (omega arith) in
-          went (references-changed H o (skip n (H .references) (omega arith)) (j ∙ e))
-          (simp (le-leb _ _ le, k)) (grown-rows refl (omega (arith, e, k)));
-    };
-  }
+  words-short n l = denied (NoSpace 2) (omega arith) (at-space limit 2 (omega arith)) (record { refuses = λ s H. let lt : room .references - length (s .references) < n = omega arith in simp (lt-leb _ _ lt) })
 
-  pub words-short : (n : ℕ) {T' : Lists} {c' : List ℕ} → length re - references-of c < n → Meets input room (reserve room n) (lists no re by sy ob) c (Refused (NoSpace 2)) T' c'
-  unfolding reserve pick
-  words-short n l = record { meets = λ s H. let lt : room .references - length (s .references) < n = omega arith in simp (lt-leb _ _ lt) }
-
-  pub reference-put : (i v x : ℕ) → i < references-of c → Does input room (put-reference i v) (lists no re by sy ob) c (Value x) (lists no (set re i v) by sy ob) c
-  unfolding put-reference
-  reference-put i v x l = record {
-    meets = record {
-      goes = λ s H.
-          let e : references-of c ≡ length (set (s .references) i v) = H .count-references ∙ sym (length-set (s .references) i v) in
-          went (references-changed H (none 2 c) (put i v (H .references) (omega arith)) e) refl (grown-rows refl (omega (arith, length-set (s .references) i v)));
-    };
-  }
-
-  pub bytes-added : {by' : List ℕ} (bs : List ℕ) (n : ℕ) → length bs ≡ n → bytes-of c ≤ length by → n ≤ length by - bytes-of c → by' ≡ sets by (bytes-of c) bs → Meets input room (add-bytes room bs) (lists no re by sy ob) c (Value (bytes-of c)) (lists no re by' sy ob) (set c 3 (bytes-of c + n))
+  pub bytes-added : {by' : List ℕ} (bs : List ℕ) (n : ℕ) → length bs ≡ n → bytes-of c ≤ length by → n ≤ length by - bytes-of c → by' ≡ sets by (bytes-of c) bs → Meets input room limit (add-bytes room bs) (lists no re by sy ob) c (bytes-of c) (lists no re by' sy ob) (set c 3 (bytes-of c + n))
   unfolding add-bytes pick
-  bytes-added {by'} bs n z i l f = record {
-    meets = record {
-      goes = λ s H.
-          let k : bytes-of c ≡ length (s .bytes) = H .count-bytes in
-          let le : length bs ≤ room .bytes - length (s .bytes) = omega arith in
-          let o = K.put 3 (bytes-of c + n) c in
-          let e : bytes-of c + n ≡ length (s .bytes ++ bs) = simp length-append (omega arith) in
-          let p : Padded (room .bytes) (s .bytes ++ bs) by' = rw (f, k) (push bs (H .bytes) (omega arith)) in
-          went (bytes-changed H bs o p (is 3 _ c (H .counts) (omega arith) ∙ e) (simp length-append (omega arith))) (simp (le-leb _ _ le, k)) (grown-rows refl (omega arith));
-    };
-  }
+  bytes-added {by'} bs n z i l f = given (λ s H. omega arith) (record {
+    goes = λ s H.
+        let k : bytes-of c ≡ length (s .bytes) = H .count-bytes in
+        let le : length bs ≤ room .bytes - length (s .bytes) = omega arith in
+        let o = K.put 3 (bytes-of c + n) c in
+        let e : bytes-of c + n ≡ length (s .bytes ++ bs) = simp length-append (omega arith) in
+        let p : Begins (room .bytes) (s .bytes ++ bs) by' = rw (f, k) (push bs (H .bytes) (omega arith)) in
+        went (bytes-changed H bs o p (is 3 _ c (H .counts) (omega arith) ∙ e) (simp length-append (omega arith))) (simp (le-leb _ _ le, k)) (grown-rows refl (omega arith));
+  })
 
-  pub bytes-full : (bs : List ℕ) (n : ℕ) {T' : Lists} {c' : List ℕ} → length bs ≡ n → length by - bytes-of c < n → Meets input room (add-bytes room bs) (lists no re by sy ob) c (Refused (NoSpace 3)) T' c'
+  pub bytes-full : (bs : List ℕ) (n : ℕ) {T' : Lists} {c' : List ℕ} → length bs ≡ n → length by - bytes-of c < n → Meets input room limit (add-bytes room bs) (lists no re by sy ob) c (coded 12 3) T' c'
   unfolding add-bytes pick
-  bytes-full bs n z l = record { meets = λ s H. let lt : room .bytes - length (s .bytes) < length bs = omega arith in simp (lt-leb _ _ lt) }
+  bytes-full bs n z l = denied (NoSpace 3) (omega arith) (at-space limit 3 (omega arith)) (record { refuses = λ s H. let lt : room .bytes - length (s .bytes) < length bs = omega arith in simp (lt-leb _ _ lt) })
 
 module _ {input : List ℕ} {room : Room} {c : List ℕ} {T : Lists} where
-  pub byte-read : at-of c < length input → Meets input room (read-byte input) T c (Value (getD input (at-of c) 0)) T (set c 0 (at-of c + 1))
+  -- only the offset is moved
+  pub moved : {A : Type 0} {m : Reader A} {a : A} (n : ℕ) → n ≤ length input → ((s : State) → Holds input room s T c → m s ≡ ok a (at-set n s)) → Goes input room m T c (pure a) T (set c 0 n)
+  moved n h e = record { goes = λ s H. went (at-changed H (K.put 0 n c) (is 0 n c (H .counts) (omega arith)) h) (e s H) (grown-rows refl (omega arith)) }
+
+  pub byte-goes : at-of c < length input → Goes input room (read-byte input) T c (pure (getD input (at-of c) 0)) T (set c 0 (at-of c + 1))
   unfolding read-byte pick
-  byte-read l = record {
-    meets = record {
-      goes = λ s H.
-          let k : at-of c ≡ s .at = H .count-at in
-          let lt : s .at < length input = omega arith in
-          let o = K.put 0 (at-of c + 1) c in
-          let j : at-of c + 1 ≡ s .at + 1 = ap (λ n. n + 1) k in
-          went (at-changed H o (is 0 _ c (H .counts) (omega arith) ∙ j) (omega arith)) (simp (lt-ltb _ _ lt, k)) (grown-rows refl (omega arith));
-    };
-  }
+  byte-goes l = moved (at-of c + 1) (omega arith) (λ s H. let k : at-of c ≡ s .at = H .count-at in simp (k, lt-ltb (s .at) (length input) (omega arith)))
 
-  pub byte-missing : {T' : Lists} {c' : List ℕ} → length input ≤ at-of c → Meets input room (read-byte input) T c (Refused ShortInput) T' c'
+module _ {input : List ℕ} {room : Room} {limit : ℕ} {c : List ℕ} {T : Lists} where
+  pub byte-missing : {T' : Lists} {c' : List ℕ} {m' : Reader ℕ} → length input ≤ at-of c → Leads input room limit (read-byte input) m' T c (coded 4 0) T' c'
   unfolding read-byte pick
-  byte-missing l = record { meets = λ s H. let le : length input ≤ s .at = omega arith in simp (le-ltb _ _ le) }
+  byte-missing l = denied ShortInput (omega arith) (at-short limit) (record { refuses = λ s H. let le : length input ≤ s .at = omega arith in simp (le-ltb _ _ le) })
 
-  pub data-read : (n above v : ℕ) → at-of c ≤ length input → n ≤ length input - at-of c → v ≡ little (take n (drop (at-of c) input)) above → Meets input room (read-form input (data-bytes n above)) T c (Value v) T (set c 0 (at-of c + n))
-  unfolding read-form read-bytes range pick _>>=_ next pure
-  data-read n above v i l e = record {
-    meets = record {
-      goes = λ s H.
-          let k : at-of c ≡ s .at = H .count-at in
-          let le : n ≤ length input - s .at = omega arith in
-          let o = K.put 0 (at-of c + n) c in
-          let j : at-of c + n ≡ s .at + n = ap (λ m. m + n) k in
-          went (at-changed H o (is 0 _ c (H .counts) (omega arith) ∙ j) (omega arith)) (simp (le-leb _ _ le, e, k)) (grown-rows refl (omega arith));
-    };
-  }
+  pub span-read : (n : ℕ) → at-of c ≤ length input → n ≤ length input - at-of c → n < 4294967296 → length c ≡ 6 → Spans input room limit (read-bytes input n) T c n T (set c 0 (at-of c + n))
+  unfolding read-bytes range pick
+  span-read n i l f z =
+      given (λ s H. f)
+      (moved (at-of c + n) (omega arith) (λ s H.
+      let k : at-of c ≡ s .at = H .count-at in
+      let le : n ≤ length input - s .at = omega arith in
+      let b : at-of (set c 0 (at-of c + n)) - n ≡ s .at = omega (arith, is 0 (at-of c + n) c z (omega arith), k) in
+      simp (le-leb _ _ le, b) (rw k refl)))
 
-  pub data-missing : (n above : ℕ) {T' : Lists} {c' : List ℕ} → length input - at-of c < n → Meets input room (read-form input (data-bytes n above)) T c (Refused ShortInput) T' c'
-  unfolding read-form read-bytes pick _>>=_ next
-  data-missing n above l = record { meets = λ s H. let lt : length input - s .at < n = omega arith in simp (lt-leb _ _ lt) }
-
-  pub span-read : (n : ℕ) → at-of c ≤ length input → n ≤ length input - at-of c → Sees (span-of input) input room (read-bytes input n) T c (Value n) T (set c 0 (at-of c + n))
-  unfolding read-bytes range pick pure
-  span-read n i l = record {
-    meets = record {
-      goes = λ s H.
-          let k : at-of c ≡ s .at = H .count-at in
-          let le : n ≤ length input - s .at = omega arith in
-          let o = K.put 0 (at-of c + n) c in
-          let j : at-of c + n ≡ s .at + n = ap (λ m. m + n) k in
-          let x = is 0 (at-of c + n) c (H .counts) (omega arith) in
-          let b : at-of (set c 0 (at-of c + n)) - n ≡ s .at = omega (arith, x, k) in
-          record { state = at-set (s .at + n) s; holds = at-changed H o (is 0 _ c (H .counts) (omega arith) ∙ j) (omega arith); same = simp (le-leb _ _ le, b); grown = grown-rows refl (omega arith) };
-    };
-  }
-
-  pub span-missing : (n : ℕ) {T' : Lists} {c' : List ℕ} → length input - at-of c < n → Sees (span-of input) input room (read-bytes input n) T c (Refused ShortInput) T' c'
+  pub span-missing : (n : ℕ) {T' : Lists} {c' : List ℕ} {m' : Reader (List ℕ)} → length input - at-of c < n → Leads input room limit (read-bytes input n) m' T c (coded 4 0) T' c'
   unfolding read-bytes pick
-  span-missing n l = record { meets = λ s H. let lt : length input - s .at < n = omega arith in simp (lt-leb _ _ lt) }
+  span-missing n l = denied ShortInput (omega arith) (at-short limit) (record { refuses = λ s H. let lt : length input - s .at < n = omega arith in simp (lt-leb _ _ lt) })
+
+  -- an integer whose bytes are all there; one of one byte; one whose bytes are not
+  pub integer-whole : (v : ℕ) → at-of c + size-of (form (getD input (at-of c) 0)) ≤ length input → v ≡ word-of (drop (at-of c + 1) input) (form (getD input (at-of c) 0)) → v < 4294967296 → Meets input room limit (read-integer input) T c v T (set c 0 (at-of c + size-of (form (getD input (at-of c) 0))))
+  integer-whole v h e f =
+      given (λ s H. f)
+      (moved (at-of c + size-of (form (getD input (at-of c) 0))) h (λ s H.
+      let k = H .count-at in
+      rw (e, k) (integer-read input s (rw k at h) (omega (arith, size-some (getD input (at-of c) 0))))))
+
+  pub integer-one : (v : ℕ) → at-of c < length input → form (getD input (at-of c) 0) ≡ value v → v < 4294967296 → Meets input room limit (read-integer input) T c v T (set c 0 (at-of c + 1))
+  integer-one v h e f =
+      given (λ s H. f)
+      (moved (at-of c + 1) (omega arith) (λ s H. let k = H .count-at in rw k (integer-small input s v (rw k at e) (omega arith))))
+
+  pub integer-cut : {T' : Lists} {c' : List ℕ} {m' : Reader ℕ} → at-of c < length input → length input - at-of c < size-of (form (getD input (at-of c) 0)) → Leads input room limit (read-integer input) m' T c (coded 4 0) T' c'
+  integer-cut h l = denied ShortInput (omega arith) (at-short limit) (record { refuses = λ s H. let k = H .count-at in let g : length input < at-of c + size-of (form (getD input (at-of c) 0)) = omega arith in integer-short input s (rw k at g) (omega arith) })
+
+  pub integer-gone : {T' : Lists} {c' : List ℕ} {m' : Reader ℕ} → length input ≤ at-of c → Leads input room limit (read-integer input) m' T c (coded 4 0) T' c'
+  integer-gone l = denied ShortInput (omega arith) (at-short limit) (record { refuses = λ s H. integer-none input s (omega arith) })
 
 pub span-length : (input : List ℕ) (c : List ℕ) (n : ℕ) → n ≤ at-of c → at-of c ≤ length input → length (span-of input c n) ≡ n
 span-length input c n l h = simp (length-take, length-drop) (omega arith)
@@ -400,7 +388,7 @@ module _ {input : List ℕ} {room : Room} {s : State} {c : List ℕ} {no re by s
       let g = symbol-row name in
       let w = getD no (i * 7 + 1) 0 in
       let a : w + n ≤ length (s .bytes) = omega (arith, g .1, f) in
-      ap (λ (x : List ℕ). equal name (take n (drop w x))) (H .bytes .same)
+      ap (λ (x : List ℕ). equal name (take n (drop w x))) (split (H .bytes))
       ∙ ap (λ (x : List ℕ). equal name x) (range-more (s .bytes) _ w n a)
       ∙ ap (λ (k : ℕ). equal name (take k (drop w (s .bytes)))) (sym f)
       ∙ sym (g .0)
@@ -466,25 +454,23 @@ not-varied h start n (user s k c (present p m)) a b = absurd (b refl)
 words-same : {a b d e a' b' d' e' : ℕ} (start n : ℕ) → a ≡ a' → b ≡ b' → d ≡ d' → e ≡ e' → _≡_ {A = List ℕ} (a ∷ b ∷ d ∷ start ∷ n ∷ e ∷ 1 ∷ []) (a' ∷ b' ∷ d' ∷ start ∷ n ∷ e' ∷ 1 ∷ [])
 words-same start n p q r t = λ i. p i ∷ q i ∷ r i ∷ start ∷ n ∷ t i ∷ 1 ∷ []
 
-module _ {input : List ℕ} {room : Room} {c : List ℕ} {no re by sy ob : List ℕ} (h start n : ℕ) (l : h < nodes-of c) where
-  pub variables-set : {no' : List ℕ} → 7 ≤ getD no (h * 7) 0 → no' ≡ sets no (h * 7) (getD no (h * 7) 0 ∷ getD no (h * 7 + 1) 0 ∷ getD no (h * 7 + 2) 0 ∷ start ∷ n ∷ getD no (h * 7 + 5) 0 ∷ 1 ∷ []) → Meets input room (settle h start n) (lists no re by sy ob) c (Value h) (lists no' re by sy ob) c
+module _ {input : List ℕ} {room : Room} {limit : ℕ} {c : List ℕ} {no re by sy ob : List ℕ} (h start n : ℕ) (l : h < nodes-of c) where
+  pub variables-set : {no' : List ℕ} → 7 ≤ getD no (h * 7) 0 → no' ≡ sets no (h * 7) (getD no (h * 7) 0 ∷ getD no (h * 7 + 1) 0 ∷ getD no (h * 7 + 2) 0 ∷ start ∷ n ∷ getD no (h * 7 + 5) 0 ∷ 1 ∷ []) → Meets input room limit (settle h start n) (lists no re by sy ob) c h (lists no' re by sy ob) c
   unfolding look
-  variables-set g f = record {
-    meets = record {
-      goes = λ s H.
-          let r = getD (s .nodes) h nil in
-          let w0 = word-0 H h l in
-          let v = varied-words h start n r (omega (arith, w0, g)) in
-          let e = words-same start n w0 (word H h l 1 (omega arith)) (word H h l 2 (omega arith)) (word H h l 5 (omega arith)) in
-          let x = row-went h (varied start n r) _ (v .0 ∙ sym e) (varied-plain start n r) l f s H (v .2) in
-          record { state = x .state; holds = x .holds; same = ap (λ (m : Reader ℕ). m s) (v .1) ∙ x .same; grown = x .grown };
-    };
-  }
+  variables-set g f = given (λ s H. omega arith) (record {
+    goes = λ s H.
+        let r = getD (s .nodes) h nil in
+        let w0 = word-0 H h l in
+        let v = varied-words h start n r (omega (arith, w0, g)) in
+        let e = words-same start n w0 (word H h l 1 (omega arith)) (word H h l 2 (omega arith)) (word H h l 5 (omega arith)) in
+        let x = row-went h (varied start n r) _ (v .0 ∙ sym e) (varied-plain start n r) l f s H (v .2) in
+        record { state = x .state; holds = x .holds; same = ap (λ (m : Reader ℕ). m s) (v .1) ∙ x .same; grown = x .grown };
+  })
 
-  pub variables-refused : {T' : Lists} {c' : List ℕ} → (getD no (h * 7) 0 ≡ 7 → ⊥) → (getD no (h * 7) 0 ≡ 8 → ⊥) → Meets input room (settle h start n) (lists no re by sy ob) c (Refused NotAnObject) T' c'
+  pub variables-refused : {T' : Lists} {c' : List ℕ} → (getD no (h * 7) 0 ≡ 7 → ⊥) → (getD no (h * 7) 0 ≡ 8 → ⊥) → Meets input room limit (settle h start n) (lists no re by sy ob) c (coded 10 0) T' c'
   unfolding look refuse
-  variables-refused a b = record {
-    meets = λ s H.
+  variables-refused a b = denied NotAnObject (omega arith) (at-variables limit) (record {
+    refuses = λ s H.
         let w0 = word-0 H h l in
         ap (λ (m : Reader ℕ). m s) (not-varied h start n (getD (s .nodes) h nil) (λ e. a (w0 ∙ e)) (λ e. b (w0 ∙ e)));
-  }
+  })

@@ -1,50 +1,39 @@
 -- What a table holds after a store: one law for each way a list grows or changes.
 use Prim.Native.Nat.{ℕ, zero, suc, _+_, _-_, _*_, _≤_, _<_}
 use native.Mathlib.Omega.{arith}
-use native.Mathlib.Nat.{suc-add, add-suc, zero-add, zero-sub, sub-zero}
+use native.Mathlib.Nat.{suc-add, add-suc, zero-add}
 use mathlib.Core.Path.{_≡_, refl, sym, ap, _∙_}
 use mathlib.Core.List.{List, [], _∷_, _++_, append-assoc, append-nil}
-use lib.ListN.{length, take, drop, set, getD, replicate, length-append, length-set, length-replicate, length-take, replicate-append-replicate, List·getD-append}
-use lib.Seq.{sets, sets-eq, length-sets, set-append-left, take-append-seam, drop-append-add, drop-at, getD-append-add, getD-append-seam}
+use lib.ListN.{length, take, drop, set, getD, replicate, length-append, length-set, length-take, take-append-drop, List·getD-append}
+use lib.Seq.{sets, sets-eq, length-sets, set-append-left, take-append-seam, drop-at, getD-append-add, getD-append-seam}
 use Rattle.definition.specs.Node.{Row, nil, words, flat}
+use Rattle.store.specs.Laws.{cleared, cleared-after}
 use Rattle.lists.specs.Words.{length-words, length-flat}
-use Rattle.loader.specs.Holds.{Padded}
+use Rattle.loader.specs.Holds.{Begins}
 
-drop-replicate : (m k : ℕ) → drop {A = ℕ} m (replicate k 0) ≡ replicate (k - m) 0
-drop-replicate zero k = rw sub-zero
-drop-replicate (suc m) zero = rw zero-sub
-drop-replicate (suc m) (suc k) =
-    let e : suc k - suc m ≡ k - m = omega arith in
-    rw e (drop-replicate m k)
+-- the list and what stands behind it
+pub split : {n : ℕ} {l t : List ℕ} → Begins n l t → t ≡ l ++ drop (length l) t
+split {n} {l} {t} p = sym (take-append-drop (length l) t) ∙ ap (λ (x : List ℕ). x ++ drop (length l) t) (p .same)
 
-pub push : {n : ℕ} {l t : List ℕ} (vs : List ℕ) → Padded n l t → length l + length vs ≤ n → Padded n (l ++ vs) (sets t (length l) vs)
-push {n} {l} {t} vs p h =
-    let left : n - length l - length vs ≡ n - length (l ++ vs) = simp length-append (omega arith) in
-    record {
-      fits = simp length-append h;
-      sized = length-sets t (length l) vs ∙ p .sized;
-      same =
-          sets-eq vs t (length l) (omega arith)
-          ∙ ap (λ (x : List ℕ). take (length l) x ++ vs ++ drop (length l + length vs) x) (p .same)
-          ∙ ap (λ (x : List ℕ). x ++ vs ++ drop (length l + length vs) (l ++ replicate (n - length l) 0)) (take-append-seam l _)
-          ∙ ap (λ (x : List ℕ). l ++ vs ++ x) (drop-append-add l _ (length vs) ∙ drop-replicate (length vs) (n - length l))
-          ∙ ap (λ (k : ℕ). (l ++ vs) ++ replicate k 0) left;
-    }
+joined : {l t : List ℕ} (r : List ℕ) → t ≡ l ++ r → take (length l) t ≡ l
+joined {l} {t} r e = ap (λ (x : List ℕ). take (length l) x) e ∙ take-append-seam l r
 
-pub skip : {n : ℕ} {l t : List ℕ} (k : ℕ) → Padded n l t → length l + k ≤ n → Padded n (l ++ replicate k 0) t
-skip {n} {l} {t} k p h =
-    let more : n - length l ≡ k + (n - length (l ++ replicate k 0)) = simp (length-append, length-replicate) (omega arith) in
-    record {
-      fits = simp (length-append, length-replicate) h;
-      sized = p .sized;
-      same = p .same ∙ ap (λ (x : List ℕ). l ++ x) (ap (λ (j : ℕ). replicate j 0) more ∙ sym (replicate-append-replicate k (n - length (l ++ replicate k 0)) 0)) ∙ sym (append-assoc l (replicate k 0) _);
-    }
+-- no list yet
+pub none : {n : ℕ} (t : List ℕ) → length t ≡ n → Begins n [] t
+none t e = record { fits = omega arith; sized = e; same = refl }
 
-pub put : {n : ℕ} {l t : List ℕ} (i v : ℕ) → Padded n l t → i < length l → Padded n (set l i v) (set t i v)
+pub push : {n : ℕ} {l t : List ℕ} (vs : List ℕ) → Begins n l t → length l + length vs ≤ n → Begins n (l ++ vs) (sets t (length l) vs)
+push {n} {l} {t} vs p h = record {
+  fits = simp length-append h;
+  sized = length-sets t (length l) vs ∙ p .sized;
+  same = joined (drop (length l + length vs) t) (sets-eq vs t (length l) (omega (arith, p .sized)) ∙ ap (λ (x : List ℕ). x ++ vs ++ drop (length l + length vs) t) (p .same));
+}
+
+pub put : {n : ℕ} {l t : List ℕ} (i v : ℕ) → Begins n l t → i < length l → Begins n (set l i v) (set t i v)
 put {n} {l} {t} i v p h = record {
   fits = simp length-set (p .fits);
   sized = length-set t i v ∙ p .sized;
-  same = ap (λ (x : List ℕ). set x i v) (p .same) ∙ set-append-left l _ i v h ∙ ap (λ (k : ℕ). set l i v ++ replicate (n - k) 0) (sym (length-set l i v));
+  same = joined (drop (length l) t) (ap (λ (x : List ℕ). set x i v) (split p) ∙ set-append-left l _ i v h);
 }
 
 sets-append-left : (vs l r : List ℕ) (i : ℕ) → i + length vs ≤ length l → sets (l ++ r) i vs ≡ sets l i vs ++ r
@@ -79,23 +68,23 @@ flat-set (x ∷ rs) (suc i) r h =
     ap (λ (l : List ℕ). words x ++ l) (flat-set rs i r (omega arith))
     ∙ sym (ap (λ (k : ℕ). sets (words x ++ flat rs) k (words r)) (omega (arith, length-words x)) ∙ sets-append-add (words r) (words x) (flat rs) (i * 7))
 
-pub put-row : {n : ℕ} {t : List ℕ} (rs : List Row) (i : ℕ) (r : Row) → Padded n (flat rs) t → i < length rs → Padded n (flat (set rs i r)) (sets t (i * 7) (words r))
+pub put-row : {n : ℕ} {t : List ℕ} (rs : List Row) (i : ℕ) (r : Row) → Begins n (flat rs) t → i < length rs → Begins n (flat (set rs i r)) (sets t (i * 7) (words r))
 put-row {n} {t} rs i r p h =
     let le : i * 7 + length (words r) ≤ length (flat rs) = omega (arith, length-words r, length-flat rs) in
     rw flat-set (record {
       fits = simp length-sets (p .fits);
       sized = length-sets t (i * 7) (words r) ∙ p .sized;
-      same = ap (λ (x : List ℕ). sets x (i * 7) (words r)) (p .same) ∙ sets-append-left (words r) (flat rs) _ (i * 7) le ∙ ap (λ (k : ℕ). sets (flat rs) (i * 7) (words r) ++ replicate (n - k) 0) (sym (length-sets (flat rs) (i * 7) (words r)));
+      same = joined (drop (length (flat rs)) t) (ap (λ (x : List ℕ). sets x (i * 7) (words r)) (split p) ∙ sets-append-left (words r) (flat rs) _ (i * 7) le);
     })
 
-pub push-row : {t : List ℕ} (n : ℕ) (rs : List Row) (r : Row) → Padded (n * 7) (flat rs) t → length rs < n → Padded (n * 7) (flat (rs ++ (r ∷ []))) (sets t (length rs * 7) (words r))
+pub push-row : {t : List ℕ} (n : ℕ) (rs : List Row) (r : Row) → Begins (n * 7) (flat rs) t → length rs < n → Begins (n * 7) (flat (rs ++ (r ∷ []))) (sets t (length rs * 7) (words r))
 push-row {t} n rs r p h =
     let e : length (flat rs) ≡ length rs * 7 = length-flat rs in
     rw (flat-snoc, ← e) (push (words r) p (omega (arith, length-words r)))
 
 -- what is read back
-pub at-held : {n : ℕ} {l t : List ℕ} (i : ℕ) → Padded n l t → i < length l → getD t i 0 ≡ getD l i 0
-at-held {n} {l} {t} i p h = ap (λ (x : List ℕ). getD x i 0) (p .same) ∙ List·getD-append l _ 0 i h
+pub at-held : {n : ℕ} {l t : List ℕ} (i : ℕ) → Begins n l t → i < length l → getD t i 0 ≡ getD l i 0
+at-held {n} {l} {t} i p h = ap (λ (x : List ℕ). getD x i 0) (split p) ∙ List·getD-append l _ 0 i h
 
 -- a word of a row
 pub flat-word : (rs : List Row) (i j : ℕ) → i < length rs → j < 7 → getD (flat rs) (i * 7 + j) 0 ≡ getD (words (getD rs i nil)) j 0
@@ -108,15 +97,13 @@ flat-word (r ∷ rs) (suc i) j l m =
     let e : suc i * 7 + j ≡ length (words r) + (i * 7 + j) = omega (arith, length-words r) in
     rw e (getD-append-add (words r) (flat rs) (i * 7 + j) 0 ∙ flat-word rs i j (omega arith) m)
 
--- zeros hold no list, and the nil row
-pub zeros : (n : ℕ) → Padded n [] (replicate n 0)
-zeros n =
-    let e : n ≡ n - 0 = omega arith in
-    record { fits = omega arith; sized = length-replicate n 0; same = ap (λ (j : ℕ). replicate j 0) e }
-
-pub nil-row : (n : ℕ) → 7 ≤ n → Padded n (flat (nil ∷ [])) (replicate n 0)
-unfolding flat words
-nil-row n h = skip 7 (zeros n) (omega arith)
+-- the rest zeroed: the list and then zeros
+pub padded : {n : ℕ} {l t t' : List ℕ} (k : ℕ) → Begins n l t → k ≡ length l → t' ≡ cleared k t → t' ≡ l ++ replicate (n - length l) 0
+padded {n} {l} {t} k p e f =
+    f
+    ∙ ap (λ (j : ℕ). cleared j t) e
+    ∙ cleared-after (length l) t (omega (arith, p .fits, p .sized))
+    ∙ λ i. p .same i ++ replicate (p .sized i - length l) 0
 
 -- the first word of a store
 pub sets-first : (l : List ℕ) (i x : ℕ) (xs : List ℕ) → i + suc (length xs) ≤ length l → getD (sets l i (x ∷ xs)) i 0 ≡ x

@@ -1,23 +1,17 @@
--- When lists lent and counts hold a state of the definition, and what a reader in code has to meet.
-use Prim.Native.Nat.{ℕ, _+_, _-_, _*_, _/_, _≤_, _<_}
+-- When lists lent and counts hold a state of the definition, and what the number that a reader in code answers has to mean.
+use Prim.Native.Nat.{ℕ, zero, suc, _+_, _-_, _*_, _/_, _%_, _≤_, _<_}
 use mathlib.Core.Path.{_≡_}
-use mathlib.Core.List.{List, [], _∷_, _++_}
+use mathlib.Core.List.{List, [], _∷_}
 use mathlib.Core.Option.{Option, none, some}
-use lib.Dec.{ltb}
-use lib.ListN.{length, replicate, getD, take, drop}
+use lib.Dec.{ltb, eqb}
+use lib.ListN.{length, getD, take, drop}
 use Rattle.definition.specs.Run.{Outcome, refused, pure, pick, look, _>>=_}
 use Rattle.definition.specs.Kind.{INSTANCE-VARIABLES, ARRAY, HASH, HASH-DEFAULT, OBJECT}
 use Rattle.definition.specs.Node.{Row, nil, bool, fixnum, symbol, array, hash, object, string, user, flat}
 use Rattle.definition.specs.Arena.{named, find-symbol, lowest, bad-nodes, too-long}
-use Rattle.definition.specs.Load.{Room, State, Reader, Lists, add-node, add-symbol, add-object-node, add-bytes, read-byte-string, read-symbol-like, counted, set-variables}
-use Rattle.loader.specs.declared.Found.{Found}
-use Rattle.loader.specs.declared.Found.the-variants.{At, Nowhere}
-use Rattle.loader.specs.declared.Opened.{Opened}
-use Rattle.loader.specs.declared.Opened.the-variants.{Open, Unopened}
-use Rattle.loader.specs.declared.Read.{Read}
-use Rattle.loader.specs.declared.Read.the-variants.{Value, Refused}
-use Rattle.loader.specs.declared.Tried.{Tried}
-use Rattle.loader.specs.declared.Tried.the-variants.{Taken, Failed, Other}
+use Rattle.definition.specs.Load.{Room, State, Reader, Lists, add-node, add-symbol, add-object-node, add-bytes, read-byte-string, put-reference, set-variables}
+use Rattle.definition.specs.declared.Refusal.{Refusal}
+use Rattle.reader.specs.Answers.{refusal-at}
 
 -- ---- what is held
 
@@ -40,11 +34,11 @@ symbols-of c = getD c 4 0
 abbrev pub objects-of : List ℕ → ℕ
 objects-of c = getD c 5 0
 
--- the table t of the size given is the list l and then zeros
-pub record Padded (size : ℕ) (l t : List ℕ) : Type 0 where
+-- the table t of the size given begins with the list l
+pub record Begins (size : ℕ) (l t : List ℕ) : Type 0 where
   pub fits : length l ≤ size
   pub sized : length t ≡ size
-  pub same : t ≡ l ++ replicate (size - length l) 0
+  pub same : take (length l) t ≡ l
 
 -- no table has more than 2^31 - 1 entries
 pub record Small (room : Room) : Type 0 where
@@ -112,11 +106,11 @@ Names bytes rows l = (name : List ℕ) → find-symbol bytes name rows 0 ≡ fin
 pub record Holds (input : List ℕ) (room : Room) (s : State) (T : Lists) (c : List ℕ) : Type 0 where
   pub small : Small room
   pub counts : length c ≡ 6
-  pub nodes : Padded (room .nodes * 7) (flat (s .nodes)) (T .nodes)
-  pub references : Padded (room .references) (s .references) (T .references)
-  pub bytes : Padded (room .bytes) (s .bytes) (T .bytes)
-  pub symbols : Padded (room .symbols) (s .symbols) (T .symbols)
-  pub objects : Padded (room .objects) (s .objects) (T .objects)
+  pub nodes : Begins (room .nodes * 7) (flat (s .nodes)) (T .nodes)
+  pub references : Begins (room .references) (s .references) (T .references)
+  pub bytes : Begins (room .bytes) (s .bytes) (T .bytes)
+  pub symbols : Begins (room .symbols) (s .symbols) (T .symbols)
+  pub objects : Begins (room .objects) (s .objects) (T .objects)
   pub count-at : at-of c ≡ s .at
   pub inside : s .at ≤ length input
   pub count-nodes : nodes-of c ≡ length (s .nodes)
@@ -160,105 +154,34 @@ pub record Went {A : Type 0} (input : List ℕ) (room : Room) (s : State) (o : O
 pub record Goes {A : Type 0} (input : List ℕ) (room : Room) (m : Reader A) (T : Lists) (c : List ℕ) (m' : Reader A) (T' : Lists) (c' : List ℕ) : Type 0 where
   pub goes : (s : State) → Holds input room s T c → Went input room s (m s) m' T' c'
 
--- the answer r, with the tables T' and the counts c', is what the definition's reader m gives, where the number answered stands for the value that view says
-abbrev pub Case : {A : Type 0} → (List ℕ → ℕ → A) → List ℕ → Room → Reader A → Lists → List ℕ → Read → Lists → List ℕ → Type 0
-Case view input room m T c (Value h) T' c' = Goes input room m T c (pure (view c' h)) T' c'
-Case view input room m T c (Refused q) T' c' = (s : State) → Holds input room s T c → m s ≡ refused q
+-- m is refused with q
+pub record Refuses {A : Type 0} (input : List ℕ) (room : Room) (m : Reader A) (T : Lists) (c : List ℕ) (q : Refusal) : Type 0 where
+  pub refuses : (s : State) → Holds input room s T c → m s ≡ refused q
 
-pub record Sees {A : Type 0} (view : List ℕ → ℕ → A) (input : List ℕ) (room : Room) (m : Reader A) (T : Lists) (c : List ℕ) (r : Read) (T' : Lists) (c' : List ℕ) : Type 0 where
-  pub meets : Case view input room m T c r T' c'
+-- by the number r: below 2^32 m has come to m', from there on it is refused
+pub record Leads {A : Type 0} (input : List ℕ) (room : Room) (limit : ℕ) (m m' : Reader A) (T : Lists) (c : List ℕ) (r : ℕ) (T' : Lists) (c' : List ℕ) : Type 0 where
+  pub goes : r < 4294967296 → Goes input room m T c m' T' c'
+  pub stops : 4294967296 ≤ r → Refuses input room m T c (refusal-at limit r)
 
--- the answer is a number; there is nothing to answer
-abbrev pub Meets : List ℕ → Room → Reader ℕ → Lists → List ℕ → Read → Lists → List ℕ → Type 0
-Meets input room m T c r T' c' = Sees (λ c h. h) input room m T c r T' c'
+-- the number is m's value; there is nothing to answer; it is the length of the bytes that m gives, which stand before the offset
+abbrev pub Meets : List ℕ → Room → ℕ → Reader ℕ → Lists → List ℕ → ℕ → Lists → List ℕ → Type 0
+Meets input room limit m T c r T' c' = Leads input room limit m (pure r) T c r T' c'
 
-abbrev pub Does : List ℕ → Room → Reader (Unit {0}) → Lists → List ℕ → Read → Lists → List ℕ → Type 0
-Does input room m T c r T' c' = Sees (λ c h. tt) input room m T c r T' c'
+abbrev pub Does : List ℕ → Room → ℕ → Reader (Unit {0}) → Lists → List ℕ → ℕ → Lists → List ℕ → Type 0
+Does input room limit m T c r T' c' = Leads input room limit m (pure tt) T c r T' c'
 
--- a value that may be of a kind that isn't read: then nothing was read
-abbrev pub Tries : List ℕ → Room → Reader ℕ → Lists → List ℕ → Tried → Lists → List ℕ → Type 0
-Tries input room m T c (Taken h) T' c' = Goes input room m T c (pure h) T' c'
-Tries input room m T c (Failed q) T' c' = (s : State) → Holds input room s T c → m s ≡ refused q
-Tries input room m T c Other T' c' = Goes input room m T c m T' c'
-
-pub record Trying (input : List ℕ) (room : Room) (m : Reader ℕ) (T : Lists) (c : List ℕ) (r : Tried) (T' : Lists) (c' : List ℕ) : Type 0 where
-  pub tries : Tries input room m T c r T' c'
-
--- a list of members opened: the container's node and its name, if any, where its words start, and its count; then the rest k goes on
-abbrev pub Opens : {A : Type 0} → List ℕ → Room → Reader A → (ℕ → ℕ → ℕ → ℕ → Reader A) → Lists → List ℕ → Opened → Lists → List ℕ → Type 0
-Opens input room m k T c (Open h w p n) T' c' = Goes input room m T c (k h w p n) T' c'
-Opens input room m k T c (Unopened q) T' c' = (s : State) → Holds input room s T c → m s ≡ refused q
-
-pub record Opening {A : Type 0} (input : List ℕ) (room : Room) (m : Reader A) (k : ℕ → ℕ → ℕ → ℕ → Reader A) (T : Lists) (c : List ℕ) (r : Opened) (T' : Lists) (c' : List ℕ) : Type 0 where
-  pub opens : Opens input room m k T c r T' c'
-
--- ---- what answers say of the counts and tables
-
--- the n bytes before the offset
 abbrev pub span : List ℕ → ℕ → ℕ → List ℕ
 span input at n = take n (drop (at - n) input)
 
 abbrev pub span-of : List ℕ → List ℕ → ℕ → List ℕ
 span-of input c n = span input (at-of c) n
 
--- the answer is a length of bytes that were passed
-abbrev pub Spanned : List ℕ → List ℕ → Read → Type 0
-Spanned input c (Value n) = (n ≤ at-of c) × (at-of c ≤ length input)
-Spanned input c (Refused q) = Unit {0}
+abbrev pub Spans : List ℕ → Room → ℕ → Reader (List ℕ) → Lists → List ℕ → ℕ → Lists → List ℕ → Type 0
+Spans input room limit m T c r T' c' = Leads input room limit m (pure (span-of input c' r)) T c r T' c'
 
-abbrev pub Counted : Read → Type 0
-Counted (Value n) = n < 2147483648
-Counted (Refused q) = Unit {0}
-
--- the answer's node is there; the words, the bytes from the answer on are there
-abbrev pub Below : List ℕ → Read → Type 0
-Below c (Value h) = h < nodes-of c
-Below c (Refused q) = Unit {0}
-
-abbrev pub TriedBelow : List ℕ → Tried → Type 0
-TriedBelow c (Taken h) = h < nodes-of c
-TriedBelow c (Failed q) = Unit {0}
-TriedBelow c Other = Unit {0}
-
-abbrev pub Placed : ℕ → List ℕ → Read → Type 0
-Placed n c (Value h) = h + n ≤ references-of c
-Placed n c (Refused q) = Unit {0}
-
-abbrev pub Stored : ℕ → List ℕ → Read → Type 0
-Stored n c (Value h) = h + n ≤ bytes-of c
-Stored n c (Refused q) = Unit {0}
-
--- the answer is the number given
-abbrev pub Is : ℕ → Read → Type 0
-Is h (Value v) = v ≡ h
-Is h (Refused q) = Unit {0}
-
-abbrev pub found-of : Found → Option ℕ
-found-of (At i) = some i
-found-of Nowhere = none
-
--- what was found is a symbol
-abbrev pub FoundSymbolic : List Row → Found → Type 0
-FoundSymbolic rows (At h) = Symbolic (getD rows h nil)
-FoundSymbolic rows Nowhere = Unit {0}
-
--- node h is no symbol; the answer's node is none
+-- node h is no symbol
 abbrev pub Free : List ℕ → ℕ → Type 0
 Free nodes h = getD nodes (h * 7) 0 ≡ 3 → ⊥
-
-abbrev pub FreeAt : List ℕ → Read → Type 0
-FreeAt nodes (Value h) = Free nodes h
-FreeAt nodes (Refused q) = Unit {0}
-
--- the words are there
-abbrev pub Laid : ℕ → List ℕ → Opened → Type 0
-Laid each c (Open h w p n) = (n < 2147483648) × (p + n * each ≤ references-of c)
-Laid each c (Unopened q) = Unit {0}
-
--- the container's node is there, and no symbol
-abbrev pub Begun : List ℕ → List ℕ → Opened → Type 0
-Begun nodes c (Open h w p n) = (h < nodes-of c) × Free nodes h
-Begun nodes c (Unopened q) = Unit {0}
 
 -- a kind byte of no value that has members
 pub record Leaf (k : ℕ) : Type 0 where
@@ -278,17 +201,29 @@ new-symbol room start n = add-node room (symbol start n) >>= add-symbol room
 abbrev pub text : List ℕ → Room → (ℕ → ℕ → Row) → Reader ℕ
 text input room row = read-byte-string input >>= λ bs. add-bytes room bs >>= λ start. add-object-node room (row start (length bs))
 
--- a container's node, its count and its words, and then the rest
-abbrev pub container : List ℕ → Room → ℕ → (ℕ → ℕ → ℕ → Reader ℕ) → Reader ℕ
-container input room each k = add-object-node room nil >>= λ h. counted input room each (k h)
-
--- the same with a name before the count
-abbrev pub named-container : List ℕ → Room → (ℕ → ℕ → ℕ → ℕ → Reader ℕ) → Reader ℕ
-named-container input room k = add-object-node room nil >>= λ h. read-symbol-like input room >>= λ w. counted input room 2 (k h w)
-
 -- variables are set, or 10
 abbrev pub settle : ℕ → ℕ → ℕ → Reader ℕ
 settle h start n = look λ s. set-variables h start n (getD (s .nodes) h nil)
+
+-- ---- the words of a list: values, or names and values in turn
+
+-- what stands in reference word `to`: a name where its parity is `names`, else a value
+abbrev pub slot : Reader ℕ → Reader ℕ → ℕ → ℕ → Reader ℕ
+slot name inner names to = pick (eqb (to % 2) names) name inner
+
+-- n words from `to` on
+unfoldable pub slots : Reader ℕ → Reader ℕ → ℕ → ℕ → ℕ → Reader (Unit {0})
+slots name inner names zero to = pure tt
+slots name inner names (suc n) to = slot name inner names to >>= λ v. put-reference to v >>= λ _. slots name inner names n (suc to)
+
+-- so many values more, none or one, of which the last is given
+unfoldable pub more-of : Reader ℕ → ℕ → Reader ℕ
+more-of inner zero = pure 0
+more-of inner (suc n) = inner
+
+-- the words of a list, and what comes after them
+abbrev pub members : Reader ℕ → Reader ℕ → ℕ → ℕ → ℕ → ℕ → Reader ℕ
+members name inner names more n to = slots name inner names n to >>= λ _. more-of inner more
 
 -- ---- the lengths lent
 

@@ -4,6 +4,7 @@
 // same graph, else 0; the answer's number and two details, of both; the lengths of the two dumps. Bytes follow, padded to a
 // word: the first input, the second, the first dump, the second.
 use definition::Dumped;
+use definition::Node;
 use redumping::redump;
 use replay::bytes_agree;
 use replay::fill_bytes;
@@ -271,7 +272,7 @@ fn replay_all(
 
 fn main() {
     let mut data = io::buffer();
-    let mut nodes = [0u32; 7000];
+    let mut nodes = [0u32; 1000 * Node::WIDTH];
     let mut references = [0u32; 4000];
     let mut bytes = [0u8; 16384];
     let mut symbols = [0u32; 1000];

@@ -1,6 +1,10 @@
 // redump: loads standard input and writes its dump, or the row of the refusal as list prints it.
+use console::BYTES;
 use console::Input;
 use console::LONGEST;
+use console::NODES;
+use console::NUMBERED;
+use console::REFERENCES;
 use console::flush;
 use console::put_refusal;
 use console::read_input;
@@ -92,12 +96,12 @@ fn run(
 
 fn main() {
     let mut input = [0u8; LONGEST + 1];
-    let mut nodes = [0u32; 7000];
-    let mut references = [0u32; 4000];
-    let mut bytes = [0u8; 16384];
-    let mut symbols = [0u32; 1000];
-    let mut objects = [0u32; 1000];
-    let mut scratch = [0u32; 1000];
+    let mut nodes = [0u32; NODES];
+    let mut references = [0u32; REFERENCES];
+    let mut bytes = [0u8; BYTES];
+    let mut symbols = [0u32; NUMBERED];
+    let mut objects = [0u32; NUMBERED];
+    let mut scratch = [0u32; NUMBERED];
     // 65,536 bytes hold every dump of these tables, which takes at most 2 + 16,384 + 1,000 * 12 + 4,001 * 4 = 44,390:
     // the header; the byte strings, each laid out once; for each node `I`, its kind, a length and a count of 3 bytes each
     // (a fixnum's 6 are fewer), and 4 for a link as its name or default; the root and each reference as a link of 4.

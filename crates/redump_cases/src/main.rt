@@ -1,8 +1,12 @@
 // Prints for each of several inputs what the program redump writes: the dump as a line of hex, or the refusal's row.
 //
 // Standard input: for each input its length, four bytes, low byte first, and its bytes.
+use console::BYTES;
 use console::Input;
 use console::LONGEST;
+use console::NODES;
+use console::NUMBERED;
+use console::REFERENCES;
 use console::end_row;
 use console::flush;
 use console::put;
@@ -157,12 +161,12 @@ fn redump_all(
 fn main() {
     let mut data = [0u8; LONGEST + 1];
     let mut out = io::buffer();
-    let mut nodes = [0u32; 7000];
-    let mut references = [0u32; 4000];
-    let mut bytes = [0u8; 16384];
-    let mut symbols = [0u32; 1000];
-    let mut objects = [0u32; 1000];
-    let mut scratch = [0u32; 1000];
+    let mut nodes = [0u32; NODES];
+    let mut references = [0u32; REFERENCES];
+    let mut bytes = [0u8; BYTES];
+    let mut symbols = [0u32; NUMBERED];
+    let mut objects = [0u32; NUMBERED];
+    let mut scratch = [0u32; NUMBERED];
     let mut output = io::large_buffer();
     redump_all(
         &mut data,

@@ -21,8 +21,9 @@ use Rattle.graph.specs.Sums.{total}
 use Rattle.graph.specs.Forest.{Node, leaf, box, Num, fresh, F, node-box, node-sym}
 use Rattle.graph.specs.Forest.{sym as symbol-node}
 use Rattle.graph.specs.Describe.{E, eEnd, eLeaf, eBox, eRef, eSym, eSymref, e-len, boxes-numbered, symbols-numbered}
-use Rattle.graph.specs.View.{see, seen, at-node, at-see}
-use Rattle.dump_forest.specs.Right.{Right, RowRight, Fixnums, fault-right, fault-fit}
+use Rattle.graph.specs.View.{see, seen, at-see}
+use Rattle.well_formed.specs.Nodes.{at-node}
+use Rattle.well_formed.specs.Right.{Right, RowRight, Fixnums, fault-right, fault-fit}
 use Rattle.dump_forest.specs.Shown.{Shown, nil-shown, false-shown, true-shown, fixnum-shown, symbol-shown, array-shown, hash-shown, default-shown, object-shown, string-shown, string-vars-shown, user-shown, user-vars-shown, shown-at}
 use Rattle.dump_forest.specs.Sound.{dump-sound}
 use Rattle.dump_forest.specs.Same.{one-graph}

@@ -11,7 +11,7 @@ use Rattle.definition.specs.Dump.{Written, dump, dump-done, dump-checked, dump-
 use Rattle.definition.specs.declared.Answer.the-variants.{Accepted}
 use Rattle.definition.specs.declared.Counts.{Counts}
 use Rattle.definition.specs.declared.Dumped.{Dumped}
-use Rattle.dump_forest.specs.Right.{fault-right}
+use Rattle.well_formed.specs.Right.{fault-right}
 use Rattle.dump_forest.specs.Answers.{Answered, with-bytes, with-refusal, dump-answered}
 use Rattle.round_trip.specs.Statement.{DumpAllowed}
 -- ---- an equivalence

@@ -20,7 +20,7 @@ use Rattle.graph.specs.Forest.{F, Num, fresh, Text, values}
 use Rattle.graph.specs.Describe.{E, Says}
 use Rattle.graph.specs.Build.{Names}
 use Rattle.graph.specs.View.{seen, arena-of}
-use Rattle.dump_forest.specs.Right.{Right, fault-right}
+use Rattle.well_formed.specs.Right.{Right, fault-right}
 use Rattle.dump_forest.specs.Writers.{num, written as written-as}
 use Rattle.dump_forest.specs.Sound.{dump-sound}
 use Rattle.dump_forest.specs.Complete.{dump-complete, text-up}

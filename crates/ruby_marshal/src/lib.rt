@@ -1,4 +1,4 @@
-// The library that users link: load, dump, and the arena's getters and builder.
+// The library that users link: load, dump, the reader of an input, and the arena's getters and builder.
 pub use definition::Answer;
 pub use definition::Begun;
 pub use definition::Counts;
@@ -7,12 +7,26 @@ pub use definition::Dumped;
 pub use definition::Fault;
 pub use definition::Loaded;
 pub use definition::Name;
+pub use definition::Node;
 pub use definition::Number;
 pub use definition::Refusal;
+pub use definition::Taken;
+pub use definition::Text;
 pub use definition::ValueKind;
 pub use definition::Words;
 pub use dump::dump;
 pub use load::load;
+pub use load::load_next;
+pub use reader::Reader;
+pub use reader::bytes_left;
+pub use reader::moved;
+pub use reader::offset;
+pub use reader::read_byte;
+pub use reader::read_byte_string;
+pub use reader::read_header;
+pub use reader::read_integer;
+pub use reader::start;
+pub use reader::start_at;
 pub use refusal::Numbers;
 pub use refusal::answer_numbers;
 pub use refusal::numbers_of;

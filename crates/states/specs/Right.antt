@@ -1,7 +1,7 @@
 -- A right row: its ranges are inside, its links lead to nodes and its names are symbols; then the definition's test holds.
 use Prim.Native.Nat.{ℕ, zero, suc, _+_, _*_, _≤_}
 use mathlib.Core.Path.{_≡_, refl, ap}
-use mathlib.Core.Bool.{Bool, true, _&&_}
+use mathlib.Core.Bool.{true}
 use mathlib.Core.List.{List, [], _∷_, _++_}
 use lib.ListN.{length}
 use native.Mathlib.Omega.{arith}
@@ -10,8 +10,9 @@ use Rattle.definition.specs.Run.{pick}
 use Rattle.definition.specs.Node.{Row, Vars, nil, bool, fixnum, symbol, array, hash, object, string, user, absent, present, kind}
 use Rattle.definition.specs.Arena.{Arena, range, firsts, all-below, is-name, all-names, bytes-right, list-right, pairs-right, vars-right, row-right}
 use Rattle.definition.specs.Graph.{links, vars-links, default-link}
+use Rattle.lists.specs.Joined.{yes-and}
 use Rattle.lists.specs.Lists.{At, at-app, Below}
-use Rattle.graph.specs.View.{node-at, Name}
+use Rattle.well_formed.specs.Nodes.{node-at, Name}
 use Rattle.states.specs.Rows.{bytes-start, bytes-length, list-start, list-length, vars-start, vars-length, row-words, Within, vars-links-same, links-same}
 
 -- the names of a row: an object's or a user-defined node's, and the first of each pair
@@ -65,9 +66,6 @@ row-onward A B r o e h = record {
 }
 
 -- ---- the definition's test of a row
-
-pub yes-and : (a b : Bool) → a ≡ true → b ≡ true → a && b ≡ true
-yes-and a b p q = rw (p, q)
 
 pub all-below-yes : (n : ℕ) (l : List ℕ) → Below n l → all-below n l ≡ true
 unfolding all-below pick

@@ -1,11 +1,14 @@
 // Stores into lent tables: a node, copies, zeros.
+use definition::Node;
 ghost use mathlib.Core.Path.{_≡_};
 ghost use mathlib.Core.List.{List, [], _∷_};
 ghost use Prim.Native.Nat.{ℕ, _+_, _≤_};
 ghost use lib.ListN.{length, take, drop, replicate};
 ghost use lib.Seq.{sets};
+ghost use Rattle.definition.specs.Node.{width};
+ghost use Rattle.store.specs.Laws.{cleared};
 
-// The seven words of a node, from word `base` on.
+// The words of a node, from word `base` on.
 pub fn put_node(
     nodes: &mut [u32],
     base: usize,
@@ -17,16 +20,16 @@ pub fn put_node(
     name: u32,
     last: u32,
 )
-    requires { ⌜ base + 7 ≤ length (now nodes) ⌝ }
+    requires { ⌜ base + width ≤ length (now nodes) ⌝ }
     ensures { λ _. ⌜ now (nodes .exit) ≡ sets (now (nodes .entry)) base (kind ∷ a ∷ b ∷ list ∷ n ∷ name ∷ last ∷ []) ⌝ }
 {
     nodes[base] = kind;
-    nodes[base + 1] = a;
-    nodes[base + 2] = b;
-    nodes[base + 3] = list;
-    nodes[base + 4] = n;
-    nodes[base + 5] = name;
-    nodes[base + 6] = last;
+    nodes[base + Node::START] = a;
+    nodes[base + Node::LENGTH] = b;
+    nodes[base + Node::LIST] = list;
+    nodes[base + Node::COUNT] = n;
+    nodes[base + Node::NAME] = name;
+    nodes[base + Node::DEFAULT] = last;
 }
 
 // n bytes of `source` from `from` on, to `to` on.
@@ -53,22 +56,36 @@ pub fn copy_words(source: &[u32], words: &mut [u32], to: usize)
     }
 }
 
-pub fn zero_bytes(bytes: &mut [u8])
-    ensures { λ _. ⌜ now (bytes .exit) ≡ replicate (length (now (bytes .entry))) 0 ⌝ }
+// The n words from `from` on are zero, the others as they were.
+pub fn zero_range(words: &mut [u32], from: usize, n: usize)
+    requires { ⌜ from + n ≤ length (now words) ⌝ }
+    ensures { λ _. ⌜ now (words .exit) ≡ sets (now (words .entry)) from (replicate n 0) ⌝ }
 {
     let mut i = 0;
-    while i < bytes.len() {
-        bytes[i] = 0;
+    while i < n {
+        words[from + i] = 0;
         i = i + 1;
     }
 }
 
-pub fn zero_words(words: &mut [u32])
-    ensures { λ _. ⌜ now (words .exit) ≡ replicate (length (now (words .entry))) 0 ⌝ }
+// The words from `from` on are zero, those before it as they were.
+pub fn zero_words(words: &mut [u32], from: usize)
+    requires { ⌜ from ≤ length (now words) ⌝ }
+    ensures { λ _. ⌜ now (words .exit) ≡ cleared from (now (words .entry)) ⌝ }
 {
+    let n = words.len() - from;
+    zero_range(words, from, n);
+}
+
+// The bytes from `from` on are zero, those before it as they were.
+pub fn zero_bytes(bytes: &mut [u8], from: usize)
+    requires { ⌜ from ≤ length (now bytes) ⌝ }
+    ensures { λ _. ⌜ now (bytes .exit) ≡ cleared from (now (bytes .entry)) ⌝ }
+{
+    let n = bytes.len() - from;
     let mut i = 0;
-    while i < words.len() {
-        words[i] = 0;
+    while i < n {
+        bytes[from + i] = 0;
         i = i + 1;
     }
 }

@@ -20,6 +20,7 @@ use Rattle.definition.specs.declared.Refusal.{Refusal}
 use Rattle.definition.specs.declared.Refusal.the-variants.{BadTables, NoSpace}
 use Rattle.arena_check.specs.Held.{tables}
 use Rattle.arena_check.proofs.Rights.{node-words}
+use Rattle.store.specs.Laws.{cleared, cleared-whole}
 use Rattle.value_arena.specs.Calls.{Says, Fit, FitsIf, Below, built, made, refusal}
 
 -- ---- an answer taken apart
@@ -30,8 +31,17 @@ accepted m L e s = subst (λ (x : Answer). Says x m L) e s
 pub not-accepted : {r : Answer} {q : Refusal} (m : Run Lent (Unit {0})) (L : Lent) → r ≡ Refused q → Says r m L → m L ≡ refused q
 not-accepted m L e s = subst (λ (x : Answer). Says x m L) e s
 
+-- a test that comes to another says what that says
+pub says-on : (r : Answer) (m m′ : Run Lent (Unit {0})) (L : Lent) → m L ≡ m′ L → Says r m′ L → Says r m L
+says-on Accepted m m′ L e s = e ∙ s
+says-on (Refused q) m m′ L e s = e ∙ s
+
 pub fit-of : {r : Answer} (n e b more : ℕ) (c : Counts) → r ≡ Accepted → FitsIf r n e b more c → Fit n e b more c
 fit-of n e b more c p f = subst (λ (x : Answer). FitsIf x n e b more c) p f
+
+pub fit-if : {n e b more : ℕ} {c : Counts} (r : Answer) → Fit n e b more c → FitsIf r n e b more c
+fit-if Accepted f = f
+fit-if (Refused q) f = tt
 
 pub below-of : {r : Answer} (h count : ℕ) → r ≡ Accepted → Below r h count → h < count
 below-of h count p f = subst (λ (x : Answer). Below x h count) p f
@@ -48,13 +58,9 @@ stop f e = ap (λ o. next o f) e
 -- ---- getters
 
 module _ (L : Lent) where
-  pub handle-ok : (h : ℕ) → check [] L ≡ ok tt L → check-handles (h ∷ []) L ≡ ok tt L → handle-checked h L ≡ ok tt L
+  pub handle-on : (h : ℕ) → check [] L ≡ ok tt L → handle-checked h L ≡ check-handles (h ∷ []) L
   unfolding _>>=_ handle-checked
-  handle-ok h p q = on _ p ∙ q
-
-  pub handle-no : (h : ℕ) (q : Refusal) → check [] L ≡ ok tt L → check-handles (h ∷ []) L ≡ refused q → handle-checked h L ≡ refused q
-  unfolding _>>=_ handle-checked
-  handle-no h q p r = on _ p ∙ r
+  handle-on h p = on _ p
 
   pub handle-stop : (h : ℕ) (q : Refusal) → check [] L ≡ refused q → handle-checked h L ≡ refused q
   unfolding _>>=_ handle-checked
@@ -182,11 +188,11 @@ module _ (T : Tables) (w : ℕ) (e : w ≡ wrong T []) where
       go zero n = absurd (n refl)
       go (suc w) n = refl
 
-  pub new-right : w ≡ 0 → (n r b : List ℕ) → n ≡ replicate (length (T .nodes)) 0 → r ≡ replicate (length (T .references)) 0 → b ≡ replicate (length (T .bytes)) 0
+  pub new-right : w ≡ 0 → (n r b : List ℕ) → n ≡ cleared 0 (T .nodes) → r ≡ cleared 0 (T .references) → b ≡ cleared 0 (T .bytes)
       → made (record { answer = Accepted; counts = record { nodes = 1; references = 0; bytes = 0; root = 0 } }) n r b ≡ new-call T
   unfolding new-call new-if zeroed
   new-right z n r b p q s =
-      (λ i. made (record { answer = Accepted; counts = record { nodes = 1; references = 0; bytes = 0; root = 0 } }) (p i) (q i) (s i))
+      (λ i. made (record { answer = Accepted; counts = record { nodes = 1; references = 0; bytes = 0; root = 0 } }) ((p ∙ cleared-whole (T .nodes)) i) ((q ∙ cleared-whole (T .references)) i) ((s ∙ cleared-whole (T .bytes)) i))
       ∙ ap (λ (k : ℕ). new-if k T) (sym z ∙ e)
 
 -- a handle's words lie inside the table

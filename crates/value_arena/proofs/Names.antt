@@ -21,8 +21,8 @@ use Rattle.lists.specs.Ranges.{length-range, range-step, range-end}
 use Rattle.lists.specs.Tables.{length-rows, rows-at}
 use Rattle.arena_check.proofs.Lists.{kind-three}
 use Rattle.arena_check.proofs.Rights.{node-words, range-take}
-use Rattle.graph.specs.View.{at-node}
-use Rattle.dump_forest.specs.Right as R
+use Rattle.well_formed.specs.Nodes.{at-node}
+use Rattle.well_formed.specs.Right as R
 use Rattle.value_arena.specs.Calls.{SymbolsIn}
 use Rattle.value_arena.proofs.Tests.{no-refusal, one-right, one-wrong}
 

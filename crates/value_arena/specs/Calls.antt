@@ -2,11 +2,11 @@
 use Prim.Native.Nat.{ℕ, _+_, _*_, _/_, _≤_, _<_}
 use mathlib.Core.Bool.{Bool, true, false}
 use mathlib.Core.Path.{_≡_}
-use mathlib.Core.List.{List, [], _∷_}
+use mathlib.Core.List.{List}
 use lib.ListN.{length}
 use Rattle.definition.specs.Run.{Run, ok, refused}
-use Rattle.definition.specs.Node.{symbol}
-use Rattle.definition.specs.Arena.{Tables, Arena, node}
+use Rattle.definition.specs.Node.{width, symbol}
+use Rattle.definition.specs.Arena.{Arena, node}
 use Rattle.definition.specs.Build.{Lent, BuildCall, NewCall}
 use Rattle.definition.specs.declared.Answer.{Answer}
 use Rattle.definition.specs.declared.Answer.the-variants.{Accepted, Refused}
@@ -26,7 +26,7 @@ Says (Refused q) m L = m L ≡ refused q
 
 -- lengths of tables that 1 doesn't refuse
 pub record Small (nodes references bytes : ℕ) : Type 0 where
-  pub whole : nodes / 7 * 7 ≡ nodes
+  pub whole : nodes / width * width ≡ nodes
   pub nodes-small : nodes ≤ 2147483647
   pub references-small : references ≤ 2147483647
   pub bytes-small : bytes ≤ 2147483647

@@ -8,6 +8,7 @@ use definition::Begun;
 use definition::Counts;
 use definition::Created;
 use definition::Name;
+use definition::Node;
 use definition::Number;
 use definition::Refusal;
 use definition::Words;
@@ -20,14 +21,13 @@ ghost use mathlib.Core.Path.{_≡_};
 ghost use mathlib.Core.Bool.{Bool, true, false};
 ghost use mathlib.Core.List.{List, [], _∷_};
 ghost use Prim.Native.Nat.{ℕ, _+_, _-_, _*_, _/_, _<_, _≤_};
-ghost use lib.ListN.{length, take, drop, replicate};
-ghost use lib.Seq.{sets};
-ghost use Rattle.definition.specs.Node.{Row, bool, words, rows, equal};
-ghost use Rattle.definition.specs.Arena.{Tables, Arena, arena, node, named, firsts, lowest, find-symbol};
-ghost use Rattle.definition.specs.Build.{Lent, lent, BuildCall, NewCall, build-call, build-done, number-done, words-done, name-done, new-call, wrong, check-handles, check-names, get-words, get-kind, get-name, get-root, exchange-root, bits, create-nil, create-bool, create-fixnum, create-new-symbol, create-symbol, create-array, create-hash, create-object, create-string, create-user-defined};
+ghost use lib.ListN.{length, take, drop};
+ghost use Rattle.definition.specs.Node.{width, Row, bool, words, rows, equal};
+ghost use Rattle.definition.specs.Arena.{Tables, Arena, node, named, firsts, lowest, find-symbol};
+ghost use Rattle.definition.specs.Build.{Lent, lent, build-call, number-done, words-done, name-done, new-call, wrong, check-handles, check-names, get-words, get-kind, get-name, get-root, exchange-root, bits, create-nil, create-bool, create-fixnum, create-new-symbol, create-symbol, create-array, create-hash, create-object, create-string, create-user-defined};
 ghost use Rattle.definition.specs.Build as B;
 ghost use Rattle.arena_check.specs.Held.{tables};
-ghost use Rattle.value_arena.specs.Calls.{Says, Small, FitsIf, Fit, Below, built, made, refusal, entries, found, SymbolsIn};
+ghost use Rattle.value_arena.specs.Calls.{Says, Small, FitsIf, Below, built, made, refusal, entries, found, SymbolsIn};
 
 // ---- what is tested
 
@@ -42,7 +42,7 @@ fn wrong_table(nodes: usize, references: usize, bytes: usize, more: u32) -> u32
     if nodes == 0 {
         return 1;
     }
-    if nodes % 7 != 0 {
+    if nodes % Node::WIDTH != 0 {
         return 1;
     }
     if 2147483647 < references {
@@ -98,7 +98,7 @@ fn check_handles_at(handles: &[u32], count: usize) -> Answer
 
 // 14 for a name that is no symbol.
 fn check_name(nodes: &[u32], count: usize, h: u32) -> Answer
-    requires { ⌜ count * 7 ≤ length (now nodes) ⌝ }
+    requires { ⌜ count * width ≤ length (now nodes) ⌝ }
     ensures { λ r. ⌜ ((L : Lent) → L .tables .nodes ≡ now (nodes .entry) → L .counts .nodes ≡ count → Says r (check-names (h ∷ [])) L) ⌝ }
 {
     if is_name_at(&nodes[..], count, h) {
@@ -110,7 +110,7 @@ fn check_name(nodes: &[u32], count: usize, h: u32) -> Answer
 
 // 14 for the first of a pair that is no symbol.
 fn check_pair_names(nodes: &[u32], count: usize, pairs: &[u32]) -> Answer
-    requires { ⌜ (count * 7 ≤ length (now nodes)) × (length (now pairs) / 2 * 2 ≡ length (now pairs)) ⌝ }
+    requires { ⌜ (count * width ≤ length (now nodes)) × (length (now pairs) / 2 * 2 ≡ length (now pairs)) ⌝ }
     ensures { λ r. ⌜ ((L : Lent) → L .tables .nodes ≡ now (nodes .entry) → L .counts .nodes ≡ count → Says r (check-names (firsts (now (pairs .entry)))) L) ⌝ }
 {
     let n = pairs.len() / 2;
@@ -133,10 +133,7 @@ fn begin_handle(nodes: &[u32], references: &[u32], bytes: &[u8], counts: Counts,
 {
     let count = counts.nodes;
     match begin(&nodes[..], &references[..], &bytes[..], counts, 0) {
-        Answer::Accepted => match check_handle(h, count) {
-            Answer::Accepted => Answer::Accepted,
-            Answer::Refused(q) => Answer::Refused(q),
-        },
+        Answer::Accepted => check_handle(h, count),
         Answer::Refused(q) => Answer::Refused(q),
     }
 }
@@ -164,7 +161,7 @@ pub fn kind(nodes: &[u32], references: &[u32], bytes: &[u8], counts: Counts, h: 
 {
     match begin_handle(&nodes[..], &references[..], &bytes[..], counts, h) {
         Answer::Accepted => {
-            let at = size(h) * 7;
+            let at = size(h) * Node::WIDTH;
             Number {
                 answer: Answer::Accepted,
                 value: nodes[at],
@@ -182,15 +179,15 @@ pub fn get(nodes: &[u32], references: &[u32], bytes: &[u8], counts: Counts, h: u
 {
     match begin_handle(&nodes[..], &references[..], &bytes[..], counts, h) {
         Answer::Accepted => {
-            let at = size(h) * 7;
+            let at = size(h) * Node::WIDTH;
             let words = [
                 nodes[at],
-                nodes[at + 1],
-                nodes[at + 2],
-                nodes[at + 3],
-                nodes[at + 4],
-                nodes[at + 5],
-                nodes[at + 6],
+                nodes[at + Node::START],
+                nodes[at + Node::LENGTH],
+                nodes[at + Node::LIST],
+                nodes[at + Node::COUNT],
+                nodes[at + Node::NAME],
+                nodes[at + Node::DEFAULT],
             ];
             Words {
                 answer: Answer::Accepted,
@@ -198,7 +195,7 @@ pub fn get(nodes: &[u32], references: &[u32], bytes: &[u8], counts: Counts, h: u
             }
         }
         Answer::Refused(q) => {
-            let words = [0u32; 7];
+            let words = [0u32; Node::WIDTH];
             Words {
                 answer: Answer::Refused(q),
                 words: words,
@@ -214,11 +211,11 @@ pub fn get_symbol(nodes: &[u32], references: &[u32], bytes: &[u8], counts: Count
     match begin_handle(&nodes[..], &references[..], &bytes[..], counts, h) {
         Answer::Accepted => match check_name(&nodes[..], count, h) {
             Answer::Accepted => {
-                let at = size(h) * 7;
+                let at = size(h) * Node::WIDTH;
                 Name {
                     answer: Answer::Accepted,
-                    start: nodes[at + 1],
-                    length: nodes[at + 2],
+                    start: nodes[at + Node::START],
+                    length: nodes[at + Node::LENGTH],
                 }
             }
             Answer::Refused(q) => Name {
@@ -294,9 +291,9 @@ pub fn new(nodes: &mut [u32], references: &mut [u32], bytes: &mut [u8]) -> Begun
             },
         };
     }
-    zero_words(nodes);
-    zero_words(references);
-    zero_bytes(bytes);
+    zero_words(nodes, 0);
+    zero_words(references, 0);
+    zero_bytes(bytes, 0);
     Begun {
         answer: Answer::Accepted,
         counts: Counts {
@@ -310,15 +307,15 @@ pub fn new(nodes: &mut [u32], references: &mut [u32], bytes: &mut [u8]) -> Begun
 
 // A node of kind k with word 1, and neither bytes nor a list.
 fn add_plain(nodes: &mut [u32], counts: Counts, k: u32, a: u32) -> Created
-    requires { ⌜ (counts .nodes * 7 ≤ length (now nodes)) × (length (now nodes) ≤ 2147483647) ⌝ }
+    requires { ⌜ (counts .nodes * width ≤ length (now nodes)) × (length (now nodes) ≤ 2147483647) ⌝ }
     ensures { λ r. ⌜ ((re by : List ℕ) (row : Row) → words row ≡ k ∷ a ∷ 0 ∷ 0 ∷ 0 ∷ 0 ∷ 0 ∷ [] → built r (now (nodes .exit)) re by ≡ build-call (B.add [] [] (λ b l. row)) (lent (now (nodes .entry)) re by counts)) ⌝ }
 {
     let at = counts.nodes;
     let r = counts.references;
     let b = counts.bytes;
     let root = counts.root;
-    if at < nodes.len() / 7 {
-        put_node(nodes, at * 7, k, a, 0, 0, 0, 0, 0);
+    if at < nodes.len() / Node::WIDTH {
+        put_node(nodes, at * Node::WIDTH, k, a, 0, 0, 0, 0, 0);
         Created {
             answer: Answer::Accepted,
             handle: at as u32,
@@ -343,7 +340,7 @@ fn add_string(
     k: u32,
     name: u32,
 ) -> Created
-    requires { ⌜ (counts .nodes * 7 ≤ length (now nodes)) × (length (now nodes) ≤ 2147483647) × (counts .bytes ≤ length (now bytes)) × (length (now bytes) ≤ 2147483647) ⌝ }
+    requires { ⌜ (counts .nodes * width ≤ length (now nodes)) × (length (now nodes) ≤ 2147483647) × (counts .bytes ≤ length (now bytes)) × (length (now bytes) ≤ 2147483647) ⌝ }
     ensures { λ r. ⌜ ((re : List ℕ) (row : ℕ → ℕ → Row) → ((l : ℕ) → words (row (counts .bytes) l) ≡ k ∷ counts .bytes ∷ length (now (source .entry)) ∷ 0 ∷ 0 ∷ name ∷ 0 ∷ []) → built r (now (nodes .exit)) re (now (bytes .exit)) ≡ build-call (B.add (now (source .entry)) [] row) (lent (now (nodes .entry)) re (now (bytes .entry)) counts)) ⌝ }
 {
     let at = counts.nodes;
@@ -352,9 +349,19 @@ fn add_string(
     let root = counts.root;
     let n = source.len();
     if n <= bytes.len() - to {
-        if at < nodes.len() / 7 {
+        if at < nodes.len() / Node::WIDTH {
             copy_bytes(&source[..], 0, bytes, to, n);
-            put_node(nodes, at * 7, k, to as u32, n as u32, 0, 0, name, 0);
+            put_node(
+                nodes,
+                at * Node::WIDTH,
+                k,
+                to as u32,
+                n as u32,
+                0,
+                0,
+                name,
+                0,
+            );
             Created {
                 answer: Answer::Accepted,
                 handle: at as u32,
@@ -391,7 +398,7 @@ fn add_list(
     name: u32,
     last: u32,
 ) -> Created
-    requires { ⌜ (counts .nodes * 7 ≤ length (now nodes)) × (length (now nodes) ≤ 2147483647) × (counts .references ≤ length (now references)) × (length (now references) ≤ 2147483647) ⌝ }
+    requires { ⌜ (counts .nodes * width ≤ length (now nodes)) × (length (now nodes) ≤ 2147483647) × (counts .references ≤ length (now references)) × (length (now references) ≤ 2147483647) ⌝ }
     ensures { λ r. ⌜ ((by : List ℕ) (row : ℕ → ℕ → Row) → ((b : ℕ) → words (row b (counts .references)) ≡ k ∷ 0 ∷ 0 ∷ counts .references ∷ entries pairs (length (now (source .entry))) ∷ name ∷ last ∷ []) → built r (now (nodes .exit)) (now (references .exit)) by ≡ build-call (B.add [] (now (source .entry)) row) (lent (now (nodes .entry)) (now (references .entry)) by counts)) ⌝ }
 {
     let at = counts.nodes;
@@ -400,11 +407,11 @@ fn add_list(
     let root = counts.root;
     let m = source.len();
     if m <= references.len() - to {
-        if at < nodes.len() / 7 {
+        if at < nodes.len() / Node::WIDTH {
             copy_words(&source[..], references, to);
             put_node(
                 nodes,
-                at * 7,
+                at * Node::WIDTH,
                 k,
                 0,
                 0,
@@ -479,18 +486,18 @@ fn same_bytes(name: &[u8], bytes: &[u8], from: usize) -> bool
 
 // Is node i a symbol with that name? (In an arena that was checked the last two tests hold.)
 fn is_named(nodes: &[u32], bytes: &[u8], count: usize, stored: usize, i: usize, name: &[u8]) -> bool
-    requires { ⌜ (i < count) × (count * 7 ≤ length (now nodes)) × (stored ≤ length (now bytes)) ⌝ }
+    requires { ⌜ (i < count) × (count * width ≤ length (now nodes)) × (stored ≤ length (now bytes)) ⌝ }
     ensures { λ r. ⌜ ((A : Arena) → A .nodes ≡ rows count (now (nodes .entry)) → A .bytes ≡ take stored (now (bytes .entry)) → SymbolsIn A → r ≡ named (A .bytes) (now (name .entry)) (node A i)) ⌝ }
 {
-    let at = i * 7;
-    if nodes[at] != 3 {
+    let at = i * Node::WIDTH;
+    if nodes[at] != Node::SYMBOL {
         return false;
     }
-    let n = size(nodes[at + 2]);
+    let n = size(nodes[at + Node::LENGTH]);
     if n != name.len() {
         return false;
     }
-    let from = size(nodes[at + 1]);
+    let from = size(nodes[at + Node::START]);
     if from <= stored {
         if n <= stored - from {
             return same_bytes(&name[..], &bytes[..], from);
@@ -506,7 +513,7 @@ enum Found {
 
 // The lowest symbol node with that name.
 fn find_named(nodes: &[u32], bytes: &[u8], count: usize, stored: usize, name: &[u8]) -> Found
-    requires { ⌜ (length (now nodes) ≤ 2147483647) × (count * 7 ≤ length (now nodes)) × (stored ≤ length (now bytes)) ⌝ }
+    requires { ⌜ (length (now nodes) ≤ 2147483647) × (count * width ≤ length (now nodes)) × (stored ≤ length (now bytes)) ⌝ }
     ensures { λ r. ⌜ ((A : Arena) → A .nodes ≡ rows count (now (nodes .entry)) → A .bytes ≡ take stored (now (bytes .entry)) → SymbolsIn A → found r ≡ find-symbol (A .bytes) (now (name .entry)) (A .nodes) 0) ⌝ }
 {
     let mut i = 0;
@@ -543,22 +550,16 @@ fn check_default(default: u32, count: usize) -> Answer
     if default == 0 {
         return Answer::Accepted;
     }
-    match check_handle(default - 1, count) {
-        Answer::Accepted => Answer::Accepted,
-        Answer::Refused(q) => Answer::Refused(q),
-    }
+    check_handle(default - 1, count)
 }
 
 // 14 for an object's name, then for the names of its pairs.
 fn check_object_names(nodes: &[u32], count: usize, name: u32, pairs: &[u32]) -> Answer
-    requires { ⌜ (count * 7 ≤ length (now nodes)) × (length (now pairs) / 2 * 2 ≡ length (now pairs)) ⌝ }
+    requires { ⌜ (count * width ≤ length (now nodes)) × (length (now pairs) / 2 * 2 ≡ length (now pairs)) ⌝ }
     ensures { λ r. ⌜ ((L : Lent) → L .tables .nodes ≡ now (nodes .entry) → L .counts .nodes ≡ count → Says r (check-names (name ∷ firsts (now (pairs .entry)))) L) ⌝ }
 {
     match check_name(&nodes[..], count, name) {
-        Answer::Accepted => match check_pair_names(&nodes[..], count, &pairs[..]) {
-            Answer::Accepted => Answer::Accepted,
-            Answer::Refused(q) => Answer::Refused(q),
-        },
+        Answer::Accepted => check_pair_names(&nodes[..], count, &pairs[..]),
         Answer::Refused(q) => Answer::Refused(q),
     }
 }
@@ -569,7 +570,7 @@ pub fn create_nil(nodes: &mut [u32], references: &[u32], bytes: &[u8], counts: C
     ensures { λ r. ⌜ built r (now (nodes .exit)) (now (references .entry)) (now (bytes .entry)) ≡ build-call create-nil (lent (now (nodes .entry)) (now (references .entry)) (now (bytes .entry)) counts) ⌝ }
 {
     match begin(nodes, &references[..], &bytes[..], counts, 0) {
-        Answer::Accepted => add_plain(nodes, counts, 0, 0),
+        Answer::Accepted => add_plain(nodes, counts, Node::NIL, 0),
         Answer::Refused(q) => refused(q, counts),
     }
 }
@@ -585,7 +586,7 @@ pub fn create_bool(
 {
     let word = word_of(value);
     match begin(nodes, &references[..], &bytes[..], counts, 0) {
-        Answer::Accepted => add_plain(nodes, counts, 1, word),
+        Answer::Accepted => add_plain(nodes, counts, Node::BOOL, word),
         Answer::Refused(q) => refused(q, counts),
     }
 }
@@ -601,7 +602,7 @@ pub fn create_fixnum(
 {
     let word = bits_of(value);
     match begin(nodes, &references[..], &bytes[..], counts, 0) {
-        Answer::Accepted => add_plain(nodes, counts, 2, word),
+        Answer::Accepted => add_plain(nodes, counts, Node::FIXNUM, word),
         Answer::Refused(q) => refused(q, counts),
     }
 }
@@ -617,7 +618,7 @@ pub fn create_new_symbol(
 {
     let more = wrong_bytes(name.len());
     match begin(nodes, &references[..], bytes, counts, more) {
-        Answer::Accepted => add_string(nodes, bytes, counts, &name[..], 3, 0),
+        Answer::Accepted => add_string(nodes, bytes, counts, &name[..], Node::SYMBOL, 0),
         Answer::Refused(q) => refused(q, counts),
     }
 }
@@ -642,7 +643,7 @@ pub fn create_symbol(
                 handle: h,
                 counts: counts,
             },
-            Found::Nowhere => add_string(nodes, bytes, counts, &name[..], 3, 0),
+            Found::Nowhere => add_string(nodes, bytes, counts, &name[..], Node::SYMBOL, 0),
         },
         Answer::Refused(q) => refused(q, counts),
     }
@@ -661,7 +662,16 @@ pub fn create_array(
     let count = counts.nodes;
     match begin(nodes, references, &bytes[..], counts, more) {
         Answer::Accepted => match check_handles_at(&members[..], count) {
-            Answer::Accepted => add_list(nodes, references, counts, &members[..], 4, false, 0, 0),
+            Answer::Accepted => add_list(
+                nodes,
+                references,
+                counts,
+                &members[..],
+                Node::ARRAY,
+                false,
+                0,
+                0,
+            ),
             Answer::Refused(q) => refused(q, counts),
         },
         Answer::Refused(q) => refused(q, counts),
@@ -689,7 +699,7 @@ pub fn create_hash(
                     references,
                     counts,
                     &pairs[..],
-                    5,
+                    Node::HASH,
                     true,
                     0,
                     default,
@@ -723,7 +733,7 @@ pub fn create_object(
                         references,
                         counts,
                         &pairs[..],
-                        6,
+                        Node::OBJECT,
                         true,
                         name,
                         0,
@@ -749,7 +759,7 @@ pub fn create_string(
 {
     let more = wrong_bytes(value.len());
     match begin(nodes, &references[..], bytes, counts, more) {
-        Answer::Accepted => add_string(nodes, bytes, counts, &value[..], 7, 0),
+        Answer::Accepted => add_string(nodes, bytes, counts, &value[..], Node::STRING, 0),
         Answer::Refused(q) => refused(q, counts),
     }
 }
@@ -769,7 +779,14 @@ pub fn create_user_defined(
     match begin(nodes, &references[..], bytes, counts, more) {
         Answer::Accepted => match check_handle(name, count) {
             Answer::Accepted => match check_name(nodes, count, name) {
-                Answer::Accepted => add_string(nodes, bytes, counts, &value[..], 8, name),
+                Answer::Accepted => add_string(
+                    nodes,
+                    bytes,
+                    counts,
+                    &value[..],
+                    Node::USER_DEFINED,
+                    name,
+                ),
                 Answer::Refused(q) => refused(q, counts),
             },
             Answer::Refused(q) => refused(q, counts),

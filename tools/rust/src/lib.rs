@@ -1,38 +1,10 @@
-// Our load and dump as the static library has them, for the programs that run them beside the Rust crate.
+// Our load and dump, over tables of their own, for the programs that run them beside the Rust crate.
 pub mod inputs;
 pub mod random;
 pub mod room;
+pub mod walk;
 
-#[link(name = "marshal_c", kind = "static")]
-extern "C" {
-    fn marshal_c_load(
-        input: *const u8, input_len: usize,
-        nodes: *mut u32, nodes_len: usize,
-        references: *mut u32, references_len: usize,
-        bytes: *mut u8, bytes_len: usize,
-        symbols: *mut u32, symbols_len: usize,
-        objects: *mut u32, objects_len: usize,
-        limit: u32,
-        told: *mut u64, told_len: usize,
-    );
-    fn marshal_c_dump(
-        nodes: *const u32, nodes_len: usize,
-        references: *const u32, references_len: usize,
-        bytes: *const u8, bytes_len: usize,
-        node_count: usize, reference_count: usize, byte_count: usize, handle: u32,
-        scratch: *mut u32, scratch_len: usize,
-        output: *mut u8, output_len: usize,
-        limit: u32,
-        told: *mut u64, told_len: usize,
-    );
-    fn marshal_c_check(
-        nodes: *const u32, nodes_len: usize,
-        references: *const u32, references_len: usize,
-        bytes: *const u8, bytes_len: usize,
-        node_count: usize, reference_count: usize, byte_count: usize, handle: u32,
-        told: *mut u64, told_len: usize,
-    );
-}
+use ruby_marshal_tables::{calls, Arena, Counts, Refusal};
 
 /// An answer: 0 or the refusal's number, and its details.
 #[derive(Clone, Copy, Debug, PartialEq, Eq)]
@@ -42,10 +14,15 @@ pub struct Answer {
     pub second: u64,
 }
 
-impl Answer {
-    fn of(told: &[u64]) -> Answer {
-        let first = told[2] as i64;
-        Answer { number: told[0], first: if told[1] == 1 { -first } else { first }, second: told[3] }
+impl From<Result<(), Refusal>> for Answer {
+    fn from(answer: Result<(), Refusal>) -> Answer {
+        match answer {
+            Ok(()) => Answer { number: 0, first: 0, second: 0 },
+            Err(refusal) => {
+                let (first, second) = refusal.details();
+                Answer { number: refusal.number().into(), first, second }
+            }
+        }
     }
 }
 
@@ -86,52 +63,44 @@ impl Tables {
     }
 
     pub fn load(&mut self, input: &[u8], limit: u32) -> Answer {
-        let mut told = [0u64; 9];
-        unsafe {
-            marshal_c_load(
-                input.as_ptr(), input.len(),
-                self.nodes.as_mut_ptr(), self.nodes.len(),
-                self.references.as_mut_ptr(), self.references.len(),
-                self.bytes.as_mut_ptr(), self.bytes.len(),
-                self.symbols.as_mut_ptr(), self.symbols.len(),
-                self.objects.as_mut_ptr(), self.objects.len(),
-                limit, told.as_mut_ptr(), told.len(),
-            )
-        };
-        self.counts = [told[4] as usize, told[5] as usize, told[6] as usize, told[7] as usize];
-        self.used = told[8] as usize;
-        Answer::of(&told)
+        let Tables { nodes, references, bytes, symbols, objects, .. } = self;
+        let loaded = calls::load(input, nodes, references, bytes, symbols, objects, limit);
+        let Counts { nodes, references, bytes, root } = loaded.counts;
+        self.counts = [nodes, references, bytes, root as usize];
+        self.used = loaded.used;
+        loaded.answer.into()
     }
 
     pub fn dump(&mut self, limit: u32) -> Answer {
-        let mut told = [0u64; 5];
-        unsafe {
-            marshal_c_dump(
-                self.nodes.as_ptr(), self.nodes.len(),
-                self.references.as_ptr(), self.references.len(),
-                self.bytes.as_ptr(), self.bytes.len(),
-                self.counts[0], self.counts[1], self.counts[2], self.counts[3] as u32,
-                self.scratch.as_mut_ptr(), self.scratch.len(),
-                self.output.as_mut_ptr(), self.output.len(),
-                limit, told.as_mut_ptr(), told.len(),
-            )
-        };
-        self.written = told[4] as usize;
-        Answer::of(&told)
+        let counts = self.arena_counts();
+        let Tables { nodes, references, bytes, scratch, output, .. } = self;
+        let dumped = calls::dump(nodes, references, bytes, counts, scratch, output, limit);
+        self.written = dumped.unwrap_or(0);
+        dumped.map(|_| ()).into()
     }
 
     /// The check that the arena is well formed, alone.
     pub fn check(&self) -> Answer {
-        let mut told = [0u64; 4];
-        unsafe {
-            marshal_c_check(
-                self.nodes.as_ptr(), self.nodes.len(),
-                self.references.as_ptr(), self.references.len(),
-                self.bytes.as_ptr(), self.bytes.len(),
-                self.counts[0], self.counts[1], self.counts[2], self.counts[3] as u32,
-                told.as_mut_ptr(), told.len(),
-            )
-        };
-        Answer::of(&told)
+        calls::root(&self.nodes, &self.references, &self.bytes, self.arena_counts()).map(|_| ()).into()
+    }
+
+    /// The arena, for the views.
+    pub fn arena(&self) -> Result<Arena<'_>, Refusal> {
+        Arena::check(&self.nodes, &self.references, &self.bytes, self.arena_counts())
+    }
+
+    fn arena_counts(&self) -> Counts {
+        let [nodes, references, bytes, root] = self.counts;
+        Counts { nodes, references, bytes, root: root as u32 }
+    }
+
+    /// The least that a load could do: tables and lists set to zero once, the input copied once.
+    pub fn zero_and_copy(&mut self, input: &[u8], copy: &mut [u8]) {
+        self.nodes.fill(0);
+        self.references.fill(0);
+        self.bytes.fill(0);
+        self.symbols.fill(0);
+        self.objects.fill(0);
+        copy[..input.len()].copy_from_slice(input);
     }
 }

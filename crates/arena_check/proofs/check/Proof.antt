@@ -1,10 +1,9 @@
 -- The proof of check.
 use borrow.Author.Needs.{needs}
-use mathlib.Core.Path.{refl, sym, ap, _∙_}
+use mathlib.Core.Path.{refl, sym, _∙_}
 use Rattle.definition.specs.Arena.{arena}
 use Rattle.arena_check.specs.Held.{tables}
-use Rattle.arena_check.specs.Held.{checked}
-use Rattle.arena_check.proofs.Rights.{held, checked-in, checked-out}
+use Rattle.arena_check.proofs.Rights.{held, fit-if, checked-in, checked-out}
 use Rattle.arena_check.proofs.check.Statement.{statement}
 use Rattle.arena_check.proofs.check.Tie as tie
 
@@ -16,28 +15,16 @@ first-faulty-requires c κs =
     let f = c .before .counts-fit-at .ensures .1 (c .if1 .taken) in
     (c .before .before .before .before .before .pre, f .nodes-fit, f .references-fit)
 
-enum-told : tie.Need-enum-told
-enum-told c = search needs
-
-enum-known-f : tie.Need-enum-known-f
-enum-known-f c = search needs
-
 returns : tie.Need-returns
 returns c =
-    let a = c .before .before .before .before .before .before .before .before .args in
+    let a = c .before .before .before .before .before .before .args in
     let T = tables (a .nodes .now) (a .references .now) (a .bytes .now) in
-    let f = c .before .before .before .before .counts-fit-at .ensures .1 (c .before .before .before .if1 .taken) in
-    (checked-in T (a .counts) _ (sym (c .before .before .before .if1 .taken) ∙ c .before .before .before .before .counts-fit-at .ensures .0 T refl refl refl) (ap checked (sym (c .enum-told .given .1)) ∙ c .before .before .first-faulty .ensures (arena T (a .counts)) (held T (a .counts) f)), f)
+    let t = c .before .if1 .taken in
+    let f = c .before .before .counts-fit-at .ensures .1 t in
+    (checked-in T (a .counts) _ (sym t ∙ c .before .before .counts-fit-at .ensures .0 T refl refl refl) (c .first-faulty .ensures (arena T (a .counts)) (held T (a .counts) f)), fit-if (c .first-faulty .result) f)
 
 returns-2 : tie.Need-returns-2
 returns-2 c =
-    let a = c .before .before .before .before .before .before .before .before .before .args in
-    let T = tables (a .nodes .now) (a .references .now) (a .bytes .now) in
-    let f = c .before .before .before .before .before .counts-fit-at .ensures .1 (c .before .before .before .before .if1 .taken) in
-    (checked-in T (a .counts) _ (sym (c .before .before .before .before .if1 .taken) ∙ c .before .before .before .before .before .counts-fit-at .ensures .0 T refl refl refl) (ap checked (sym (c .before .f .given .1)) ∙ c .before .before .before .first-faulty .ensures (arena T (a .counts)) (held T (a .counts) f)), tt)
-
-returns-3 : tie.Need-returns-3
-returns-3 c =
     let a = c .before .before .before .before .before .args in
     let T = tables (a .nodes .now) (a .references .now) (a .bytes .now) in
     (checked-out T (a .counts) (sym (c .if1 .left) ∙ c .before .counts-fit-at .ensures .0 T refl refl refl), tt)
@@ -48,8 +35,5 @@ check-spec =
     (tie.spec
     counts-fit-at-requires
     first-faulty-requires
-    enum-told
-    enum-known-f
     returns
-    returns-2
-    returns-3)
+    returns-2)

@@ -3,8 +3,7 @@ use borrow.Author.Needs.{needs}
 use native.Mathlib.Omega.{arith}
 use Prim.Native.Nat.{_*_}
 use mathlib.Core.Path.{sym, _∙_}
-use lib.ListN.{drop, take}
-use Rattle.arena_check.proofs.Rights.{node-words, node-in, node-out}
+use Rattle.arena_check.proofs.Rights.{node-words, node-fixnum, node-in, node-out}
 use Rattle.arena_check.proofs.node_right_at.Statement.{statement}
 use Rattle.arena_check.proofs.node_right_at.Tie as tie
 
@@ -71,23 +70,32 @@ mul-f c = search needs
 shared-slice-read-f : tie.Need-shared-slice-read-f
 shared-slice-read-f c = search needs
 
+all-zero-requires : tie.Need-all-zero-requires
+all-zero-requires c κs = search needs
+
+returns : tie.Need-returns
+returns c =
+    let start = c .before .before .before .before .before .before .before .before .before .before .before in
+    let a = start .args in
+    λ A H. c .all-zero .ensures ∙ node-fixnum A _ _ _ _ _ _ _ _ (node-words (a .nodes .now) (a .i * 7) (omega (arith, start .pre .0, start .pre .1))) (c .before .if1 .taken)
+
 is-row-of-requires : tie.Need-is-row-of-requires
-is-row-of-requires c κs = search needs
+is-row-of-requires c κs = c .if1 .left
 
 row-right-at-requires : tie.Need-row-right-at-requires
 row-right-at-requires c κs = search needs
 
-returns : tie.Need-returns
-returns c =
-    let a = c .before .before .before .before .before .before .before .before .before .before .before .before .args in
-    let t = a .nodes .now in
-    λ A H. c .row-right-at .ensures A H ∙ node-in A (take 7 (drop (a .i * 7) t)) _ _ _ _ _ _ _ (node-words t (a .i * 7) (omega (arith, c .before .before .before .before .before .before .before .before .before .before .before .before .pre .0, c .before .before .before .before .before .before .before .before .before .before .before .before .pre .1))) (sym (c .before .if1 .taken) ∙ c .before .before .is-row-of .ensures)
-
 returns-2 : tie.Need-returns-2
 returns-2 c =
-    let a = c .before .before .before .before .before .before .before .before .before .before .before .args in
-    let t = a .nodes .now in
-    λ A H. node-out A (take 7 (drop (a .i * 7) t)) _ _ _ _ _ _ _ (node-words t (a .i * 7) (omega (arith, c .before .before .before .before .before .before .before .before .before .before .before .pre .0, c .before .before .before .before .before .before .before .before .before .before .before .pre .1))) (sym (c .if1 .left) ∙ c .before .is-row-of .ensures)
+    let start = c .before .before .before .before .before .before .before .before .before .before .before .before .before in
+    let a = start .args in
+    λ A H. c .row-right-at .ensures A H ∙ node-in A _ _ _ _ _ _ _ _ (node-words (a .nodes .now) (a .i * 7) (omega (arith, start .pre .0, start .pre .1))) (sym (c .before .if2 .taken) ∙ c .before .before .is-row-of .ensures)
+
+returns-3 : tie.Need-returns-3
+returns-3 c =
+    let start = c .before .before .before .before .before .before .before .before .before .before .before .before in
+    let a = start .args in
+    λ A H. node-out A _ _ _ _ _ _ _ _ (node-words (a .nodes .now) (a .i * 7) (omega (arith, start .pre .0, start .pre .1))) (sym (c .if2 .left) ∙ c .before .is-row-of .ensures)
 
 pub node-right-at-spec : {M : Type 1} → statement M
 node-right-at-spec =
@@ -114,7 +122,9 @@ node-right-at-spec =
     add-f
     mul-f
     shared-slice-read-f
+    all-zero-requires
+    returns
     is-row-of-requires
     row-right-at-requires
-    returns
-    returns-2)
+    returns-2
+    returns-3)

@@ -3,10 +3,9 @@ use borrow.Author.Needs.{needs}
 use native.Mathlib.Omega.{arith}
 use Prim.Native.Nat.{_+_, _-_, _*_}
 use mathlib.Core.Path.{refl, _∙_}
-use Rattle.definition.specs.Dump.{write-value as value-of}
-use Rattle.dumper.specs.Laws.{went, goes-to, lead-as, lead-after, lead-first, lead-goes, lead-stop, head-goes, head-linked, head-stop, deep-here, ready, ready-head, ready-as}
+use Rattle.dumper.specs.Laws.{lead-as, head-linked, head-stop, deep-here, ready-as}
 use Rattle.dumper.proofs.Members.{member-below, value-deep, value-row}
-use Rattle.dump.proofs.Loops.{Turning, turning-start, shorts-go, rest-ready, turned, all-turned, element-deep, element-goes, element-stops, down, down-list, down-value, list-found, members-found, default-absent, default-none, default-some, default-below}
+use Rattle.dump.proofs.Loops.{Turning, turning-start, shorts-go, rest-ready, turned, all-turned, element-deep, element-goes, element-stops, down, down-list, down-value, list-ready, list-stops, no-default, zero-default, default-ready, with-default}
 use Prim.Native.Nat.{ℕ, _<_}
 use borrow.Fn.Kinds.{In}
 use borrow.Fn.PlainCycle.{Measures, is, falls, and}
@@ -303,12 +302,13 @@ write-value-sub-write-elements t c = search needs
 write-value-write-elements-requires : (t : ℕ) → write-value-lts.Need-write-elements-requires (write-value-calls t) (write-value-at t) write-value.Post
 write-value-write-elements-requires t c κs =
     let a = c .before .before .before .before .before .before .before .before .before .before .before .before .before .before .before .before .before .before .before .before .before .before .before .before .args in
-    let if1 = c .before .before .before .before .before .before .before .before .before .before .before .before .before .before .before .before .before .before .if1 in
     let pre = c .before .before .before .before .before .before .before .before .before .before .before .before .before .before .before .before .before .before .before .before .before .before .before .before .pre in
-    let size = c .before .before .size in
+    let if1 = c .before .before .before .before .before .before .before .before .before .before .before .before .before .before .before .before .before .before .if1 in
     let open-value = c .before .before .before .before .before .before .before .before .before .before .before .before .before .before .open-value in
     let if3 = c .before .before .before .before .before .before .before .before .if3 in
-    (down-list _ _ (if1 .left) (pre .0), ready-as (λ A f. (f .0, f .1, list-found (a .nodes .now) (a .v) _ _ (size .ensures) (c .list-words .ensures) (open-value .ensures .1 A (f .0) (f .2) (if3 .left)))) (ready-head _ _ (pre .1) (if3 .left) (λ A room f. open-value .ensures .0 A room 0 (f .0) (f .1) (f .2))))
+    let size = c .before .before .size in
+    let list-words = c .list-words in
+    (down-list _ _ (if1 .left) (pre .0), list-ready (a .v) (a .levels) _ _ (if1 .left) (if3 .left) (size .ensures) (list-words .ensures) (open-value .ensures .0) (open-value .ensures .1) (pre .1))
 
 write-value-same-length-5 : (t : ℕ) → write-value-lts.Need-same-length-5 (write-value-calls t) (write-value-at t) write-value.Post
 write-value-same-length-5 t c = search needs
@@ -319,16 +319,13 @@ write-value-same-length-6 t c = search needs
 write-value-returns-4 : (t : ℕ) → write-value-lts.Need-returns-4 (write-value-calls t) (write-value-at t) write-value.Post
 write-value-returns-4 t c =
     let a = c .before .before .before .before .before .before .before .before .before .before .before .before .before .before .before .before .before .before .before .before .before .before .before .before .before .before .before .before .before .before .args in
+    let if1 = c .before .before .before .before .before .before .before .before .before .before .before .before .before .before .before .before .before .before .before .before .before .before .before .before .if1 in
+    let open-value = c .before .before .before .before .before .before .before .before .before .before .before .before .before .before .before .before .before .before .before .before .open-value in
+    let if3 = c .before .before .before .before .before .before .before .before .before .before .before .before .before .before .if3 in
     let size = c .before .before .before .before .before .before .before .before .size in
     let list-words = c .before .before .before .before .before .before .list-words in
-    let if3 = c .before .before .before .before .before .before .before .before .before .before .before .before .before .before .if3 in
-    let open-value = c .before .before .before .before .before .before .before .before .before .before .before .before .before .before .before .before .before .before .before .before .open-value in
     let write-elements′ = c .before .before .before .before .before .write-elements in
-    let if1 = c .before .before .before .before .before .before .before .before .before .before .before .before .before .before .before .before .before .before .before .before .before .before .before .before .if1 in
-    λ A room limit l li b.
-    let G = goes-to (members-found room A (value-of room A limit (a .levels - 1)) _ _ _ _ _ _ (size .ensures) (list-words .ensures)) (head-goes (if3 .left) (open-value .ensures .0 A room limit l li b)) in
-    let E = write-elements′ .ensures A room limit l li (list-found (a .nodes .now) (a .v) _ _ (size .ensures) (list-words .ensures) (open-value .ensures .1 A l b (if3 .left))) in
-    lead-as (value-row room A limit (a .levels) (a .v) (if1 .left)) (lead-after G (lead-stop (c .if4 .taken) (lead-first _ E)))
+    list-stops (a .v) (a .levels) _ _ (if1 .left) (if3 .left) (size .ensures) (list-words .ensures) (open-value .ensures .0) (open-value .ensures .1) (write-elements′ .ensures) (c .if4 .taken)
 
 write-value-same-length-7 : (t : ℕ) → write-value-lts.Need-same-length-7 (write-value-calls t) (write-value-at t) write-value.Post
 write-value-same-length-7 t c = search needs
@@ -339,37 +336,34 @@ write-value-same-length-8 t c = search needs
 write-value-returns-5 : (t : ℕ) → write-value-lts.Need-returns-5 (write-value-calls t) (write-value-at t) write-value.Post
 write-value-returns-5 t c =
     let a = c .before .before .before .before .before .before .before .before .before .before .before .before .before .before .before .before .before .before .before .before .before .before .before .before .before .before .before .before .before .before .before .args in
+    let if1 = c .before .before .before .before .before .before .before .before .before .before .before .before .before .before .before .before .before .before .before .before .before .before .before .before .before .if1 in
+    let open-value = c .before .before .before .before .before .before .before .before .before .before .before .before .before .before .before .before .before .before .before .before .before .open-value in
+    let if3 = c .before .before .before .before .before .before .before .before .before .before .before .before .before .before .before .if3 in
     let size = c .before .before .before .before .before .before .before .before .before .size in
     let list-words = c .before .before .before .before .before .before .before .list-words in
-    let if3 = c .before .before .before .before .before .before .before .before .before .before .before .before .before .before .before .if3 in
-    let open-value = c .before .before .before .before .before .before .before .before .before .before .before .before .before .before .before .before .before .before .before .before .before .open-value in
     let write-elements′ = c .before .before .before .before .before .before .write-elements in
-    let if1 = c .before .before .before .before .before .before .before .before .before .before .before .before .before .before .before .before .before .before .before .before .before .before .before .before .before .if1 in
     let if4 = c .before .if4 in
-    λ A room limit l li b.
-    let G = goes-to (members-found room A (value-of room A limit (a .levels - 1)) _ _ _ _ _ _ (size .ensures) (list-words .ensures)) (head-goes (if3 .left) (open-value .ensures .0 A room limit l li b)) in
-    let E = write-elements′ .ensures A room limit l li (list-found (a .nodes .now) (a .v) _ _ (size .ensures) (list-words .ensures) (open-value .ensures .1 A l b (if3 .left))) in
-    lead-as (value-row room A limit (a .levels) (a .v) (if1 .left)) (lead-after G (went (goes-to (default-absent room A (value-of room A limit (a .levels - 1)) _ _ (c .if5 .taken)) (lead-goes (if4 .left) (lead-first _ E)))))
+    no-default (a .v) (a .levels) _ _ (if1 .left) (if3 .left) (size .ensures) (list-words .ensures) (open-value .ensures .0) (open-value .ensures .1) (write-elements′ .ensures) (if4 .left) (c .if5 .taken)
 
 write-value-mul-d : (t : ℕ) → write-value-lts.Need-mul-d (write-value-calls t) (write-value-at t) write-value.Post
 write-value-mul-d t c =
     let pre = c .before .before .before .before .before .before .before .before .before .before .before .before .before .before .before .before .before .before .before .before .before .before .before .before .before .before .before .before .before .before .before .pre in
-    omega (arith, pre .1 .fact .2, pre .1 .fact .0 .nodes-fit, pre .1 .fact .0 .nodes-small)
+    omega (arith, pre .1 .fact .2, pre .1 .fact .0 .noded .nodes-fit, pre .1 .fact .0 .noded .nodes-small)
 
 write-value-add-d : (t : ℕ) → write-value-lts.Need-add-d (write-value-calls t) (write-value-at t) write-value.Post
 write-value-add-d t c =
     let pre = c .before .before .before .before .before .before .before .before .before .before .before .before .before .before .before .before .before .before .before .before .before .before .before .before .before .before .before .before .before .before .before .pre in
-    omega (arith, pre .1 .fact .2, pre .1 .fact .0 .nodes-fit, pre .1 .fact .0 .nodes-small)
+    omega (arith, pre .1 .fact .2, pre .1 .fact .0 .noded .nodes-fit, pre .1 .fact .0 .noded .nodes-small)
 
 write-value-mul-d-2 : (t : ℕ) → write-value-lts.Need-mul-d-2 (write-value-calls t) (write-value-at t) write-value.Post
 write-value-mul-d-2 t c =
     let pre = c .before .before .before .before .before .before .before .before .before .before .before .before .before .before .before .before .before .before .before .before .before .before .before .before .before .before .before .before .before .before .before .pre in
-    omega (arith, pre .1 .fact .2, pre .1 .fact .0 .nodes-fit, pre .1 .fact .0 .nodes-small)
+    omega (arith, pre .1 .fact .2, pre .1 .fact .0 .noded .nodes-fit, pre .1 .fact .0 .noded .nodes-small)
 
 write-value-shared-slice-read-d : (t : ℕ) → write-value-lts.Need-shared-slice-read-d (write-value-calls t) (write-value-at t) write-value.Post
 write-value-shared-slice-read-d t c =
     let pre = c .before .before .before .before .before .before .before .before .before .before .before .before .before .before .before .before .before .before .before .before .before .before .before .before .before .before .before .before .before .before .before .before .pre in
-    omega (arith, pre .1 .fact .2, pre .1 .fact .0 .nodes-fit)
+    omega (arith, pre .1 .fact .2, pre .1 .fact .0 .noded .nodes-fit)
 
 write-value-same-length-9 : (t : ℕ) → write-value-lts.Need-same-length-9 (write-value-calls t) (write-value-at t) write-value.Post
 write-value-same-length-9 t c = search needs
@@ -380,18 +374,15 @@ write-value-same-length-10 t c = search needs
 write-value-returns-6 : (t : ℕ) → write-value-lts.Need-returns-6 (write-value-calls t) (write-value-at t) write-value.Post
 write-value-returns-6 t c =
     let a = c .before .before .before .before .before .before .before .before .before .before .before .before .before .before .before .before .before .before .before .before .before .before .before .before .before .before .before .before .before .before .before .before .before .args in
+    let if1 = c .before .before .before .before .before .before .before .before .before .before .before .before .before .before .before .before .before .before .before .before .before .before .before .before .before .before .before .if1 in
+    let open-value = c .before .before .before .before .before .before .before .before .before .before .before .before .before .before .before .before .before .before .before .before .before .before .before .open-value in
+    let if3 = c .before .before .before .before .before .before .before .before .before .before .before .before .before .before .before .before .before .if3 in
     let size = c .before .before .before .before .before .before .before .before .before .before .before .size in
     let list-words = c .before .before .before .before .before .before .before .before .before .list-words in
-    let if3 = c .before .before .before .before .before .before .before .before .before .before .before .before .before .before .before .before .before .if3 in
-    let open-value = c .before .before .before .before .before .before .before .before .before .before .before .before .before .before .before .before .before .before .before .before .before .before .before .open-value in
     let write-elements′ = c .before .before .before .before .before .before .before .before .write-elements in
-    let if1 = c .before .before .before .before .before .before .before .before .before .before .before .before .before .before .before .before .before .before .before .before .before .before .before .before .before .before .before .if1 in
-    let if5 = c .before .before .if5 in
     let if4 = c .before .before .before .if4 in
-    λ A room limit l li b.
-    let G = goes-to (members-found room A (value-of room A limit (a .levels - 1)) _ _ _ _ _ _ (size .ensures) (list-words .ensures)) (head-goes (if3 .left) (open-value .ensures .0 A room limit l li b)) in
-    let E = write-elements′ .ensures A room limit l li (list-found (a .nodes .now) (a .v) _ _ (size .ensures) (list-words .ensures) (open-value .ensures .1 A l b (if3 .left))) in
-    lead-as (value-row room A limit (a .levels) (a .v) (if1 .left)) (lead-after G (went (goes-to (default-none room A (value-of room A limit (a .levels - 1)) _ _ (if5 .left) (c .if6 .taken)) (lead-goes (if4 .left) (lead-first _ E)))))
+    let if5 = c .before .before .if5 in
+    zero-default (a .v) (a .levels) _ _ (if1 .left) (if3 .left) (size .ensures) (list-words .ensures) (open-value .ensures .0) (open-value .ensures .1) (write-elements′ .ensures) (if4 .left) (if5 .left) (c .if6 .taken)
 
 write-value-size-requires-2 : (t : ℕ) → write-value-lts.Need-size-requires-2 (write-value-calls t) (write-value-at t) write-value.Post
 write-value-size-requires-2 t c κs = search needs
@@ -406,17 +397,17 @@ write-value-sub-write-value-2 t c = search needs
 write-value-write-value-requires : (t : ℕ) → write-value-lts.Need-write-value-requires (write-value-calls t) (write-value-at t) write-value.Post
 write-value-write-value-requires t c κs =
     let a = c .before .before .before .before .before .before .before .before .before .before .before .before .before .before .before .before .before .before .before .before .before .before .before .before .before .before .before .before .before .before .before .before .before .before .before .before .before .args in
-    let if1 = c .before .before .before .before .before .before .before .before .before .before .before .before .before .before .before .before .before .before .before .before .before .before .before .before .before .before .before .before .before .before .before .if1 in
     let pre = c .before .before .before .before .before .before .before .before .before .before .before .before .before .before .before .before .before .before .before .before .before .before .before .before .before .before .before .before .before .before .before .before .before .before .before .before .before .pre in
-    let if5 = c .before .before .before .before .before .before .if5 in
-    let if6 = c .before .before .before .before .if6 in
+    let if1 = c .before .before .before .before .before .before .before .before .before .before .before .before .before .before .before .before .before .before .before .before .before .before .before .before .before .before .before .before .before .before .before .if1 in
     let open-value = c .before .before .before .before .before .before .before .before .before .before .before .before .before .before .before .before .before .before .before .before .before .before .before .before .before .before .before .open-value in
     let if3 = c .before .before .before .before .before .before .before .before .before .before .before .before .before .before .before .before .before .before .before .before .before .if3 in
-    let if4 = c .before .before .before .before .before .before .before .if4 in
-    let write-elements′ = c .before .before .before .before .before .before .before .before .before .before .before .before .write-elements in
     let size = c .before .before .before .before .before .before .before .before .before .before .before .before .before .before .before .size in
     let list-words = c .before .before .before .before .before .before .before .before .before .before .before .before .before .list-words in
-    (down-value _ _ (if1 .left) (pre .0), ready-as (λ A f. (f .0, f .1, default-below (a .nodes .now) (a .v) _ (if5 .left) (if6 .left) (c .size2 .ensures) (open-value .ensures .1 A (f .0) (f .2) (if3 .left)))) (ready _ _ (ready-head _ _ (pre .1) (if3 .left) (λ A room f. open-value .ensures .0 A room 0 (f .0) (f .1) (f .2))) (if4 .left) (λ A room f. write-elements′ .ensures A room 0 (f .0) (f .1) (list-found (a .nodes .now) (a .v) _ _ (size .ensures) (list-words .ensures) (open-value .ensures .1 A (f .0) (f .2) (if3 .left))))))
+    let write-elements′ = c .before .before .before .before .before .before .before .before .before .before .before .before .write-elements in
+    let if4 = c .before .before .before .before .before .before .before .if4 in
+    let if5 = c .before .before .before .before .before .before .if5 in
+    let if6 = c .before .before .before .before .if6 in
+    (down-value _ _ (if1 .left) (pre .0), default-ready (a .v) (a .levels) _ _ (if1 .left) (if3 .left) (size .ensures) (list-words .ensures) (open-value .ensures .0) (open-value .ensures .1) (write-elements′ .ensures) (if4 .left) (if5 .left) _ (if6 .left) (c .size2 .ensures) (pre .1))
 
 write-value-same-length-11 : (t : ℕ) → write-value-lts.Need-same-length-11 (write-value-calls t) (write-value-at t) write-value.Post
 write-value-same-length-11 t c = search needs
@@ -427,22 +418,18 @@ write-value-same-length-12 t c = search needs
 write-value-returns-7 : (t : ℕ) → write-value-lts.Need-returns-7 (write-value-calls t) (write-value-at t) write-value.Post
 write-value-returns-7 t c =
     let a = c .before .before .before .before .before .before .before .before .before .before .before .before .before .before .before .before .before .before .before .before .before .before .before .before .before .before .before .before .before .before .before .before .before .before .before .before .before .before .before .before .before .before .args in
+    let if1 = c .before .before .before .before .before .before .before .before .before .before .before .before .before .before .before .before .before .before .before .before .before .before .before .before .before .before .before .before .before .before .before .before .before .before .before .before .if1 in
+    let open-value = c .before .before .before .before .before .before .before .before .before .before .before .before .before .before .before .before .before .before .before .before .before .before .before .before .before .before .before .before .before .before .before .before .open-value in
+    let if3 = c .before .before .before .before .before .before .before .before .before .before .before .before .before .before .before .before .before .before .before .before .before .before .before .before .before .before .if3 in
     let size = c .before .before .before .before .before .before .before .before .before .before .before .before .before .before .before .before .before .before .before .before .size in
     let list-words = c .before .before .before .before .before .before .before .before .before .before .before .before .before .before .before .before .before .before .list-words in
-    let if3 = c .before .before .before .before .before .before .before .before .before .before .before .before .before .before .before .before .before .before .before .before .before .before .before .before .before .before .if3 in
-    let open-value = c .before .before .before .before .before .before .before .before .before .before .before .before .before .before .before .before .before .before .before .before .before .before .before .before .before .before .before .before .before .before .before .before .open-value in
     let write-elements′ = c .before .before .before .before .before .before .before .before .before .before .before .before .before .before .before .before .before .write-elements in
-    let if1 = c .before .before .before .before .before .before .before .before .before .before .before .before .before .before .before .before .before .before .before .before .before .before .before .before .before .before .before .before .before .before .before .before .before .before .before .before .if1 in
+    let if4 = c .before .before .before .before .before .before .before .before .before .before .before .before .if4 in
     let if5 = c .before .before .before .before .before .before .before .before .before .before .before .if5 in
     let if6 = c .before .before .before .before .before .before .before .before .before .if6 in
     let size2 = c .before .before .before .before .before .size2 in
-    let if4 = c .before .before .before .before .before .before .before .before .before .before .before .before .if4 in
     let write-value′ = c .before .before .before .before .write-value in
-    λ A room limit l li b.
-    let G = goes-to (members-found room A (value-of room A limit (a .levels - 1)) _ _ _ _ _ _ (size .ensures) (list-words .ensures)) (head-goes (if3 .left) (open-value .ensures .0 A room limit l li b)) in
-    let M = open-value .ensures .1 A l b (if3 .left) in
-    let E = write-elements′ .ensures A room limit l li (list-found (a .nodes .now) (a .v) _ _ (size .ensures) (list-words .ensures) M) in
-    lead-as (value-row room A limit (a .levels) (a .v) (if1 .left)) (lead-after G (lead-after (goes-to (default-some room A (value-of room A limit (a .levels - 1)) _ _ _ (if5 .left) (if6 .left) (size2 .ensures)) (lead-goes (if4 .left) (lead-first _ E))) (write-value′ .ensures A room limit l li (default-below (a .nodes .now) (a .v) _ (if5 .left) (if6 .left) (size2 .ensures) M))))
+    with-default (a .v) (a .levels) _ _ (if1 .left) (if3 .left) (size .ensures) (list-words .ensures) (open-value .ensures .0) (open-value .ensures .1) (write-elements′ .ensures) (if4 .left) (if5 .left) _ (if6 .left) (size2 .ensures) (write-value′ .ensures)
 
 pub +write-elements+write-value-spec : {M : Type 1} → statement M
 +write-elements+write-value-spec =

@@ -1,10 +1,7 @@
 -- The proof of open_string.
 use native.Mathlib.Omega.{arith}
-use mathlib.Core.Path.{sym}
-use Rattle.definition.specs.Run.{pure}
-use Rattle.definition.specs.Dump.{write-level, write-value}
-use Rattle.dumper.specs.Laws.{lead-first, lead-goes, lead-stop, lead-head, lead-to, linked, goes-to, head-as, head-after, head-goes, head-keep, ready, ready-head, ready-as}
-use Rattle.dumper.proofs.Heads.{noded, is-object, string-row, right-row, bytes-inside, string-open, after-none, after-some, vars-present, members-pairs, in-pairs}
+use Rattle.dumper.specs.Laws.{ready-as}
+use Rattle.dumper.proofs.Bodies.{here, rest, first-stops, first-done, next-stops, next-done, reached-ready, whole, some-variables, variables-answer, object-here, string-first, string-inside, string-pairs}
 use borrow.Author.Needs.{needs}
 use Rattle.dumper.proofs.open_string.Statement.{statement}
 use Rattle.dumper.proofs.open_string.Tie as tie
@@ -23,9 +20,10 @@ shared-slice-read-f c = search needs
 
 open-marked-requires : tie.Need-open-marked-requires
 open-marked-requires c κs =
-    let args = c .before .before .before .before .before .before .before .before .before .args in
+    let a = c .before .before .before .before .before .before .before .before .before .args in
+    let h = here (a .nodes .now) (a .references .now) (a .bytes .now) (a .v) (a .levels) in
     let pre = c .before .before .before .before .before .before .before .before .before .pre in
-    ready-as (λ A f. is-object (noded (f .0)) (args .v) (f .2) 7 (pre .0) (omega arith) (omega arith)) (pre .1)
+    ready-as (λ A f. object-here h 7 (pre .0) (omega arith) (omega arith) A (f .0) (f .2)) (pre .1)
 
 same-length : tie.Need-same-length
 same-length c = search needs
@@ -36,13 +34,10 @@ same-length-2 c = search needs
 returns : tie.Need-returns
 returns c =
     let a = c .before .before .before .before .before .before .before .before .before .before .before .before .before .before .before .args in
+    let h = here (a .nodes .now) (a .references .now) (a .bytes .now) (a .v) (a .levels) in
     let pre = c .before .before .before .before .before .before .before .before .before .before .before .before .before .before .before .pre in
-    let open-marked = c .before .before .before .before .before .open-marked in (
-      λ A room limit l li b.
-          let row = string-row (noded l) (a .v) b (pre .0) in
-          head-as (string-open room A (write-level limit (a .levels)) (write-value room A limit (a .levels)) (a .v) l _ _ _ _ _ (right-row l (a .v) b _ row .0) row) (head-keep (c .if1 .taken) (open-marked .ensures A room limit (is-object (noded l) (a .v) b 7 (pre .0) (omega arith) (omega arith)) _)),
-      λ A l b e. absurd (c .if1 .taken e),
-    )
+    let open-marked = c .before .before .before .before .before .open-marked in
+    first-stops h 7 _ (string-first h (pre .0) (open-marked .ensures)) (c .if1 .taken)
 
 mul-write-byte-string : tie.Need-mul-write-byte-string
 mul-write-byte-string c = search needs
@@ -71,9 +66,10 @@ shared-slice-read-write-byte-string-2 c = search needs
 write-byte-string-requires : tie.Need-write-byte-string-requires
 write-byte-string-requires c κs =
     let a = c .before .before .before .before .before .before .before .before .before .before .before .before .before .before .before .before .before .before .before .args in
+    let h = here (a .nodes .now) (a .references .now) (a .bytes .now) (a .v) (a .levels) in
     let pre = c .before .before .before .before .before .before .before .before .before .before .before .before .before .before .before .before .before .before .before .pre in
     let f = pre .1 .fact in
-    bytes-inside _ _ (f .0) (right-row (f .0) (a .v) (f .2) _ (string-row (noded (f .0)) (a .v) (f .2) (pre .0)) .0)
+    string-inside h (pre .0) (pre .1 .arena) (f .0) (f .2)
 
 same-length-3 : tie.Need-same-length-3
 same-length-3 c = search needs
@@ -84,15 +80,13 @@ same-length-4 c = search needs
 returns-2 : tie.Need-returns-2
 returns-2 c =
     let a = c .before .before .before .before .before .before .before .before .before .before .before .before .before .before .before .before .before .before .before .before .before .before .before .args in
+    let h = here (a .nodes .now) (a .references .now) (a .bytes .now) (a .v) (a .levels) in
     let pre = c .before .before .before .before .before .before .before .before .before .before .before .before .before .before .before .before .before .before .before .before .before .before .before .pre in
-    let if1 = c .before .before .before .before .before .before .before .before .if1 in
     let open-marked = c .before .before .before .before .before .before .before .before .before .before .before .before .before .open-marked in
-    let write-byte-string = c .before .before .before .write-byte-string in (
-      λ A room limit l li b.
-          let row = string-row (noded l) (a .v) b (pre .0) in
-          head-as (string-open room A (write-level limit (a .levels)) (write-value room A limit (a .levels)) (a .v) l _ _ _ _ _ (right-row l (a .v) b _ row .0) row) (head-after (head-goes (if1 .left) (open-marked .ensures A room limit (is-object (noded l) (a .v) b 7 (pre .0) (omega arith) (omega arith)) _)) (lead-head (lead-stop (c .if2 .taken) (lead-first _ (write-byte-string .ensures A room limit _))))),
-      λ A l b e. absurd (c .if2 .taken e),
-    )
+    let if1 = c .before .before .before .before .before .before .before .before .if1 in
+    let write-byte-string = c .before .before .before .write-byte-string in
+    let begun = first-done h 7 _ (string-first h (pre .0) (open-marked .ensures)) (if1 .left) in
+    next-stops h 7 _ (rest h) begun (λ A room limit L l b. write-byte-string .ensures A room limit _) (c .if2 .taken)
 
 same-length-5 : tie.Need-same-length-5
 same-length-5 c = search needs
@@ -103,16 +97,15 @@ same-length-6 c = search needs
 returns-3 : tie.Need-returns-3
 returns-3 c =
     let a = c .before .before .before .before .before .before .before .before .before .before .before .before .before .before .before .before .before .before .before .before .before .before .before .before .args in
+    let h = here (a .nodes .now) (a .references .now) (a .bytes .now) (a .v) (a .levels) in
     let pre = c .before .before .before .before .before .before .before .before .before .before .before .before .before .before .before .before .before .before .before .before .before .before .before .before .pre in
-    let if1 = c .before .before .before .before .before .before .before .before .before .if1 in
     let open-marked = c .before .before .before .before .before .before .before .before .before .before .before .before .before .before .open-marked in
+    let if1 = c .before .before .before .before .before .before .before .before .before .if1 in
+    let write-byte-string = c .before .before .before .before .write-byte-string in
     let if2 = c .before .if2 in
-    let write-byte-string = c .before .before .before .before .write-byte-string in (
-      λ A room limit l li b.
-          let row = string-row (noded l) (a .v) b (pre .0) in
-          head-as (string-open room A (write-level limit (a .levels)) (write-value room A limit (a .levels)) (a .v) l _ _ _ _ _ (right-row l (a .v) b _ row .0) row) (head-after (head-goes (if1 .left) (open-marked .ensures A room limit (is-object (noded l) (a .v) b 7 (pre .0) (omega arith) (omega arith)) _)) (linked (goes-to (after-none room A (write-level limit (a .levels)) (write-value room A limit (a .levels)) (a .v) _ _ _ (c .if3 .taken)) (lead-goes (if2 .left) (lead-first _ (write-byte-string .ensures A room limit _)))))),
-      λ A l b e. absurd (omega (arith, e)),
-    )
+    let begun = first-done h 7 _ (string-first h (pre .0) (open-marked .ensures)) (if1 .left) in
+    let written = next-done h 7 _ (rest h) begun (λ A room limit L l b. write-byte-string .ensures A room limit _) (if2 .left) in
+    whole h 7 (c .if3 .taken) written
 
 mul-open-variables : tie.Need-mul-open-variables
 mul-open-variables c = search needs
@@ -141,13 +134,16 @@ shared-slice-read-open-variables-2 c = search needs
 open-variables-requires : tie.Need-open-variables-requires
 open-variables-requires c κs =
     let a = c .before .before .before .before .before .before .before .before .before .before .before .before .before .before .before .before .before .before .before .before .before .before .before .before .before .before .before .before .before .args in
-    let if3 = c .before .before .before .before .before .if3 in
+    let h = here (a .nodes .now) (a .references .now) (a .bytes .now) (a .v) (a .levels) in
     let pre = c .before .before .before .before .before .before .before .before .before .before .before .before .before .before .before .before .before .before .before .before .before .before .before .before .before .before .before .before .before .pre in
-    let if1 = c .before .before .before .before .before .before .before .before .before .before .before .before .before .before .if1 in
     let open-marked = c .before .before .before .before .before .before .before .before .before .before .before .before .before .before .before .before .before .before .before .open-marked in
-    let if2 = c .before .before .before .before .before .before .if2 in
+    let if1 = c .before .before .before .before .before .before .before .before .before .before .before .before .before .before .if1 in
     let write-byte-string = c .before .before .before .before .before .before .before .before .before .write-byte-string in
-    ready-as (λ A f. (f .0, f .1, vars-present _ _ _ (if3 .left) (right-row (f .0) (a .v) (f .2) _ (string-row (noded (f .0)) (a .v) (f .2) (pre .0)) .1))) (ready _ _ (ready-head _ _ (pre .1) (if1 .left) (λ A room f. open-marked .ensures A room 0 (is-object (noded (f .0)) (a .v) (f .2) 7 (pre .0) (omega arith) (omega arith)) (pure tt))) (if2 .left) (λ A room f. write-byte-string .ensures A room 0 _))
+    let if2 = c .before .before .before .before .before .before .if2 in
+    let if3 = c .before .before .before .before .before .if3 in
+    let begun = first-done h 7 _ (string-first h (pre .0) (open-marked .ensures)) (if1 .left) in
+    let written = next-done h 7 _ (rest h) begun (λ A room limit L l b. write-byte-string .ensures A room limit _) (if2 .left) in
+    ready-as (λ A f. (f .0, f .1, string-pairs h (pre .0) (if3 .left) A (f .0) (f .2))) (reached-ready h (rest h) written (pre .1))
 
 same-length-7 : tie.Need-same-length-7
 same-length-7 c = search needs
@@ -158,19 +154,17 @@ same-length-8 c = search needs
 returns-4 : tie.Need-returns-4
 returns-4 c =
     let a = c .before .before .before .before .before .before .before .before .before .before .before .before .before .before .before .before .before .before .before .before .before .before .before .before .before .before .before .before .before .before .before .before .before .before .args in
+    let h = here (a .nodes .now) (a .references .now) (a .bytes .now) (a .v) (a .levels) in
     let pre = c .before .before .before .before .before .before .before .before .before .before .before .before .before .before .before .before .before .before .before .before .before .before .before .before .before .before .before .before .before .before .before .before .before .before .pre in
-    let if1 = c .before .before .before .before .before .before .before .before .before .before .before .before .before .before .before .before .before .before .before .if1 in
     let open-marked = c .before .before .before .before .before .before .before .before .before .before .before .before .before .before .before .before .before .before .before .before .before .before .before .before .open-marked in
-    let if3 = c .before .before .before .before .before .before .before .before .before .before .if3 in
-    let if2 = c .before .before .before .before .before .before .before .before .before .before .before .if2 in
+    let if1 = c .before .before .before .before .before .before .before .before .before .before .before .before .before .before .before .before .before .before .before .if1 in
     let write-byte-string = c .before .before .before .before .before .before .before .before .before .before .before .before .before .before .write-byte-string in
-    let open-variables = c .before .before .before .before .open-variables in (
-      λ A room limit l li b.
-          let row = string-row (noded l) (a .v) b (pre .0) in
-          let right = right-row l (a .v) b _ row in
-          head-as (string-open room A (write-level limit (a .levels)) (write-value room A limit (a .levels)) (a .v) l _ _ _ _ _ (right .0) row) (head-after (head-goes (if1 .left) (open-marked .ensures A room limit (is-object (noded l) (a .v) b 7 (pre .0) (omega arith) (omega arith)) _)) (head-after (goes-to (after-some room A (write-level limit (a .levels)) (write-value room A limit (a .levels)) (a .v) _ _ _ (if3 .left)) (lead-goes (if2 .left) (lead-first _ (write-byte-string .ensures A room limit _)))) (lead-head (lead-to (sym (members-pairs room A _ 7 _ _ _ (λ q. omega (arith, q)) (λ q. omega (arith, q)))) (open-variables .ensures A room limit l li (vars-present _ _ _ (if3 .left) (right .1))))))),
-      λ A l b e. in-pairs (a .nodes .now) (a .v) (λ q. omega (arith, q, pre .0)) (λ q. omega (arith, q, pre .0)) (vars-present _ _ _ (if3 .left) (right-row l (a .v) b _ (string-row (noded l) (a .v) b (pre .0)) .1)),
-    )
+    let if2 = c .before .before .before .before .before .before .before .before .before .before .before .if2 in
+    let if3 = c .before .before .before .before .before .before .before .before .before .before .if3 in
+    let open-variables = c .before .before .before .before .open-variables in
+    let begun = first-done h 7 _ (string-first h (pre .0) (open-marked .ensures)) (if1 .left) in
+    let written = next-done h 7 _ (rest h) begun (λ A room limit L l b. write-byte-string .ensures A room limit _) (if2 .left) in
+    variables-answer h 7 (pre .0) (omega arith) (some-variables h (if3 .left) written) (string-pairs h (pre .0) (if3 .left)) (open-variables .ensures)
 
 pub open-string-spec : {M : Type 1} → statement M
 open-string-spec =

@@ -1,12 +1,9 @@
 -- The proof of open_value.
 use native.Mathlib.Omega.{arith}
-use Prim.Native.Nat.{ℕ, _+_, _*_}
-use mathlib.Core.Path.{sym, ap}
-use lib.ListN.{getD}
 use Rattle.definition.specs.Dump.{write-level, write-value}
-use Rattle.dumper.specs.Held.{members-of}
-use Rattle.dumper.specs.Laws.{lead-goes, lead-stop, lead-head, linked, head-as, head-to, ready-as}
-use Rattle.dumper.proofs.Heads.{noded, is-object, array-row, hash-row, low-kind, array-open, hash-open, default-byte, in-array, in-hash}
+use Rattle.dumper.specs.Laws.{lead-goes, lead-stop, lead-head, linked, head-as, ready-as}
+use Rattle.dumper.proofs.Heads.{is-object, array-row, hash-row, low-kind, array-open, hash-open, default-byte, in-array, in-hash}
+use Rattle.dumper.proofs.Bodies.{here, answers-as}
 use borrow.Author.Needs.{needs}
 use Rattle.dumper.proofs.open_value.Statement.{statement}
 use Rattle.dumper.proofs.open_value.Tie as tie
@@ -37,7 +34,7 @@ open-list-requires c κs =
     let args = c .before .before .before .before .before .before .before .before .before .before .before .args in
     let kinds = c .before .before .before .before .match in
     let pre = c .before .before .before .before .before .before .before .before .before .before .before .pre in
-    ready-as (λ A f. is-object (noded (f .0)) (args .v) (f .2) 4 (kinds .keys1) (omega arith) (omega arith)) (pre)
+    ready-as (λ A f. is-object (f .0 .noded) (args .v) (f .2) 4 (kinds .keys1) (omega arith) (omega arith)) (pre)
 
 mul-if1 : tie.Need-mul-if1
 mul-if1 c = search needs
@@ -68,7 +65,7 @@ open-list-requires-2 c κs =
     let args = c .before .before .before .before .before .before .before .before .before .before .before .before .before .args in
     let kinds = c .before .before .before .before .before .before .match in
     let pre = c .before .before .before .before .before .before .before .before .before .before .before .before .before .pre in
-    ready-as (λ A f. is-object (noded (f .0)) (args .v) (f .2) 5 (kinds .keys2) (omega arith) (omega arith)) (pre)
+    ready-as (λ A f. is-object (f .0 .noded) (args .v) (f .2) 5 (kinds .keys2) (omega arith) (omega arith)) (pre)
 
 open-named-requires : tie.Need-open-named-requires
 open-named-requires c κs = search needs
@@ -94,7 +91,7 @@ returns c =
     let kinds = c .before .before .before .before .before .before .before .before .before .match in
     let write-scalar = c .before .before .before .before .before .write-scalar in
     let r = kinds .rest in (
-      λ A room limit l li b. lead-head (lead-stop (c .if2 .taken) (write-scalar .ensures A room limit (write-level limit (a .levels)) (write-value room A limit (a .levels)) l b (low-kind (noded l) (a .v) b (r .0 .0 .0 .0 .1) (r .0 .0 .0 .1) (r .0 .0 .1) (r .0 .1) (r .1)))),
+      λ A room limit l li b. lead-head (lead-stop (c .if2 .taken) (write-scalar .ensures A room limit (write-level limit (a .levels)) (write-value room A limit (a .levels)) l b (low-kind (l .noded) (a .v) b (r .0 .0 .0 .0 .1) (r .0 .0 .0 .1) (r .0 .0 .1) (r .0 .1) (r .1)))),
       λ A l b e. absurd (c .if2 .taken e),
     )
 
@@ -109,7 +106,7 @@ returns-2 c =
     let a = c .before .before .before .before .before .before .before .before .before .before .before .before .before .before .before .before .args in
     let kinds = c .before .before .before .before .before .before .before .before .before .match in
     let open-list = c .before .before .before .before .open-list in (
-      λ A room limit l li b. head-as (array-open room A (write-level limit (a .levels)) (write-value room A limit (a .levels)) (a .v) _ _ _ _ (array-row (noded l) (a .v) b (kinds .keys1)) (kinds .keys1)) (open-list .ensures A room limit (is-object (noded l) (a .v) b 4 (kinds .keys1) (omega arith) (omega arith)) _),
+      λ A room limit l li b. head-as (array-open room A (write-level limit (a .levels)) (write-value room A limit (a .levels)) (a .v) _ _ _ _ (array-row (l .noded) (a .v) b (kinds .keys1)) (kinds .keys1)) (open-list .ensures A room limit (is-object (l .noded) (a .v) b 4 (kinds .keys1) (omega arith) (omega arith)) _),
       λ A l b e. in-array l (a .v) b (kinds .keys1),
     )
 
@@ -125,7 +122,7 @@ returns-3 c =
     let if1 = c .before .before .before .before .before .before .before .before .before .if1 in
     let kinds = c .before .before .before .before .before .before .before .before .before .before .before .match in
     let open-list2 = c .before .before .before .before .open-list2 in (
-      λ A room limit l li b. head-as (hash-open room A (write-level limit (a .levels)) (write-value room A limit (a .levels)) (a .v) (if1 .k) _ _ _ _ (hash-row (noded l) (a .v) b (kinds .keys2)) (default-byte room A _ (if1 .k) (λ t. t .taken) (λ t. t .left) (if1 .came)) (kinds .keys2)) (open-list2 .ensures A room limit (is-object (noded l) (a .v) b 5 (kinds .keys2) (omega arith) (omega arith)) _),
+      λ A room limit l li b. head-as (hash-open room A (write-level limit (a .levels)) (write-value room A limit (a .levels)) (a .v) (if1 .k) _ _ _ _ (hash-row (l .noded) (a .v) b (kinds .keys2)) (default-byte room A _ (if1 .k) (λ t. t .taken) (λ t. t .left) (if1 .came)) (kinds .keys2)) (open-list2 .ensures A room limit (is-object (l .noded) (a .v) b 5 (kinds .keys2) (omega arith) (omega arith)) _),
       λ A l b e. in-hash l (a .v) b (kinds .keys2),
     )
 
@@ -139,10 +136,9 @@ returns-4 : tie.Need-returns-4
 returns-4 c =
     let a = c .before .before .before .before .before .before .before .before .before .before .before .before .before .before .before .args in
     let kinds = c .before .before .before .before .before .before .before .before .match in
-    let open-named = c .before .before .before .before .open-named in (
-      λ A room limit l li b. head-to (ap (λ (k : ℕ). members-of room A (write-value room A limit (a .levels)) k (getD (a .nodes .now) (a .v * 7 + 3) 0) (getD (a .nodes .now) (a .v * 7 + 4) 0) (getD (a .nodes .now) (a .v * 7 + 6) 0)) (sym (kinds .keys3))) (open-named .ensures .0 A room limit l li b),
-      open-named .ensures .1,
-    )
+    let open-named = c .before .before .before .before .open-named in
+    let h = here (a .nodes .now) (a .references .now) (a .bytes .now) (a .v) (a .levels) in
+    (answers-as h _ 6 (kinds .keys3) (open-named .ensures .0), open-named .ensures .1)
 
 same-length-9 : tie.Need-same-length-9
 same-length-9 c = search needs
@@ -154,10 +150,9 @@ returns-5 : tie.Need-returns-5
 returns-5 c =
     let a = c .before .before .before .before .before .before .before .before .before .before .before .before .before .before .before .args in
     let kinds = c .before .before .before .before .before .before .before .before .match in
-    let open-string = c .before .before .before .before .open-string in (
-      λ A room limit l li b. head-to (ap (λ (k : ℕ). members-of room A (write-value room A limit (a .levels)) k (getD (a .nodes .now) (a .v * 7 + 3) 0) (getD (a .nodes .now) (a .v * 7 + 4) 0) (getD (a .nodes .now) (a .v * 7 + 6) 0)) (sym (kinds .keys4))) (open-string .ensures .0 A room limit l li b),
-      open-string .ensures .1,
-    )
+    let open-string = c .before .before .before .before .open-string in
+    let h = here (a .nodes .now) (a .references .now) (a .bytes .now) (a .v) (a .levels) in
+    (answers-as h _ 7 (kinds .keys4) (open-string .ensures .0), open-string .ensures .1)
 
 same-length-11 : tie.Need-same-length-11
 same-length-11 c = search needs
@@ -169,10 +164,9 @@ returns-6 : tie.Need-returns-6
 returns-6 c =
     let a = c .before .before .before .before .before .before .before .before .before .before .before .before .before .before .before .args in
     let kinds = c .before .before .before .before .before .before .before .before .match in
-    let open-user-defined = c .before .before .before .before .open-user-defined in (
-      λ A room limit l li b. head-to (ap (λ (k : ℕ). members-of room A (write-value room A limit (a .levels)) k (getD (a .nodes .now) (a .v * 7 + 3) 0) (getD (a .nodes .now) (a .v * 7 + 4) 0) (getD (a .nodes .now) (a .v * 7 + 6) 0)) (sym (kinds .keys5))) (open-user-defined .ensures .0 A room limit l li b),
-      open-user-defined .ensures .1,
-    )
+    let open-user-defined = c .before .before .before .before .open-user-defined in
+    let h = here (a .nodes .now) (a .references .now) (a .bytes .now) (a .v) (a .levels) in
+    (answers-as h _ 8 (kinds .keys5) (open-user-defined .ensures .0), open-user-defined .ensures .1)
 
 same-length-13 : tie.Need-same-length-13
 same-length-13 c = search needs
@@ -186,7 +180,7 @@ returns-7 c =
     let kinds = c .before .before .before .before .before .before .before .before .before .match in
     let write-scalar = c .before .before .before .before .before .write-scalar in
     let r = kinds .rest in (
-      λ A room limit l li b. linked (lead-goes (c .if2 .left) (write-scalar .ensures A room limit (write-level limit (a .levels)) (write-value room A limit (a .levels)) l b (low-kind (noded l) (a .v) b (r .0 .0 .0 .0 .1) (r .0 .0 .0 .1) (r .0 .0 .1) (r .0 .1) (r .1)))),
+      λ A room limit l li b. linked (lead-goes (c .if2 .left) (write-scalar .ensures A room limit (write-level limit (a .levels)) (write-value room A limit (a .levels)) l b (low-kind (l .noded) (a .v) b (r .0 .0 .0 .0 .1) (r .0 .0 .0 .1) (r .0 .0 .1) (r .0 .1) (r .1)))),
       λ A l b e. absurd (omega (arith, e)),
     )
 

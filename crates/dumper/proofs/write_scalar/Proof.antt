@@ -1,6 +1,6 @@
 -- The proof of write_scalar.
 use Rattle.dumper.specs.Laws.{lead-as, ready-as}
-use Rattle.dumper.proofs.Heads.{noded, fixnum-row, bool-row, symbol-here, symbol-row-here, nil-row, fixnum-same, nil-same, symbol-same, bool-byte}
+use Rattle.dumper.proofs.Heads.{fixnum-row, bool-row, symbol-here, symbol-row-here, nil-row, fixnum-same, nil-same, symbol-same, bool-byte}
 use borrow.Author.Needs.{needs}
 use Rattle.dumper.proofs.write_scalar.Statement.{statement}
 use Rattle.dumper.proofs.write_scalar.Tie as tie
@@ -34,7 +34,7 @@ write-symbol-requires c κs =
     let args = c .before .before .before .before .before .before .before .before .before .args in
     let kinds = c .before .before .before .match in
     let pre = c .before .before .before .before .before .before .before .before .before .pre in
-    ready-as (λ A p. (p .0, symbol-here (noded (p .0)) (args .v) (p .1) (kinds .keys2))) (pre)
+    ready-as (λ A p. (p .0, symbol-here (p .0 .noded) (args .v) (p .1) (kinds .keys2))) (pre)
 
 mul-if1 : tie.Need-mul-if1
 mul-if1 c = search needs
@@ -63,7 +63,7 @@ returns c =
     let kinds = c .before .before .before .before .before .before .match in
     let write-tagged = c .before .before .write-tagged in
     let v = args .v in
-    λ A room limit level inner l b h. lead-as (fixnum-same room A level inner v _ (fixnum-row (noded l) v b (kinds .keys1))) (write-tagged .ensures A room limit _)
+    λ A room limit level inner l b h. lead-as (fixnum-same room A level inner v _ (fixnum-row (l .noded) v b (kinds .keys1))) (write-tagged .ensures A room limit _)
 
 same-length-2 : tie.Need-same-length-2
 same-length-2 c = search needs
@@ -77,7 +77,7 @@ returns-2 c =
     let kinds = c .before .before .before .before .before .before .before .before .match in
     let write-symbol = c .before .before .before .before .write-symbol in
     let v = args .v in
-    λ A room limit level inner l b h. lead-as (symbol-same room A level inner v _ _ (symbol-row-here (noded l) v b (kinds .keys2))) (write-symbol .ensures A room limit l (symbol-here (noded l) v b (kinds .keys2)))
+    λ A room limit level inner l b h. lead-as (symbol-same room A level inner v _ _ (symbol-row-here (l .noded) v b (kinds .keys2))) (write-symbol .ensures A room limit l (symbol-here (l .noded) v b (kinds .keys2)))
 
 same-length-4 : tie.Need-same-length-4
 same-length-4 c = search needs
@@ -89,7 +89,7 @@ returns-3 c =
     let kinds = c .before .before .before .before .before .before .before .match in
     let write-byte = c .before .before .write-byte in
     let v = args .v in
-    λ A room limit level inner l b h. lead-as (bool-byte room A level inner v _ (if1 .k) (bool-row (noded l) v b (kinds .keys3)) (λ t. t .taken) (λ t. t .left) (if1 .came)) (write-byte .ensures A room limit _)
+    λ A room limit level inner l b h. lead-as (bool-byte room A level inner v _ (if1 .k) (bool-row (l .noded) v b (kinds .keys3)) (λ t. t .taken) (λ t. t .left) (if1 .came)) (write-byte .ensures A room limit _)
 
 same-length-5 : tie.Need-same-length-5
 same-length-5 c = search needs
@@ -100,7 +100,7 @@ returns-4 c =
     let kinds = c .before .before .before .before .before .match in
     let write-byte2 = c .before .before .write-byte2 in
     let v = args .v in
-    λ A room limit level inner l b h. lead-as (nil-same room A level inner v (nil-row (noded l) v b (kinds .rest .1) (kinds .rest .0 .0 .1) (kinds .rest .0 .1) h)) (write-byte2 .ensures A room limit _)
+    λ A room limit level inner l b h. lead-as (nil-same room A level inner v (nil-row (l .noded) v b (kinds .rest .1) (kinds .rest .0 .0 .1) (kinds .rest .0 .1) h)) (write-byte2 .ensures A room limit _)
 
 pub write-scalar-spec : {M : Type 1} → statement M
 write-scalar-spec =

@@ -5,6 +5,7 @@ use mathlib.Core.Path.{_∙_}
 use lib.ListN.{getD}
 use Rattle.definition.specs.Integer.{integer-bytes}
 use Rattle.definition.specs.Kind.{FIXNUM, SYMBOL-LINK}
+use Rattle.definition.specs.Node.{width}
 use Rattle.dumper.specs.Laws.{still, goes-as}
 use Rattle.dumper.proofs.Integers.{size-most}
 use Rattle.dumper.proofs.Heads.{fixnum-row, fixnum-same, symbol-here, symbol-row-here, symbol-same}
@@ -50,7 +51,7 @@ store-tagged-requires c κs =
     let a = c .before .before .before .before .before .before .before .before .before .args in
     let if1 = c .before .before .before .before .before .if1 in
     let if2 = c .before .before .before .before .if2 in
-    omega (arith, if1 .left, if2 .left, size-most (getD (a .nodes .now) (a .v * 7 + 1) 0))
+    omega (arith, if1 .left, if2 .left, size-most (getD (a .nodes .now) (a .v * width + 1) 0))
 
 same-length : tie.Need-same-length
 same-length c = search needs
@@ -62,7 +63,7 @@ returns-3 c =
     let if2 = c .before .before .before .before .before .before .before .if2 in
     let store-tagged = c .before .before .store-tagged in
     let if3 = c .before .before .before .before .before .if3 in
-    λ A room limit levels counts N b e. short-stored (a .at) FIXNUM (integer-bytes (getD (a .nodes .now) (a .v * 7 + 1) 0)) e (omega (arith, if1 .left, if2 .left, size-most (getD (a .nodes .now) (a .v * 7 + 1) 0))) (store-tagged .ensures .0) (store-tagged .ensures .1) (goes-as (value-row room A limit (suc levels) (a .v) (λ q. omega (arith, q)) ∙ fixnum-same room A _ _ (a .v) _ (fixnum-row N (a .v) b (if3 .taken))) still)
+    λ A room limit levels counts N b e. short-stored (a .at) FIXNUM (integer-bytes (getD (a .nodes .now) (a .v * width + 1) 0)) e (omega (arith, if1 .left, if2 .left, size-most (getD (a .nodes .now) (a .v * width + 1) 0))) (store-tagged .ensures .0) (store-tagged .ensures .1) (goes-as (value-row room A limit (suc levels) (a .v) (λ q. omega (arith, q)) ∙ fixnum-same room A _ _ (a .v) _ (fixnum-row N (a .v) b (if3 .taken))) still)
 
 returns-4 : tie.Need-returns-4
 returns-4 c = search needs

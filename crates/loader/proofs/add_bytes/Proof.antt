@@ -17,6 +17,16 @@ element-copy-out-at c = search needs
 sub-if1 : tie.Need-sub-if1
 sub-if1 c = search needs
 
+add-result : tie.Need-add-result
+add-result c = search needs
+
+returns : tie.Need-returns
+returns c =
+    let c5 = c .before .before .before .before .before in
+    let c-args = c5 .args in
+    let p = c5 .pre in
+    (λ room limit no re sy ob. bytes-full _ _ (span-length (c-args .input .now) (c-args .c .now) _ (p .0) (p .1)) (c .if1 .taken), λ l. absurd (omega arith))
+
 sub-copy-bytes : tie.Need-sub-copy-bytes
 sub-copy-bytes c = search needs
 
@@ -29,34 +39,17 @@ add-c c = search needs
 element-write-c : tie.Need-element-write-c
 element-write-c c = search needs
 
-cast-t24 : tie.Need-cast-t24
-cast-t24 c = search needs
-
 same-length : tie.Need-same-length
 same-length c = search needs
 
-returns : tie.Need-returns
-returns c =
-    let c9 = c .before .before .before .before .before .before .before .before .before in
-    let c-args = c9 .args in
-    let c-pre = c9 .pre in
-    let a = c-args in
-    let p = c-pre in
-    let l = a .c .now in (
-      λ room no re sy ob.
-          bytes-added _ (a .n) (span-length _ l (a .n) (p .0) (p .1)) (p .2) (c .before .before .before .before .if1 .taken)
-          (c .before .before .copy-bytes .ensures),
-      omega (arith, is 3 (bytes-of l + a .n) l (p .4) (omega arith)),
-    )
-
 returns-2 : tie.Need-returns-2
 returns-2 c =
-    let c5 = c .before .before .before .before .before in
-    let c-args = c5 .args in
-    let c-pre = c5 .pre in
-    let a = c-args in
-    let p = c-pre in
-    (λ room no re sy ob. bytes-full _ (a .n) (span-length _ (a .c .now) (a .n) (p .0) (p .1)) (c .if1 .left), tt)
+    let c4 = c .before .before .before .before in
+    let c9 = c4 .before .before .before .before .before in
+    let c-args = c9 .args in
+    let p = c9 .pre in
+    let l = c-args .c .now in
+    (λ room limit no re sy ob. bytes-added _ _ (span-length (c-args .input .now) (c-args .c .now) _ (p .0) (p .1)) (p .2) (c4 .if1 .left) (c .before .before .copy-bytes .ensures), λ h. omega (arith, is 3 (bytes-of l + c-args .n) l (p .4) (omega arith)))
 
 pub add-bytes-spec : {M : Type 1} → statement M
 add-bytes-spec =
@@ -65,11 +58,11 @@ add-bytes-spec =
     element-copy-out-to
     element-copy-out-at
     sub-if1
+    add-result
+    returns
     sub-copy-bytes
     copy-bytes-requires
     add-c
     element-write-c
-    cast-t24
     same-length
-    returns
     returns-2)

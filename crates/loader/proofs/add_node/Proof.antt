@@ -2,16 +2,23 @@
 use borrow.Author.Needs.{needs}
 use native.Mathlib.Omega.{arith}
 use Prim.Native.Nat.{_+_, _*_, _≤_}
+use mathlib.Core.List.{[], _∷_}
 use lib.ListN.{length}
 use Rattle.loader.specs.Holds.{nodes-of}
 use Rattle.loader.proofs.Counts.{is}
-use mathlib.Core.List.{[], _∷_}
 use Rattle.loader.proofs.Steps.{row-added, row-full, stored-free}
 use Rattle.loader.proofs.add_node.Statement.{statement}
 use Rattle.loader.proofs.add_node.Tie as tie
 
 element-copy-out-at : tie.Need-element-copy-out-at
 element-copy-out-at c = search needs
+
+add-result : tie.Need-add-result
+add-result c = search needs
+
+returns : tie.Need-returns
+returns c =
+    (λ input room limit row re by sy ob e f. row-full row (c .if1 .taken), λ l. absurd (omega arith))
 
 mul-put-node : tie.Need-mul-put-node
 mul-put-node c = search needs
@@ -25,43 +32,35 @@ add-c c = search needs
 element-write-c : tie.Need-element-write-c
 element-write-c c = search needs
 
-cast-t20 : tie.Need-cast-t20
-cast-t20 c = search needs
-
 same-length : tie.Need-same-length
 same-length c = search needs
 
-returns : tie.Need-returns
-returns c =
+returns-2 : tie.Need-returns-2
+returns-2 c =
     let c-put-node = c .before .before .put-node in
-    let c-if1 = c .before .before .before .before .if1 in
-    let c7 = c .before .before .before .before .before .before .before in
-    let c-args = c7 .args in
-    let c-pre = c7 .pre in
-    let a = c-args in
+    let c4 = c .before .before .before .before in
+    let c-if1 = c4 .if1 in
+    let c7 = c4 .before .before .before in
+    let a = c7 .args in
     let l = a .c .now in
-    let h : nodes-of l * 7 + 7 ≤ length (a .nodes .now) = omega (arith, c-if1 .taken) in (
-      λ input room row re by sy ob e f. row-added row _ e f (c-if1 .taken) (c-put-node .ensures),
-      (
-        omega (arith, is 1 (nodes-of l + 1) l (c-pre .1) (omega arith)),
+    let h : nodes-of l * 7 + 7 ≤ length (a .nodes .now) = omega (arith, c-if1 .left) in (
+      λ input room limit row re by sy ob e f. row-added row _ e f (c-if1 .left) (c-put-node .ensures),
+      λ k. (
+        omega (arith, is 1 (nodes-of l + 1) l (c7 .pre .1) (omega arith)),
         λ n. stored-free (a .nodes .now) (nodes-of l) (a .kind) (a .a ∷ a .b ∷ 0 ∷ 0 ∷ a .name ∷ 0 ∷ []) (c-put-node .ensures) h n,
       ),
     )
-
-returns-2 : tie.Need-returns-2
-returns-2 c =
-    (λ input room row re by sy ob e f. row-full row (c .if1 .left), (tt, λ n. tt))
 
 pub add-node-spec : {M : Type 1} → statement M
 add-node-spec =
     tie.close
     (tie.spec
     element-copy-out-at
+    add-result
+    returns
     mul-put-node
     put-node-requires
     add-c
     element-write-c
-    cast-t20
     same-length
-    returns
     returns-2)

@@ -1,16 +1,26 @@
 -- The proof of add_object.
 use borrow.Author.Needs.{needs}
 use native.Mathlib.Omega.{arith}
-use mathlib.Core.Path.{refl}
-use Prim.Native.Nat.{_+_}
 use Rattle.loader.specs.Holds.{objects-of}
 use Rattle.loader.proofs.Counts.{put}
 use Rattle.loader.proofs.Steps.{object-added, object-full}
+use Prim.Native.Nat.{_+_}
+use mathlib.Core.Path.{refl}
 use Rattle.loader.proofs.add_object.Statement.{statement}
 use Rattle.loader.proofs.add_object.Tie as tie
 
 element-copy-out-at : tie.Need-element-copy-out-at
 element-copy-out-at c = search needs
+
+add-result : tie.Need-add-result
+add-result c = search needs
+
+returns : tie.Need-returns
+returns c =
+    (λ input room limit no re by sy. object-full _ (c .if1 .taken), λ l. absurd (omega arith))
+
+cast-objects : tie.Need-cast-objects
+cast-objects c = search needs
 
 mul-objects : tie.Need-mul-objects
 mul-objects c = search needs
@@ -27,28 +37,22 @@ element-write-c c = search needs
 same-length : tie.Need-same-length
 same-length c = search needs
 
-returns : tie.Need-returns
-returns c =
-    let c-args = c .before .before .args in
-    let c-pre = c .before .before .pre in
-    let l = c-args .c .now in (
-      λ input room no re by sy. object-added (c-args .h) (c-pre) (c .if1 .taken),
-      (omega (arith, put 5 (objects-of l + 1) l .others 1 (omega arith), c-pre), refl),
-    )
-
 returns-2 : tie.Need-returns-2
 returns-2 c =
-    (λ input room no re by sy. object-full (c .before .before .args .h) (c .if1 .left), (tt, tt))
+    let l = c .before .before .args .c .now in
+    (λ input room limit no re by sy. object-added _ (c .before .before .pre .0) (c .if1 .left), λ h. (refl, put 5 (objects-of l + 1) l .others 1 (omega arith)))
 
 pub add-object-spec : {M : Type 1} → statement M
 add-object-spec =
     tie.close
     (tie.spec
     element-copy-out-at
+    add-result
+    returns
+    cast-objects
     mul-objects
     slice-write-objects
     add-c
     element-write-c
     same-length
-    returns
     returns-2)

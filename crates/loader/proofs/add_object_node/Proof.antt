@@ -1,90 +1,50 @@
 -- The proof of add_object_node.
 use borrow.Author.Needs.{needs}
+use native.Mathlib.Omega.{arith}
 use mathlib.Core.Path.{sym, subst}
-use Prim.Native.Nat.{ℕ}
-use Rattle.loader.specs.Holds.{Below, Is, Free, FreeAt}
-use Rattle.definition.specs.Load.{add-object-node, add-object}
-use Rattle.loader.proofs.Laws.{bind, stop, ends, told}
+use Rattle.definition.specs.Load.{add-object-node}
+use Rattle.loader.specs.Holds.{Free}
+use Rattle.loader.proofs.Laws.{lead-first, lead-after, lead-stop}
 use Rattle.loader.proofs.add_object_node.Statement.{statement}
 use Rattle.loader.proofs.add_object_node.Tie as tie
 
 add-node-requires : tie.Need-add-node-requires
 add-node-requires c κs = search needs
 
-enum-known-h : tie.Need-enum-known-h
-enum-known-h c = search needs
-
-add-object-requires : tie.Need-add-object-requires
-add-object-requires c κs =
-    let c7 = c .before .before .before .before .before .before .before in
-    let c-add-node = c7 .add-node in
-    subst (Below _) (c .before .before .before .h .given .1) (c-add-node .ensures .1 .0)
-
-enum-known-v : tie.Need-enum-known-v
-enum-known-v c = search needs
-
-enum-known-r : tie.Need-enum-known-r
-enum-known-r c = search needs
-
-enum-known-r-2 : tie.Need-enum-known-r-2
-enum-known-r-2 c = search needs
-
 same-length : tie.Need-same-length
 same-length c = search needs
-
-same-length-2 : tie.Need-same-length-2
-same-length-2 c = search needs
 
 returns : tie.Need-returns
 unfolding add-object-node
 returns c =
-    let c-v = c .before .v in
+    let c3 = c .before .before .before in
+    (λ input room limit row re by sy e f. lead-stop (c .if1 .taken) (lead-first _ (c3 .add-node .ensures .0 input room limit row re by sy _ e f)), λ l. absurd (omega arith))
+
+add-object-requires : tie.Need-add-object-requires
+add-object-requires c κs =
+    let c-if1 = c .before .before .if1 in
     let c5 = c .before .before .before .before .before in
-    let c-add-object = c5 .add-object in
-    let c-h = c5 .before .before .before .before .h in
-    let c13 = c5 .before .before .before .before .before .before .before .before in
-    let c-add-node = c13 .add-node in (
-      λ input room row re by sy e f.
-          ends (bind (add-object room) (c-h .given .1) (c-add-node .ensures .0 input room row re by sy _ e f))
-          (told (c-v .given .1) (c-add-object .ensures .0 input room _ re by sy)),
-      (
-        subst (Below _) (c-v .given .1) (c-add-object .ensures .1 .0),
-        λ n.
-            subst (λ (x : ℕ). Free (c-add-node .last .0) x) (sym (subst (Is _) (c-v .given .1) (c-add-object .ensures .1 .1)))
-            (subst (FreeAt (c-add-node .last .0)) (c-h .given .1) (c-add-node .ensures .1 .1 n)),
-      ),
-    )
+    let n = c5 .add-node .ensures .1 (c-if1 .left) in
+    (n .0, c-if1 .left)
+
+same-length-2 : tie.Need-same-length-2
+same-length-2 c = search needs
 
 same-length-3 : tie.Need-same-length-3
 same-length-3 c = search needs
-
-same-length-4 : tie.Need-same-length-4
-same-length-4 c = search needs
 
 returns-2 : tie.Need-returns-2
 unfolding add-object-node
 returns-2 c =
     let c5 = c .before .before .before .before .before in
-    let c-add-object = c5 .add-object in
-    let c-h = c5 .before .before .before .before .h in
-    let c13 = c5 .before .before .before .before .before .before .before .before in
-    let c-add-node = c13 .add-node in (
-      λ input room row re by sy e f.
-          ends (bind (add-object room) (c-h .given .1) (c-add-node .ensures .0 input room row re by sy _ e f))
-          (told (c .before .r .given .1) (c-add-object .ensures .0 input room _ re by sy)),
-      (tt, λ n. tt),
-    )
-
-same-length-5 : tie.Need-same-length-5
-same-length-5 c = search needs
-
-returns-3 : tie.Need-returns-3
-unfolding add-object-node
-returns-3 c =
-    let c5 = c .before .before .before .before .before in
-    let c-add-node = c5 .add-node in (
-      λ input room row re by sy e f. stop (add-object room) (c .before .r2 .given .1) (c-add-node .ensures .0 input room row re by sy _ e f),
-      (tt, λ n. tt),
+    let c-if1 = c5 .if1 in
+    let c8 = c5 .before .before .before in
+    let c-add-node = c8 .add-node in
+    let n = c-add-node .ensures .1 (c-if1 .left) in
+    let o = c .before .before .add-object .ensures in (
+      λ input room limit row re by sy e f.
+          lead-after (lead-first _ (c-add-node .ensures .0 input room limit row re by sy _ e f) .goes (c-if1 .left)) (o .0 input room limit _ re by sy),
+      λ l. let q = o .1 l in (omega (arith, n .0, q .0, q .1), λ k. subst (Free (c-add-node .last .0)) (sym (q .0)) (n .1 k)),
     )
 
 pub add-object-node-spec : {M : Type 1} → statement M
@@ -92,16 +52,9 @@ add-object-node-spec =
     tie.close
     (tie.spec
     add-node-requires
-    enum-known-h
-    add-object-requires
-    enum-known-v
-    enum-known-r
-    enum-known-r-2
     same-length
-    same-length-2
     returns
+    add-object-requires
+    same-length-2
     same-length-3
-    same-length-4
-    returns-2
-    same-length-5
-    returns-3)
+    returns-2)

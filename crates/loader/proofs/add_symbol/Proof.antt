@@ -1,12 +1,26 @@
 -- The proof of add_symbol.
 use borrow.Author.Needs.{needs}
-use mathlib.Core.Path.{refl}
+use native.Mathlib.Omega.{arith}
+use Rattle.loader.specs.Holds.{symbols-of}
+use Rattle.loader.proofs.Counts.{put}
 use Rattle.loader.proofs.Steps.{symbol-added, symbol-full}
+use Prim.Native.Nat.{_+_}
+use mathlib.Core.Path.{refl}
 use Rattle.loader.proofs.add_symbol.Statement.{statement}
 use Rattle.loader.proofs.add_symbol.Tie as tie
 
 element-copy-out-at : tie.Need-element-copy-out-at
 element-copy-out-at c = search needs
+
+add-result : tie.Need-add-result
+add-result c = search needs
+
+returns : tie.Need-returns
+returns c =
+    (λ input room limit no re by ob y. symbol-full _ (c .if1 .taken), λ l. absurd (omega arith))
+
+cast-symbols : tie.Need-cast-symbols
+cast-symbols c = search needs
 
 mul-symbols : tie.Need-mul-symbols
 mul-symbols c = search needs
@@ -23,23 +37,22 @@ element-write-c c = search needs
 same-length : tie.Need-same-length
 same-length c = search needs
 
-returns : tie.Need-returns
-returns c =
-    (λ input room no re by ob y. symbol-added (c .before .before .args .h) y (c .if1 .taken), refl)
-
 returns-2 : tie.Need-returns-2
 returns-2 c =
-    (λ input room no re by ob y. symbol-full (c .before .before .args .h) (c .if1 .left), tt)
+    let l = c .before .before .args .c .now in
+    (λ input room limit no re by ob y. symbol-added _ y (c .if1 .left), λ h. (refl, put 4 (symbols-of l + 1) l .others 1 (omega arith)))
 
 pub add-symbol-spec : {M : Type 1} → statement M
 add-symbol-spec =
     tie.close
     (tie.spec
     element-copy-out-at
+    add-result
+    returns
+    cast-symbols
     mul-symbols
     slice-write-symbols
     add-c
     element-write-c
     same-length
-    returns
     returns-2)

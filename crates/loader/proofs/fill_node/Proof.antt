@@ -1,5 +1,6 @@
 -- The proof of fill_node.
 use borrow.Author.Needs.{needs}
+use mathlib.Core.Path.{refl}
 use Rattle.loader.proofs.Steps.{row-filled}
 use Rattle.loader.proofs.fill_node.Statement.{statement}
 use Rattle.loader.proofs.fill_node.Tie as tie
@@ -15,9 +16,7 @@ same-length c = search needs
 
 returns : tie.Need-returns
 returns c =
-    let c5 = c .before .before .before .before .before in
-    let c-args = c5 .args in
-    λ input room row re by sy ob k e pl l q. row-filled (c-args .h) row _ e pl l q (c .before .before .put-node .ensures)
+    (λ input room limit row re by sy ob l e f h q. row-filled _ row _ e f h q (c .before .before .put-node .ensures), refl)
 
 pub fill-node-spec : {M : Type 1} → statement M
 fill-node-spec = tie.close (tie.spec mul-put-node put-node-requires same-length returns)

@@ -1,23 +1,24 @@
 -- The proof of find_symbol.
 use borrow.Author.Needs.{needs}
 use native.Mathlib.Omega.{arith}
-use mathlib.Core.Path.{_≡_, refl, _∙_}
-use Prim.Native.Nat.{ℕ, _-_, _≤_, _<_}
+use Prim.Native.Nat.{ℕ, _-_, _<_, _≤_}
+use mathlib.Core.Path.{_≡_, refl, sym, ap, _∙_, subst}
 use mathlib.Core.List.{List}
-use lib.ListN.{drop}
+use mathlib.Core.Option.{some}
+use lib.ListN.{getD, drop}
+use Rattle.definition.specs.Node.{nil}
 use Rattle.definition.specs.Load.{Room, State, lists}
-use Rattle.loader.specs.Holds.{Holds, find-listed, span, symbols-of}
-use Rattle.loader.proofs.Steps.{entry-symbolic}
+use Rattle.loader.specs.Holds.{Holds, Symbolic, find-listed, span, symbols-of}
 use Rattle.loader.proofs.Readers.{found-at, found-on, found-none}
+use Rattle.loader.proofs.Steps.{entry-symbolic, is-there}
 use Rattle.loader.proofs.find_symbol.Statement.{statement}
 use Rattle.loader.proofs.find_symbol.Tie as tie
 
 abbrev Inv-loop : tie.InvT-loop
 Inv-loop input nodes bytes symbols at count n i₀ i =
     (i ≤ count) ×
-    ((room : Room) (st : State) (re ob k : List ℕ) → symbols-of k ≡ count → Holds input room st (lists nodes re bytes symbols ob) k →
-    find-listed (st .bytes) (span input at n) (st .nodes) (st .symbols) ≡ find-listed (st .bytes) (span input at n) (st .nodes)
-    (drop i (st .symbols)))
+    ((room : Room) (s : State) (re ob k : List ℕ) → symbols-of k ≡ count → Holds input room s (lists nodes re bytes symbols ob) k →
+    find-listed (s .bytes) (span input at n) (s .nodes) (s .symbols) ≡ find-listed (s .bytes) (span input at n) (s .nodes) (drop i (s .symbols)))
 
 abbrev μ-loop : tie.MeasureT-loop
 μ-loop input nodes bytes symbols at count n i₀ i =
@@ -25,7 +26,7 @@ abbrev μ-loop : tie.MeasureT-loop
 
 loop-holds : tie.Need-loop-holds Inv-loop μ-loop
 loop-holds c =
-    (omega arith, λ room st re ob k e H. refl)
+    (omega arith, λ room s re ob k e H. refl)
 
 mul-h : tie.Need-mul-h Inv-loop μ-loop
 mul-h c = search needs
@@ -33,36 +34,32 @@ mul-h c = search needs
 shared-slice-read-h : tie.Need-shared-slice-read-h Inv-loop μ-loop
 shared-slice-read-h c =
     let c7 = c .before .before .before .before .before .before .before in
-    let c-pre = c7 .pre in
-    let p = c-pre in
+    let p = c7 .pre in
     let H = p .1 .7 in
     omega (arith, c .before .loop-test .taken, p .1 .6, H .count-symbols, H .symbols .fits, H .symbols .sized)
 
 is-named-requires : tie.Need-is-named-requires Inv-loop μ-loop
 is-named-requires c κs =
     let c7 = c .before .before .before .before .before .before .before in
-    let c-pre = c7 .pre in
-    let p = c-pre in
-    let H = p .1 .7 in (
-      p .0,
-      (
-        p .1 .0,
-        p .1 .1,
-        p .1 .2,
-        _,
-        p .1 .3,
-        p .1 .4,
-        p .1 .5,
-        entry-symbolic (c .before .before .loop .i) H (omega (arith, p .1 .6, c .before .loop-test .taken)),
-        H,
-      ),
-    )
+    let p = c7 .pre in
+    let H = p .1 .7 in
+    (p .0, (p .1 .0, p .1 .1, p .1 .2, _, p .1 .3, p .1 .4, p .1 .5, entry-symbolic (c .before .before .loop .i) H (omega (arith, p .1 .6, c .before .loop-test .taken)), H))
+
+wide-requires : tie.Need-wide-requires Inv-loop μ-loop
+wide-requires c κs = search needs
 
 returns : tie.Need-returns Inv-loop μ-loop
 returns c =
-    let c-loop = c .before .before .before .before .loop in
-    (λ room st re ob k e H. let lt : c-loop .i < symbols-of k = omega (arith, e, c .before .before .before .loop-test .taken) in
-    (H .names _ ∙ c-loop .inv .1 room st re ob k e H ∙ found-at H (c-loop .i) lt _ (c .if1 .taken) (c .before .is-named .ensures room st re _ ob k (entry-symbolic (c-loop .i) H lt) H), entry-symbolic (c-loop .i) H lt))
+    let c4 = c .before .before .before .before in
+    let c10 = c4 .before .before .before .before .before .before in
+    let turn = c4 .before .loop in
+    let w = c .wide .ensures in
+    let symbols = c10 .args .symbols .now in
+    λ room s re ob k e H.
+    let lt : turn .i < symbols-of k = omega (arith, e, c4 .loop-test .taken) in
+    let y = entry-symbolic (turn .i) H lt in
+    let found = H .names _ ∙ turn .inv .1 room s re ob k e H ∙ found-at H (turn .i) lt _ (c .before .if1 .taken) (c .before .before .is-named .ensures room s re _ ob k y H) in
+    (λ l. (found ∙ ap some (sym w), subst (λ (h : ℕ). Symbolic (getD (s .nodes) h nil)) (sym w) y), λ l. absurd (omega (arith, w, l, is-there H (getD symbols (turn .i) 0) y)))
 
 add-i : tie.Need-add-i Inv-loop μ-loop
 add-i c = search needs
@@ -72,18 +69,19 @@ loop-less c = search needs
 
 loop-again : tie.Need-loop-again Inv-loop μ-loop
 loop-again c =
-    let c-loop = c .before .before .before .before .loop in (
+    let c3 = c .before .before .before in
+    let turn = c3 .before .loop in (
       omega arith,
-      λ room st re ob k e H. let lt : c-loop .i < symbols-of k = omega (arith, e, c .before .before .before .loop-test .taken) in
-          c-loop .inv .1 room st re ob k e H
-          ∙ found-on H (c-loop .i) lt _ (c .if1 .left) (c .before .is-named .ensures room st re _ ob k (entry-symbolic (c-loop .i) H lt) H),
+      λ room s re ob k e H.
+          let lt : turn .i < symbols-of k = omega (arith, e, c3 .loop-test .taken) in
+          turn .inv .1 room s re ob k e H ∙ found-on H (turn .i) lt _ (c .if1 .left) (c .before .is-named .ensures room s re _ ob k (entry-symbolic (turn .i) H lt) H),
     )
 
 returns-2 : tie.Need-returns-2 Inv-loop μ-loop
 returns-2 c =
-    let c-loop = c .before .loop in
-    (λ room st re ob k e H.
-    (H .names _ ∙ c-loop .inv .1 room st re ob k e H ∙ found-none H (c-loop .i) _ (omega (arith, e, c .loop-test .left)), tt))
+    let turn = c .before .loop in
+    λ room s re ob k e H.
+    (λ l. absurd (omega (arith, l)), λ l. H .names _ ∙ turn .inv .1 room s re ob k e H ∙ found-none H (turn .i) _ (omega (arith, e)))
 
 pub find-symbol-spec : {M : Type 1} → statement M
 find-symbol-spec =
@@ -95,6 +93,7 @@ find-symbol-spec =
     mul-h
     shared-slice-read-h
     is-named-requires
+    wide-requires
     returns
     add-i
     loop-less

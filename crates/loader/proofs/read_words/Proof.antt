@@ -1,88 +1,89 @@
 -- The proof of read_words.
 use borrow.Author.Needs.{needs}
 use native.Mathlib.Omega.{arith}
-use mathlib.Core.Path.{subst}
-use Prim.Native.Nat.{ℕ, _*_}
-use Rattle.definition.specs.Run.{_>>=_}
-use Rattle.definition.specs.Load.{counted, read-count, reserve}
-use Rattle.loader.specs.Holds.{Counted, Placed}
-use Rattle.loader.proofs.Laws.{bind, stop, then, ends, held, opened, unopened}
-use Rattle.loader.proofs.Readers.{times-fits}
+use Prim.Native.Nat.{ℕ, _+_, _-_, _*_}
+use mathlib.Core.Path.{_≡_, sym, ap, _∙_}
+use Rattle.definition.specs.Load.{lists, read-count, counted}
+use Rattle.loader.specs.Holds.{references-of}
+use Rattle.loader.proofs.Counts.{is}
+use Rattle.loader.proofs.Laws.{held, lead-first, lead-after, lead-stop, goes-first, goes-to, given}
+use Rattle.loader.proofs.Readers.{twice-at-most}
+use Rattle.loader.proofs.Steps.{words-reserved, words-short}
 use Rattle.loader.proofs.read_words.Statement.{statement}
 use Rattle.loader.proofs.read_words.Tie as tie
 
 read-count-requires : tie.Need-read-count-requires
 read-count-requires c κs = search needs
 
-enum-known-n : tie.Need-enum-known-n
-enum-known-n c = search needs
-
-mul-reserve : tie.Need-mul-reserve
-mul-reserve c =
-    let c8 = c .before .before .before .before .before .before .before .before in
-    let c-pre = c8 .pre in
-    times-fits _ _ (subst Counted (c .before .before .n .given .1) (c .before .before .before .before .read-count .ensures .1)) (c-pre .0)
-
-reserve-requires : tie.Need-reserve-requires
-reserve-requires c κs =
-    let c8 = c .before .before .before .before .before .before .before .before in
-    let c-pre = c8 .pre in
-    let H1 = held {m = λ room. read-count _} (c-pre .1 .4) (c .before .before .n .given .1)
-    (λ room. c .before .before .before .before .read-count .ensures .0 room _) in
-    (omega arith, omega arith, H1 .holds .counts)
-
-enum-known-p : tie.Need-enum-known-p
-enum-known-p c = search needs
-
-enum-known-r : tie.Need-enum-known-r
-enum-known-r c = search needs
-
-enum-known-r-2 : tie.Need-enum-known-r-2
-enum-known-r-2 c = search needs
-
 returns : tie.Need-returns
 unfolding counted
 returns c =
-    let c-p = c .before .p in
-    let c-reserve = c .before .before .before .reserve in
+    (λ room limit no by sy ob k. lead-stop (c .if1 .taken) (lead-first _ (c .before .read-count .ensures .0 room limit _)), λ l. absurd (omega arith))
+
+element-copy-out-at : tie.Need-element-copy-out-at
+element-copy-out-at c = search needs
+
+mul-k : tie.Need-mul-k
+mul-k c =
     let c6 = c .before .before .before .before .before .before in
-    let c-n = c6 .n in
-    let c-read-count = c6 .before .before .read-count in
-    let c12 = c6 .before .before .before .before .before .before in
-    let c-args = c12 .args in (
-      λ room no by sy ob k.
-          opened
-          (then (bind (λ (n : ℕ). reserve room (n * c-args .each) >>= λ start. k start n) (c-n .given .1) (c-read-count .ensures .0 room _))
-          (bind (λ (start : ℕ). k start (c-n .given .0 .0)) (c-p .given .1) (c-reserve .ensures .0 _ room _ _ _ _))),
-      (subst Counted (c-n .given .1) (c-read-count .ensures .1), subst (Placed _ _) (c-p .given .1) (c-reserve .ensures .1)),
-    )
+    record { fits = twice-at-most _ _ (c .before .before .read-count .ensures .1 (c .before .if1 .left)) (c6 .pre .0) }
+
+sub-if2 : tie.Need-sub-if2
+sub-if2 c =
+    let c6 = c .before .before .before .before .before .before in
+    let H = held {m = λ room. read-count _} {m' = λ room. _} (c6 .pre .1 .4) (c .before .if1 .left) (λ room. c .before .before .read-count .ensures .0 room 0 _) in
+    omega (arith, H .holds .count-references, H .holds .references .fits, H .holds .references .sized)
+
+add-result : tie.Need-add-result
+add-result c = search needs
 
 returns-2 : tie.Need-returns-2
 unfolding counted
 returns-2 c =
-    let c6 = c .before .before .before .before .before .before in
-    let c-n = c6 .n in
-    let c-read-count = c6 .before .before .read-count in
-    let c12 = c6 .before .before .before .before .before .before in
-    let c-args = c12 .args in (
-      λ room no by sy ob k.
-          unopened
-          (ends (bind (λ (n : ℕ). reserve room (n * c-args .each) >>= λ start. k start n) (c-n .given .1) (c-read-count .ensures .0 room _))
-          (stop (λ (start : ℕ). k start (c-n .given .0 .0)) (c .before .r .given .1)
-          (c .before .before .before .reserve .ensures .0 _ room _ _ _ _))),
-      tt,
-    )
+    let c3 = c .before .before .before in
+    let c-read-count = c3 .read-count in
+    let c7 = c3 .before .before .before .before in
+    (λ room limit no by sy ob k. lead-after (lead-first _ (c-read-count .ensures .0 room limit _) .goes (c .before .before .if1 .left)) (lead-stop {T' = lists no (c7 .args .references .now) by sy ob} {c' = c-read-count .last .1 .0} (omega arith) (lead-first _ (words-short _ (c .if2 .taken)))), λ l. absurd (omega arith))
+
+zero-range-requires : tie.Need-zero-range-requires
+zero-range-requires c κs =
+    let c3 = c .before .before .before in
+    let c8 = c3 .before .before .before .before .before in
+    let H = held {m = λ room. read-count _} {m' = λ room. _} (c8 .pre .1 .4) (c3 .if1 .left) (λ room. c3 .before .read-count .ensures .0 room 0 _) in
+    omega (arith, H .holds .count-references, H .holds .references .fits, H .holds .references .sized, c .before .if2 .left)
+
+add-c : tie.Need-add-c
+add-c c =
+    let c4 = c .before .before .before .before in
+    let c7 = c4 .before .before .before in
+    let c11 = c7 .before .before .before .before in
+    let H = held {m = λ room. read-count _} {m' = λ room. _} (c11 .pre .1 .4) (c4 .before .before .if1 .left) (λ room. c7 .read-count .ensures .0 room 0 _) in
+    record { fits = omega (arith, H .holds .small, H .holds .count-references, H .holds .references .fits, H .holds .references .sized, c4 .if2 .left) }
+
+element-write-c : tie.Need-element-write-c
+element-write-c c = search needs
+
+same-length : tie.Need-same-length
+same-length c = search needs
 
 returns-3 : tie.Need-returns-3
 unfolding counted
 returns-3 c =
-    let c7 = c .before .before .before .before .before .before .before in
-    let c-args = c7 .args in (
-      λ room no by sy ob k.
-          unopened
-          (stop (λ (n : ℕ). reserve room (n * c-args .each) >>= λ start. k start n) (c .before .r2 .given .1)
-          (c .before .before .before .read-count .ensures .0 room _)),
-      tt,
+    let c4 = c .before .before .before .before in
+    let c-if1 = c4 .before .before .if1 in
+    let c7 = c4 .before .before .before in
+    let c-read-count = c7 .read-count in
+    let c11 = c7 .before .before .before .before in
+    let H = held {m = λ room. read-count _} {m' = λ room. _} (c11 .pre .1 .4) (c-if1 .left) (λ room. c-read-count .ensures .0 room 0 _) in
+    let l = c-read-count .last .1 .0 in
+    let n = c-read-count .result in
+    let w = n * c11 .args .each in
+    let e = is 2 (references-of l + w) l (H .holds .counts) (omega arith) in
+    let start : references-of l ≡ references-of l + w - w = omega arith in (
+      λ room limit no by sy ob k.
+          lead-after (lead-first _ (c-read-count .ensures .0 room limit _) .goes (c-if1 .left))
+          (given (λ s G. c-if1 .left) (goes-to (ap (λ (x : ℕ). k x n) (start ∙ ap (λ (x : ℕ). x - w) (sym e))) (goes-first (λ x. k x n) (words-reserved w (c4 .if2 .left) (c .before .before .zero-range .ensures))))),
+      λ h. (c-read-count .ensures .1 (c-if1 .left), omega (arith, e)),
     )
 
 pub read-words-spec : {M : Type 1} → statement M
@@ -90,12 +91,14 @@ read-words-spec =
     tie.close
     (tie.spec
     read-count-requires
-    enum-known-n
-    mul-reserve
-    reserve-requires
-    enum-known-p
-    enum-known-r
-    enum-known-r-2
     returns
+    element-copy-out-at
+    mul-k
+    sub-if2
+    add-result
     returns-2
+    zero-range-requires
+    add-c
+    element-write-c
+    same-length
     returns-3)

@@ -15,6 +15,10 @@ mul-kind c = search needs
 slice-read-kind : tie.Need-slice-read-kind
 slice-read-kind c = search needs
 
+returns : tie.Need-returns
+returns c =
+    (λ input room limit re by sy ob k l. variables-refused _ _ _ l (omega arith) (omega arith), λ h. absurd (omega arith))
+
 add-a : tie.Need-add-a
 add-a c = search needs
 
@@ -48,21 +52,10 @@ put-node-requires c κs = search needs
 same-length : tie.Need-same-length
 same-length c = search needs
 
-returns : tie.Need-returns
-returns c =
-    let c7 = c .before .before .before .before .before .before .before in
-    let c-if1 = c7 .if1 in
-    let c-args = c7 .before .before .before .args in
-    let a = c-args in
-    (λ input room re by sy ob k l. variables-set (a .h) (a .start) (a .n) l (c-if1 .taken) (c .before .before .put-node .ensures), refl)
-
 returns-2 : tie.Need-returns-2
 returns-2 c =
-    let c-if1 = c .if1 in
-    let a = c .before .before .before .args in (
-      λ input room re by sy ob k l. variables-refused (a .h) (a .start) (a .n) l (omega (arith, c-if1 .left)) (omega (arith, c-if1 .left)),
-      tt,
-    )
+    let c7 = c .before .before .before .before .before .before .before in
+    (λ input room limit re by sy ob k l. variables-set _ _ _ l (c7 .if1 .left) (c .before .before .put-node .ensures), λ h. refl)
 
 pub set-variables-spec : {M : Type 1} → statement M
 set-variables-spec =
@@ -71,6 +64,7 @@ set-variables-spec =
     mul-base
     mul-kind
     slice-read-kind
+    returns
     add-a
     mul-a
     slice-read-a
@@ -82,5 +76,4 @@ set-variables-spec =
     slice-read-name
     put-node-requires
     same-length
-    returns
     returns-2)

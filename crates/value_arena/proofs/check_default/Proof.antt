@@ -1,10 +1,9 @@
 -- The proof of check_default.
 use borrow.Author.Needs.{needs}
 use Prim.Native.Nat.{_-_}
-use mathlib.Core.Path.{_∙_}
 use mathlib.Core.List.{[], _∷_}
-use Rattle.definition.specs.Build.{check-handles}
-use Rattle.value_arena.proofs.Calls.{accepted, not-accepted}
+use Rattle.definition.specs.Build.{check-handles, default-handle}
+use Rattle.value_arena.proofs.Calls.{says-on}
 use Rattle.value_arena.proofs.Tests.{default-none, default-some}
 use Rattle.value_arena.proofs.check_default.Statement.{statement}
 use Rattle.value_arena.proofs.check_default.Tie as tie
@@ -20,21 +19,10 @@ sub-check-handle c = search needs
 check-handle-requires : tie.Need-check-handle-requires
 check-handle-requires c κs = search needs
 
-enum-told : tie.Need-enum-told
-enum-told c = search needs
-
-enum-known-q : tie.Need-enum-known-q
-enum-known-q c = search needs
-
 returns-2 : tie.Need-returns-2
 returns-2 c =
-    let a = c .before .before .before .before .args in
-    λ L e. default-some L (a .default) (c .before .before .before .if1 .left) ∙ accepted (check-handles ((a .default - 1) ∷ [])) L (c .enum-told .given .1) (c .before .before .check-handle .ensures .0 L e)
-
-returns-3 : tie.Need-returns-3
-returns-3 c =
-    let a = c .before .before .before .before .before .args in
-    λ L e. default-some L (a .default) (c .before .before .before .before .if1 .left) ∙ not-accepted (check-handles ((a .default - 1) ∷ [])) L (c .before .q .given .1) (c .before .before .before .check-handle .ensures .0 L e)
+    let d = c .before .before .args .default in
+    λ L e. says-on (c .check-handle .result) (check-handles (default-handle d)) (check-handles ((d - 1) ∷ [])) L (default-some L d (c .before .if1 .left)) (c .check-handle .ensures .0 L e)
 
 pub check-default-spec : {M : Type 1} → statement M
 check-default-spec =
@@ -43,7 +31,4 @@ check-default-spec =
     returns
     sub-check-handle
     check-handle-requires
-    enum-told
-    enum-known-q
-    returns-2
-    returns-3)
+    returns-2)

@@ -1,9 +1,11 @@
-// Times load and dump of the Rattle crates and of the Rust crate on the same inputs, in one run; rounds of the two alternate.
+// Times load and dump of the Rattle crates and of the Rust crate on the same inputs, and a walk over what they filled, in one
+// run; rounds of the two alternate. Beside load stands what it does at least: tables and lists set to zero and the input copied.
 //
 // usage: perf                    the tables of times
 //        perf deep CALL KIND     one load, and one dump where CALL is dump, at limit 128 of 128 levels of arrays, hashes,
 //                                defaults, objects or variables, or of nil alone (for trials of the stack)
 use beside_rust::inputs::*;
+use beside_rust::walk;
 use beside_rust::Tables;
 use std::hint::black_box;
 use std::time::Instant;
@@ -41,15 +43,25 @@ fn tables(input: &[u8]) -> Tables {
 
 fn load_row(name: &str, input: &[u8]) {
     let mut tables = tables(input);
-    let [ours, theirs] = times([
+    let mut yardstick = tables_filled(input);
+    let mut copy = vec![0; input.len()];
+    let [ours, least, theirs] = times([
         &mut || {
             black_box(tables.load(black_box(input), LIMIT));
+        },
+        &mut || {
+            black_box(&mut yardstick).zero_and_copy(black_box(input), black_box(&mut copy));
+            black_box(&yardstick);
+            black_box(&copy);
         },
         &mut || {
             black_box(ruby_marshal::load(black_box(input)).unwrap());
         },
     ]);
-    println!("{:<24}{:>9}{:>9}{:>11.2}{:>11.2}{:>8.2}", name, input.len(), tables.counts[0], ours / 1000.0, theirs / 1000.0, theirs / ours);
+    println!(
+        "{:<24}{:>9}{:>9}{:>11.2}{:>15.2}{:>11.2}{:>8.2}",
+        name, input.len(), tables.counts[0], ours / 1000.0, least / 1000.0, theirs / 1000.0, theirs / ours
+    );
 }
 
 // The inputs are in dump form, so the output just holds what is written. The Rust writes into a vector that has the room.
@@ -81,6 +93,28 @@ fn dump_row(name: &str, input: &[u8]) {
     );
 }
 
+// The walk through the views beside the same walk in the Rust crate's arena.
+fn walk_row(name: &str, input: &[u8]) {
+    let tables = tables_filled(input);
+    let arena = tables.arena().expect("an arena that load filled");
+    let theirs = ruby_marshal::load(input).unwrap();
+    let (mut our_open, mut their_open) = (Vec::new(), Vec::new());
+    let met = walk::ours(&arena, &mut our_open);
+    assert_eq!(met, walk::theirs(&theirs, &mut their_open));
+    let [our_time, their_time] = times([
+        &mut || {
+            black_box(walk::ours(black_box(&arena), &mut our_open));
+        },
+        &mut || {
+            black_box(walk::theirs(black_box(&theirs), &mut their_open));
+        },
+    ]);
+    println!(
+        "{:<24}{:>9}{:>9}{:>11.2}{:>11.2}{:>8.2}",
+        name, input.len(), met.values, our_time / 1000.0, their_time / 1000.0, their_time / our_time
+    );
+}
+
 fn tables_filled(input: &[u8]) -> Tables {
     let mut tables = tables(input);
     tables.load(input, LIMIT);
@@ -108,12 +142,16 @@ fn main() {
         ("128 levels deep", nested("arrays")),
         ("1,000 names", names(1000)),
     ];
-    println!("{:<24}{:>9}{:>9}{:>11}{:>11}{:>8}", "load", "bytes", "nodes", "ours µs", "Rust µs", "faster");
+    println!("{:<24}{:>9}{:>9}{:>11}{:>15}{:>11}{:>8}", "load", "bytes", "nodes", "ours µs", "zero and copy", "Rust µs", "faster");
     for (name, input) in &inputs {
         load_row(name, input);
     }
     println!("{:<24}{:>9}{:>9}{:>11}{:>11}{:>11}{:>8}{:>8}", "dump", "bytes", "nodes", "ours µs", "its check", "Rust µs", "faster", "less it");
     for (name, input) in &inputs {
         dump_row(name, input);
+    }
+    println!("{:<24}{:>9}{:>9}{:>11}{:>11}{:>8}", "walk", "bytes", "values", "ours µs", "Rust µs", "faster");
+    for (name, input) in &inputs {
+        walk_row(name, input);
     }
 }

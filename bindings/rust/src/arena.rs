@@ -1,0 +1,131 @@
+//! Tables that are lent, and the arena that they hold.
+use crate::value::{Node, Nodes};
+use crate::{calls, Counts, Handle, Refusal, NODE_WORDS};
+use core::fmt;
+
+/// An arena's three tables, lent.
+pub struct Tables<'t> {
+    /// Seven words a node; a whole number of nodes, at least one.
+    pub nodes: &'t mut [u32],
+    /// Lists of nodes.
+    pub references: &'t mut [u32],
+    /// Names and strings.
+    pub bytes: &'t mut [u8],
+}
+
+impl Tables<'_> {
+    /// The same tables, lent for a while: for a call that may be refused, or an arena that is not kept.
+    pub fn lend(&mut self) -> Tables<'_> {
+        Tables { nodes: self.nodes, references: self.references, bytes: self.bytes }
+    }
+}
+
+/// Two lists that a load works with: an entry for each symbol, and for each array, hash, object, string and user-defined value.
+pub struct Lists<'l> {
+    /// Symbols, repeated ones too.
+    pub symbols: &'l mut [u32],
+    /// What takes an object number.
+    pub objects: &'l mut [u32],
+}
+
+impl Lists<'_> {
+    /// The same lists, lent for a while.
+    pub fn lend(&mut self) -> Lists<'_> {
+        Lists { symbols: self.symbols, objects: self.objects }
+    }
+}
+
+/// Reads input into the tables. Bytes after the root value are ignored.
+///
+/// A level of nesting above `limit`, which is at most [`MAX_LIMIT`](crate::MAX_LIMIT), is refused. After a refusal the tables
+/// are zero, or as they were where a slice or the limit is wrong.
+pub fn load<'t>(input: &[u8], tables: Tables<'t>, lists: Lists<'_>, limit: u32) -> Result<Arena<'t>, Refusal> {
+    load_prefix(input, tables, lists, limit).map(|(arena, _)| arena)
+}
+
+/// [`load`], with the number of bytes of input that it used.
+pub fn load_prefix<'t>(input: &[u8], tables: Tables<'t>, lists: Lists<'_>, limit: u32) -> Result<(Arena<'t>, usize), Refusal> {
+    let Tables { nodes, references, bytes } = tables;
+    let loaded = calls::load(input, nodes, references, bytes, lists.symbols, lists.objects, limit);
+    loaded.answer?;
+    Ok((Arena::well_formed(nodes, references, bytes, loaded.counts), loaded.used))
+}
+
+/// An arena that is well formed, over tables that nothing changes while it lives.
+#[derive(Clone, Copy)]
+pub struct Arena<'t> {
+    pub(crate) rows: &'t [[u32; NODE_WORDS]],
+    pub(crate) references: &'t [u32],
+    pub(crate) bytes: &'t [u8],
+    counts: Counts,
+}
+
+impl<'t> Arena<'t> {
+    /// What the tables hold, if it is well formed: the archive looks through all of it, once.
+    pub fn check(nodes: &'t [u32], references: &'t [u32], bytes: &'t [u8], counts: Counts) -> Result<Arena<'t>, Refusal> {
+        calls::root(nodes, references, bytes, counts)?;
+        Ok(Arena::well_formed(nodes, references, bytes, counts))
+    }
+
+    // Only after the archive has accepted a call that leaves this arena: an accepted load, new, or builder's call leaves it well
+    // formed, which is proved, and an accepted check says that it is. The node table is then a whole number of nodes.
+    pub(crate) fn well_formed(nodes: &'t [u32], references: &'t [u32], bytes: &'t [u8], counts: Counts) -> Arena<'t> {
+        Arena { rows: nodes.as_chunks().0, references, bytes, counts }
+    }
+
+    /// The root.
+    #[inline]
+    pub fn root<'a>(&'a self) -> Node<'a> {
+        Node::at(self, self.counts.root)
+    }
+
+    /// The node of that handle, if there is one.
+    #[inline]
+    pub fn node<'a>(&'a self, handle: Handle) -> Option<Node<'a>> {
+        (handle.index() < self.counts.nodes).then(|| Node::at(self, handle.number()))
+    }
+
+    /// All nodes by number, reachable or not.
+    pub fn nodes<'a>(&'a self) -> Nodes<'a> {
+        Nodes::new(self, self.counts.nodes as u32)
+    }
+
+    /// How much of the tables is used, and the root.
+    pub fn counts(&self) -> Counts {
+        self.counts
+    }
+
+    /// The node table, whole: seven words a node, of which the counts say how many are used.
+    pub fn node_table(&self) -> &'t [u32] {
+        self.rows.as_flattened()
+    }
+
+    /// The reference table, whole.
+    pub fn reference_table(&self) -> &'t [u32] {
+        self.references
+    }
+
+    /// The byte table, whole.
+    pub fn byte_table(&self) -> &'t [u8] {
+        self.bytes
+    }
+
+    /// How many words [`Arena::dump`] wants of scratch: one for each node that the node table can hold.
+    pub fn scratch_words(&self) -> usize {
+        self.rows.len()
+    }
+
+    /// Writes the root into output, and gives the part of it that was written; the rest of output is zero.
+    ///
+    /// Equal graphs are written as equal bytes. Levels are those that load would count in what is written.
+    pub fn dump<'o>(&self, scratch: &mut [u32], output: &'o mut [u8], limit: u32) -> Result<&'o [u8], Refusal> {
+        let written = calls::dump(self.node_table(), self.references, self.bytes, self.counts, scratch, output, limit)?;
+        Ok(&output[..written])
+    }
+}
+
+impl fmt::Debug for Arena<'_> {
+    fn fmt(&self, f: &mut fmt::Formatter<'_>) -> fmt::Result {
+        f.debug_struct("Arena").field("counts", &self.counts).finish_non_exhaustive()
+    }
+}

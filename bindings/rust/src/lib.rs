@@ -1,0 +1,95 @@
+//! Ruby Marshal 4.8 in lent tables: a safe interface to `libmarshal_c.a`.
+//!
+//! The archive's functions are proved to answer, and to leave in the tables, what their definitions say, for every input.
+//! This crate is not proved: it declares them, calls them, and reads the tables that they fill.
+//!
+//! [`load`] reads bytes into [`Tables`] and gives an [`Arena`]; [`Arena::root`] and the views below it ([`Node`], [`Value`])
+//! read it in place; [`Arena::dump`] writes it; a [`Builder`] makes one node by node. Nothing is allocated, except by what the
+//! feature `alloc` adds (`OwnedTables`, `Arena::dump_to_vec`). [`calls`] has the functions themselves, on slices and counts.
+//!
+//! An [`Arena`] is well formed: only an accepted load or builder call, or the archive's own check, makes one, and while it lives
+//! its tables are borrowed. So a view looks at the words of its node alone, and the archive is not called.
+//!
+//! A value may hold itself, as `a = []; a << a` does in Ruby. Every iterator here ends, since it goes over one node's list;
+//! a walk that goes on into the members has to see for itself that it ends, for instance by [`Node::handle`].
+//!
+//! ```
+//! use ruby_marshal_tables::{load, Lists, Tables, Value, MAX_LIMIT};
+//!
+//! let (mut nodes, mut references, mut bytes) = ([0; 7 * 16], [0; 16], [0; 64]);
+//! let (mut symbols, mut objects) = ([0; 16], [0; 16]);
+//! let tables = Tables { nodes: &mut nodes, references: &mut references, bytes: &mut bytes };
+//! let lists = Lists { symbols: &mut symbols, objects: &mut objects };
+//! let arena = load(b"\x04\x08{\x06:\x09sandi\x02\x6c\x02", tables, lists, MAX_LIMIT)?;
+//! let Value::Hash(recipe) = arena.root().value() else { panic!("no hash") };
+//! for (name, amount) in recipe.pairs() {
+//!     assert_eq!(name.as_symbol(), Some(&b"sand"[..]));
+//!     assert_eq!(amount.as_fixnum(), Some(620));
+//! }
+//! # Ok::<(), ruby_marshal_tables::Refusal>(())
+//! ```
+#![no_std]
+#![deny(unsafe_code)]
+#![warn(missing_docs)]
+
+#[cfg(feature = "alloc")]
+extern crate alloc;
+
+mod arena;
+mod builder;
+pub mod calls;
+#[cfg(feature = "alloc")]
+mod owned;
+mod refusal;
+#[allow(unsafe_code)]
+#[rustfmt::skip]
+mod sys;
+mod value;
+
+pub use arena::{load, load_prefix, Arena, Lists, Tables};
+pub use builder::Builder;
+#[cfg(feature = "alloc")]
+pub use owned::OwnedTables;
+pub use refusal::{Fault, Refusal, Slice};
+pub use value::{Array, Hash, Kind, Members, Node, Nodes, Object, Pairs, Text, UserDefined, Value, Variables};
+
+/// The greatest limit: levels of nesting.
+pub const MAX_LIMIT: u32 = 128;
+
+/// How many words a node has.
+pub const NODE_WORDS: usize = 7;
+
+/// How much of the three tables is used, and the root's node.
+#[derive(Clone, Copy, Debug, Default, PartialEq, Eq, Hash)]
+pub struct Counts {
+    /// Nodes, of seven words each.
+    pub nodes: usize,
+    /// Words of the reference table.
+    pub references: usize,
+    /// Bytes of the byte table.
+    pub bytes: usize,
+    /// The root's node.
+    pub root: u32,
+}
+
+/// A node's number: nodes count from 0 in the order in which they were added.
+#[derive(Clone, Copy, Debug, PartialEq, Eq, PartialOrd, Ord, Hash)]
+#[repr(transparent)]
+pub struct Handle(u32);
+
+impl Handle {
+    /// The handle of that number, of which calls say whether there is such a node.
+    pub const fn new(number: u32) -> Handle {
+        Handle(number)
+    }
+
+    /// The node's number.
+    pub const fn number(self) -> u32 {
+        self.0
+    }
+
+    /// The node's number, as an index.
+    pub const fn index(self) -> usize {
+        self.0 as usize
+    }
+}

@@ -1,0 +1,424 @@
+//! The corpus of document 01's answers, through the calls on slices and through tables, arenas and builders.
+//!
+//! RUBY_MARSHAL_CORPUS names its folder. Each test says how many cases it ran.
+#![cfg(feature = "alloc")]
+mod common;
+
+use common::{corpus, junk, junk_bytes, numbers, padded, Case, Json};
+use ruby_marshal_tables::{
+    calls, load_prefix, Arena, Builder, Counts, Handle, Lists, Node, OwnedTables, Refusal, Slice, Tables, Value, MAX_LIMIT,
+};
+
+// The limit of the programs, under which the corpus has its answers.
+const LIMIT: u32 = 64;
+
+// ---- load
+
+// Every lent entry is junk before the call.
+fn load_case(case: &Case) -> bool {
+    let input = case.bytes("in");
+    let sizes: Vec<usize> = case.field("sizes").words().iter().map(|&n| n as usize).collect();
+    let [node_words, references, bytes, symbols, objects] = sizes[..] else { panic!("five sizes") };
+    let before = (junk(node_words), junk(references), junk_bytes(bytes), junk(symbols), junk(objects));
+    let mut lent = before.clone();
+    let (n, r, b, s, o) = (&mut lent.0, &mut lent.1, &mut lent.2, &mut lent.3, &mut lent.4);
+    let loaded = calls::load(&input, n, r, b, s, o, case.limit());
+    assert_eq!(numbers(&loaded.answer), case.answer(), "{}", case.id());
+    assert_eq!((loaded.counts, loaded.used), (case.counts("counts"), case.size("used")), "{}", case.id());
+    let after = if case.answer().0 == 1 {
+        before
+    } else {
+        let tables = (case.words("nodes"), case.words("refs"), case.bytes("bytes"));
+        (
+            padded(tables.0, node_words),
+            padded(tables.1, references),
+            padded(tables.2, bytes),
+            vec![0; symbols],
+            vec![0; objects],
+        )
+    };
+    assert!(lent == after, "{}: tables", case.id());
+
+    let mut again = (junk(node_words), junk(references), junk_bytes(bytes), junk(symbols), junk(objects));
+    let tables = Tables { nodes: &mut again.0, references: &mut again.1, bytes: &mut again.2 };
+    let lists = Lists { symbols: &mut again.3, objects: &mut again.4 };
+    match load_prefix(&input, tables, lists, case.limit()) {
+        Ok((arena, used)) => {
+            assert_eq!((Ok(()), arena.counts(), used), (loaded.answer, loaded.counts, loaded.used), "{}", case.id());
+            views_agree(&arena, case);
+            dump_and_back(&arena, case.id());
+            ample(&input, case);
+            true
+        }
+        Err(refusal) => {
+            assert_eq!(Err(refusal), loaded.answer, "{}", case.id());
+            false
+        }
+    }
+}
+
+// What each view says is what the corpus's words and bytes say.
+fn views_agree(arena: &Arena, case: &Case) {
+    let (nodes, references, bytes) = (case.words("nodes"), case.words("refs"), case.bytes("bytes"));
+    assert_eq!(arena.nodes().len(), nodes.len() / 7, "{}", case.id());
+    for (node, words) in arena.nodes().zip(nodes.chunks(7)) {
+        assert_eq!(node.words(), words, "{} {node:?}", case.id());
+        assert!(said(node) == words_say(words, &references, &bytes), "{} {node:?}", case.id());
+    }
+}
+
+// A node's kind, number, bytes, list of handles, name and default; absent lists and bytes are None.
+type Said = (u32, u32, Option<Vec<u8>>, Option<Vec<u32>>, u32, u32);
+
+fn said(node: Node) -> Said {
+    let number = |n: Node| n.handle().number();
+    let flat = |(name, value): (Node, Node)| [number(name), number(value)];
+    match node.value() {
+        Value::Nil => (0, 0, None, None, 0, 0),
+        Value::Bool(value) => (1, value.into(), None, None, 0, 0),
+        Value::Fixnum(value) => (2, value as u32, None, None, 0, 0),
+        Value::Symbol(name) => (3, 0, Some(name.into()), None, 0, 0),
+        Value::Array(array) => (4, 0, None, Some(array.members().map(number).collect()), 0, 0),
+        Value::Hash(hash) => {
+            let pairs = hash.pairs().flat_map(flat).collect();
+            (5, 0, None, Some(pairs), 0, hash.default_value().map_or(0, |d| number(d) + 1))
+        }
+        Value::Object(object) => {
+            assert_eq!(object.name_node().as_symbol(), Some(object.name()));
+            let variables = object.variables();
+            for ((name, value), (symbol, same)) in variables.clone().zip(variables.clone().pairs()) {
+                assert_eq!((symbol.as_symbol(), same.handle()), (Some(name), value.handle()));
+            }
+            (6, 0, None, Some(variables.pairs().flat_map(flat).collect()), number(object.name_node()), 0)
+        }
+        Value::String(text) => {
+            let variables = text.variables().map(|v| v.pairs().flat_map(flat).collect());
+            (7, 0, Some(text.bytes().into()), variables, 0, 0)
+        }
+        Value::UserDefined(user) => {
+            assert_eq!(user.name_node().as_symbol(), Some(user.name()));
+            let variables = user.variables().map(|v| v.pairs().flat_map(flat).collect());
+            (8, 0, Some(user.bytes().into()), variables, number(user.name_node()), 0)
+        }
+    }
+}
+
+fn words_say(words: &[u32], references: &[u32], bytes: &[u8]) -> Said {
+    let range = |start: u32, n: usize| start as usize..start as usize + n;
+    let bytes = || Some(bytes[range(words[1], words[2] as usize)].to_vec());
+    let list = |each: usize| Some(references[range(words[3], words[4] as usize * each)].to_vec());
+    let variables = || if words[6] == 1 { list(2) } else { None };
+    match words[0] {
+        0..=2 => (words[0], words[1], None, None, 0, 0),
+        3 => (3, 0, bytes(), None, 0, 0),
+        4 => (4, 0, None, list(1), 0, 0),
+        5 => (5, 0, None, list(2), 0, words[6]),
+        6 => (6, 0, None, list(2), words[5], 0),
+        7 => (7, 0, bytes(), variables(), 0, 0),
+        _ => (8, 0, bytes(), variables(), words[5], 0),
+    }
+}
+
+// What is dumped loads again, whole, and dumps to itself. (At the greatest limit a dump can still be too deep.)
+fn dump_and_back(arena: &Arena, id: &str) {
+    match arena.dump_to_vec(MAX_LIMIT) {
+        Ok(bytes) => {
+            let mut tables = OwnedTables::for_input(bytes.len());
+            let (lent, lists) = tables.lend();
+            let (again, used) = load_prefix(&bytes, lent, lists, MAX_LIMIT).unwrap_or_else(|e| panic!("{id}: {e}"));
+            assert_eq!(used, bytes.len(), "{id}");
+            assert!(again.dump_to_vec(MAX_LIMIT) == Ok(bytes.clone()), "{id}: dump of the dump");
+        }
+        Err(refusal) => assert_eq!(refusal, Refusal::TooDeep(MAX_LIMIT), "{id}"),
+    }
+}
+
+// An accepted input fits tables of its own length.
+fn ample(input: &[u8], case: &Case) {
+    let mut tables = OwnedTables::for_input(input.len());
+    let arena = tables.load(input, case.limit()).unwrap_or_else(|e| panic!("{}: {e}", case.id()));
+    assert_eq!(arena.counts(), case.counts("counts"), "{}", case.id());
+}
+
+// A slice of so many entries that are not touched, if the system gives it.
+fn huge<T: Clone + Default>(n: usize) -> Option<Vec<T>> {
+    Vec::<T>::new().try_reserve_exact(n).ok()?;
+    Some(vec![T::default(); n])
+}
+
+// Slices past the greatest length: only their lengths are given.
+fn huge_case(case: &Case) -> Option<()> {
+    let sizes: Vec<usize> = case.field("sizes").list().iter().map(|n| n.number() as usize).collect();
+    let input = huge::<u8>(case.size("in_len"))?;
+    let (mut nodes, mut references, mut bytes) = (huge::<u32>(sizes[0])?, huge::<u32>(sizes[1])?, huge::<u8>(sizes[2])?);
+    let (mut symbols, mut objects) = (huge::<u32>(sizes[3])?, huge::<u32>(sizes[4])?);
+    let loaded = calls::load(&input, &mut nodes, &mut references, &mut bytes, &mut symbols, &mut objects, case.limit());
+    assert_eq!(numbers(&loaded.answer), case.answer(), "{}", case.id());
+    assert_eq!((loaded.counts, loaded.used), (Counts::default(), 0), "{}", case.id());
+    Some(())
+}
+
+fn load_file(file: &str) {
+    let (mut accepted, mut refused, mut large, mut left) = (0, 0, 0, 0);
+    for case in corpus(file) {
+        if case.has("huge") {
+            large += usize::from(huge_case(&case).is_some());
+        } else if file == "load-list" && case.bytes("in").len() > 16384 {
+            left += 1; // the program's answer, not load's
+        } else if load_case(&case) {
+            accepted += 1;
+        } else {
+            refused += 1;
+        }
+    }
+    println!("{file}: {accepted} accepted, {refused} refused, {large} with slices past the greatest length, {left} left out");
+}
+
+#[test]
+fn load_tight() {
+    load_file("load-tight");
+}
+
+#[test]
+fn load_list() {
+    load_file("load-list");
+}
+
+#[test]
+fn saved() {
+    load_file("saved");
+}
+
+// ---- dump
+
+fn dump_case(case: &Case) -> Option<()> {
+    let (nodes, references, bytes) = (case.words("nodes"), case.words("refs"), case.bytes("bytes"));
+    let counts = case.counts("counts");
+    let (mut scratch, mut output) = (junk(case.size("scratch")), junk_bytes(case.size("out")));
+    let dumped = calls::dump(&nodes, &references, &bytes, counts, &mut scratch, &mut output, case.limit());
+    assert_eq!(numbers(&dumped), case.answer(), "{}", case.id());
+    assert_eq!(dumped.unwrap_or(0), case.size("length"), "{}", case.id());
+    if matches!(case.answer().0, 1 | 2) {
+        assert!(scratch == junk(scratch.len()) && output == junk_bytes(output.len()), "{}: touched", case.id());
+    } else {
+        assert!(scratch.iter().all(|&word| word == 0), "{}: scratch", case.id());
+        assert!(output == padded(case.bytes("written"), output.len()), "{}: output", case.id());
+    }
+
+    // The same through an arena, where there is one.
+    let arena = match Arena::check(&nodes, &references, &bytes, counts) {
+        Ok(arena) => arena,
+        Err(refusal) => {
+            let tables = [Slice::Nodes, Slice::References, Slice::Bytes].map(Refusal::BadTables);
+            assert!(tables.contains(&refusal) || refusal.number() == 2, "{}: {refusal}", case.id());
+            assert!(Err(refusal) == dumped || matches!(dumped, Err(Refusal::BadTables(_))), "{}: {refusal}", case.id());
+            return None;
+        }
+    };
+    let (mut scratch, mut output) = (junk(case.size("scratch")), junk_bytes(case.size("out")));
+    let again = arena.dump(&mut scratch, &mut output, case.limit());
+    assert_eq!(again.map(<[u8]>::len), dumped, "{}", case.id());
+    if dumped.is_ok() {
+        assert!(again == Ok(&case.bytes("written")[..]), "{}: written", case.id());
+        assert!(arena.dump_to_vec(case.limit()) == Ok(case.bytes("written")), "{}: to a vector", case.id());
+        Some(())
+    } else {
+        None
+    }
+}
+
+#[test]
+fn dump() {
+    let (mut accepted, mut refused) = (0, 0);
+    for case in corpus("dump") {
+        match dump_case(&case) {
+            Some(()) => accepted += 1,
+            None => refused += 1,
+        }
+    }
+    println!("dump: {accepted} accepted, {refused} refused");
+}
+
+// ---- builder and getters
+
+// What a call answered: the numbers, the handle or words, the counts.
+#[derive(Debug, PartialEq)]
+struct Told {
+    answer: (u32, i64, u64),
+    words: Vec<u32>,
+    counts: Option<Counts>,
+}
+
+fn created(created: calls::Created) -> Told {
+    Told { answer: numbers(&created.answer), words: vec![created.handle], counts: Some(created.counts) }
+}
+
+fn got<const N: usize>(got: Result<[u32; N], Refusal>) -> Told {
+    Told { answer: numbers(&got), words: got.unwrap_or([0; N]).to_vec(), counts: None }
+}
+
+fn call(case: &Case, n: &mut [u32], r: &mut [u32], b: &mut [u8]) -> Told {
+    let c = case.counts("counts");
+    let args = case.field("args").list();
+    let word = |i: usize| args[i].number() as u32;
+    match case.field("fn").text() {
+        "new" => {
+            let begun = calls::new(n, r, b);
+            Told { answer: numbers(&begun.answer), words: vec![0], counts: Some(begun.counts) }
+        }
+        "root" => got(calls::root(n, r, b, c).map(|root| [root])),
+        "kind" => got(calls::kind(n, r, b, c, word(0)).map(|kind| [kind])),
+        "get" => got(calls::get(n, r, b, c, word(0))),
+        "get_symbol" => got(calls::get_symbol(n, r, b, c, word(0)).map(|(start, length)| [start, length])),
+        "replace_root" => created(calls::replace_root(n, r, b, c, word(0))),
+        "create_nil" => created(calls::create_nil(n, r, b, c)),
+        "create_bool" => created(calls::create_bool(n, r, b, c, word(0) == 1)),
+        "create_fixnum" => created(calls::create_fixnum(n, r, b, c, args[0].number() as i32)),
+        "create_symbol" => created(calls::create_symbol(n, r, b, c, &args[0].bytes())),
+        "create_new_symbol" => created(calls::create_new_symbol(n, r, b, c, &args[0].bytes())),
+        "create_array" => created(calls::create_array(n, r, b, c, &args[0].words())),
+        "create_hash" => created(calls::create_hash(n, r, b, c, &args[0].words(), word(1))),
+        "create_object" => created(calls::create_object(n, r, b, c, word(0), &args[1].words())),
+        "create_string" => created(calls::create_string(n, r, b, c, &args[0].bytes())),
+        "create_user_defined" => created(calls::create_user_defined(n, r, b, c, word(0), &args[1].bytes())),
+        other => panic!("function {other}"),
+    }
+}
+
+fn handles(list: &Json) -> Vec<Handle> {
+    list.words().into_iter().map(Handle::new).collect()
+}
+
+// The pairs of a list; None of an odd one, which a builder cannot be given.
+fn pairs(list: &Json) -> Option<Vec<[Handle; 2]>> {
+    let handles = handles(list);
+    let (pairs, rest) = handles.as_chunks();
+    rest.is_empty().then(|| pairs.to_vec())
+}
+
+// The call through a builder, or its arena; None for what cannot be said there.
+fn build(case: &Case, builder: &mut Builder) -> Option<Result<Vec<u32>, Refusal>> {
+    let args = case.field("args").list();
+    let handle = |i: usize| Handle::new(args[i].number() as u32);
+    let made = match case.field("fn").text() {
+        "root" => return Some(Ok(vec![builder.arena().root().handle().number()])),
+        "kind" => return builder.arena().node(handle(0)).map(|node| Ok(vec![node.kind() as u32])),
+        "get" => return builder.arena().node(handle(0)).map(|node| Ok(node.words().to_vec())),
+        "get_symbol" => {
+            let arena = builder.arena();
+            let node = arena.node(handle(0))?;
+            let name = node.as_symbol()?;
+            let [start, length] = [node.words()[1], node.words()[2]];
+            assert_eq!(name, &arena.byte_table()[start as usize..][..length as usize]);
+            return Some(Ok(vec![start, length]));
+        }
+        "replace_root" => builder.replace_root(handle(0)),
+        "create_nil" => builder.create_nil(),
+        "create_bool" => builder.create_bool(args[0].number() == 1),
+        "create_fixnum" => builder.create_fixnum(args[0].number() as i32),
+        "create_symbol" => builder.create_symbol(&args[0].bytes()),
+        "create_new_symbol" => builder.create_new_symbol(&args[0].bytes()),
+        "create_array" => builder.create_array(&handles(&args[0])),
+        "create_hash" => {
+            let default = (args[1].number() as u32).checked_sub(1).map(Handle::new);
+            builder.create_hash(&pairs(&args[0])?, default)
+        }
+        "create_object" => builder.create_object(handle(0), &pairs(&args[1])?),
+        "create_string" => builder.create_string(&args[0].bytes()),
+        "create_user_defined" => builder.create_user_defined(handle(0), &args[1].bytes()),
+        other => panic!("function {other}"),
+    };
+    Some(made.map(|handle| vec![handle.number()]))
+}
+
+fn build_case(case: &Case) -> bool {
+    let before = (case.words("nodes"), case.words("refs"), case.bytes("bytes"));
+    let mut after = before.clone();
+    if case.has("nodes_after") {
+        after.0 = case.words("nodes_after");
+    }
+    if case.has("refs_after") {
+        after.1 = case.words("refs_after");
+    }
+    if case.has("bytes_after") {
+        after.2 = case.bytes("bytes_after");
+    }
+    let words = if case.has("words") {
+        case.words("words")
+    } else {
+        vec![if case.has("handle") { case.size("handle") as u32 } else { 0 }]
+    };
+    let counts = case.has("counts_after").then(|| case.counts("counts_after"));
+    let expected = Told { answer: case.answer(), words, counts };
+
+    let mut lent = before.clone();
+    assert_eq!(call(case, &mut lent.0, &mut lent.1, &mut lent.2), expected, "{}", case.id());
+    assert!(lent == after, "{}: tables", case.id());
+
+    // The same through a builder.
+    let mut lent = before.clone();
+    let tables = Tables { nodes: &mut lent.0, references: &mut lent.1, bytes: &mut lent.2 };
+    if case.field("fn").text() == "new" {
+        let made = Builder::new(tables);
+        assert_eq!(numbers(&made), expected.answer, "{}", case.id());
+        assert!(made.is_err() || made.is_ok_and(|made| Some(made.counts()) == expected.counts), "{}", case.id());
+    } else {
+        match Builder::check(tables, case.counts("counts")) {
+            Ok(mut builder) => {
+                if let Some(made) = build(case, &mut builder) {
+                    assert_eq!(numbers(&made), expected.answer, "{}", case.id());
+                    assert!(made.is_err() || made == Ok(expected.words), "{}", case.id());
+                    assert!(expected.counts.is_none_or(|counts| counts == builder.counts()), "{}", case.id());
+                    // What is left is well formed.
+                    let counts = builder.counts();
+                    assert!(Arena::check(&after.0, &after.1, &after.2, counts).is_ok(), "{}", case.id());
+                }
+            }
+            // An odd pair list comes before the arena's faults.
+            Err(refusal) if expected.answer != (1, 9, 0) => {
+                assert_eq!(numbers(&Err::<(), _>(refusal)), expected.answer, "{}", case.id());
+            }
+            Err(_) => {}
+        }
+    }
+    case.answer().0 == 0
+}
+
+#[test]
+fn build_cases() {
+    let (mut accepted, mut refused, mut functions) = (0, 0, std::collections::BTreeSet::new());
+    for case in corpus("build") {
+        functions.insert(case.field("fn").text().to_string());
+        if build_case(&case) {
+            accepted += 1;
+        } else {
+            refused += 1;
+        }
+    }
+    println!("build: {accepted} accepted, {refused} refused, of {} functions", functions.len());
+}
+
+// ---- pairs
+
+#[test]
+fn pairs_of_inputs() {
+    let (mut same, mut different) = (0, 0);
+    for case in corpus("pairs") {
+        let dumped = ["a", "b"].map(|name| {
+            let input = case.bytes(name);
+            let mut tables = OwnedTables::for_input(input.len());
+            let arena = tables.load(&input, LIMIT).unwrap_or_else(|e| panic!("{}: {e}", case.id()));
+            let dumped = arena.dump_to_vec(LIMIT).unwrap_or_else(|e| panic!("{}: {e}", case.id()));
+            assert!(dumped == case.bytes(&format!("dump_{name}")), "{}: dump of {name}", case.id());
+            dumped
+        });
+        let is_same = case.field("same").number() == 1;
+        assert_eq!(dumped[0] == dumped[1], is_same, "{}", case.id());
+        if is_same {
+            same += 1;
+        } else {
+            different += 1;
+        }
+    }
+    println!("pairs: {same} with the same graph, {different} with another");
+}

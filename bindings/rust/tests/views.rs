@@ -1,0 +1,296 @@
+//! Every function and every view, on arenas that are made here; a recipe that holds itself; refusals as text.
+#![cfg(feature = "alloc")]
+mod common;
+
+use common::numbers;
+use ruby_marshal_tables::{
+    calls, load, load_prefix, Arena, Builder, Counts, Fault, Handle, Kind, Lists, Node, OwnedTables, Refusal, Slice, Tables,
+    Value, MAX_LIMIT, NODE_WORDS,
+};
+use std::error::Error;
+
+// One node of each kind in an array, with a shared string, a default, and variables on a string and a user-defined value.
+const EVERY_KIND: &[u8] = b"\x04\x08[\x11\
+    0TFi\x02\x6c\x02i\xfa:\x09sand[\x07i\x06i\x07{\x06:\x08key\"\x08abc}\x06;\x06i\x08T\
+    o:\x0bRecipe\x07:\x0c@number;\x06:\x0a@done0I\"\x08xyz\x06:\x06ETIu:\x0aStamp\x07\x01\x02\x06;\x0aF";
+
+fn value_text(node: Node) -> String {
+    let bytes = |b: &[u8]| String::from_utf8_lossy(b).into_owned();
+    match node.value() {
+        Value::Nil => "nil".into(),
+        Value::Bool(value) => value.to_string(),
+        Value::Fixnum(value) => value.to_string(),
+        Value::Symbol(name) => format!(":{}", bytes(name)),
+        Value::Array(array) => format!("{:?}", array.members().map(value_text).collect::<Vec<_>>()),
+        Value::Hash(hash) => {
+            let pairs: Vec<_> = hash.pairs().map(|(k, v)| format!("{}=>{}", value_text(k), value_text(v))).collect();
+            format!("{{{}}} or {:?}", pairs.join(","), hash.default_value().map(value_text))
+        }
+        Value::Object(object) => {
+            let variables: Vec<_> = object.variables().map(|(n, v)| format!("{}={}", bytes(n), value_text(v))).collect();
+            format!("#<{} {}>", bytes(object.name()), variables.join(","))
+        }
+        Value::String(text) => {
+            let variables =
+                text.variables().map(|v| v.map(|(n, v)| format!("{}={}", bytes(n), value_text(v))).collect::<Vec<_>>());
+            format!("{:?} {variables:?}", bytes(text.bytes()))
+        }
+        Value::UserDefined(user) => {
+            let variables =
+                user.variables().map(|v| v.map(|(n, v)| format!("{}={}", bytes(n), value_text(v))).collect::<Vec<_>>());
+            format!("{} {:?} {variables:?}", bytes(user.name()), user.bytes())
+        }
+    }
+}
+
+#[test]
+fn views_of_every_kind() {
+    let mut tables = OwnedTables::for_input(EVERY_KIND.len());
+    let (lent, lists) = tables.lend();
+    let (arena, used) = load_prefix(EVERY_KIND, lent, lists, MAX_LIMIT).unwrap();
+    assert_eq!(used, EVERY_KIND.len());
+    let root = arena.root().as_array().unwrap();
+    let texts: Vec<String> = root.into_iter().map(value_text).collect();
+    let expected = [
+        "nil",
+        "true",
+        "false",
+        "620",
+        "-1",
+        ":sand",
+        r#"["1", "2"]"#,
+        r#"{:key=>"abc" None} or None"#,
+        r#"{:key=>3} or Some("true")"#,
+        "#<Recipe @number=:key,@done=nil>",
+        r#""xyz" Some(["E=true"])"#,
+        r#"Stamp [1, 2] Some(["E=false"])"#,
+    ];
+    assert_eq!(texts, expected);
+
+    let kinds: Vec<Kind> = root.members().map(Node::kind).collect();
+    assert_eq!(kinds[..6], [Kind::Nil, Kind::Bool, Kind::Bool, Kind::Fixnum, Kind::Fixnum, Kind::Symbol]);
+    assert_eq!(kinds[6..], [Kind::Array, Kind::Hash, Kind::Hash, Kind::Object, Kind::String, Kind::UserDefined]);
+    let at = |i: usize| root.get(i).unwrap();
+    assert!(at(0).is_nil() && !at(1).is_nil() && root.get(12).is_none());
+    assert_eq!((at(1).as_bool(), at(2).as_bool(), at(3).as_bool()), (Some(true), Some(false), None));
+    assert_eq!((at(3).as_fixnum(), at(5).as_fixnum()), (Some(620), None));
+    assert_eq!((at(5).as_symbol(), at(3).as_symbol()), (Some(&b"sand"[..]), None));
+    assert!(at(6).as_array().is_some_and(|a| a.len() == 2 && !a.is_empty()) && at(7).as_array().is_none());
+    assert!(at(7).as_hash().is_some_and(|h| h.len() == 1 && !h.is_empty()) && at(6).as_hash().is_none());
+    assert!(at(9).as_object().is_some() && at(8).as_object().is_none());
+    assert!(at(10).as_string().is_some() && at(11).as_string().is_none());
+    assert!(at(11).as_user_defined().is_some() && at(10).as_user_defined().is_none());
+    assert_eq!(at(9).as_object().unwrap().get(b"@done").map(|v| v.is_nil()), Some(true));
+    assert!(at(9).as_object().unwrap().get(b"@none").is_none());
+    let key = at(8).as_hash().unwrap().get(b"key").unwrap();
+    assert_eq!(key.as_fixnum(), Some(3));
+    assert!(at(8).as_hash().unwrap().get(b"other").is_none());
+
+    // From both ends, and sizes.
+    assert_eq!(root.members().len(), 12);
+    assert_eq!(root.members().rev().map(|n| n.handle()).collect::<Vec<_>>(), {
+        let mut handles: Vec<Handle> = root.members().map(|n| n.handle()).collect();
+        handles.reverse();
+        handles
+    });
+    assert_eq!(arena.nodes().len(), arena.counts().nodes);
+    assert!(arena.nodes().enumerate().all(|(i, node)| node.handle().index() == i));
+    assert!(arena.node(Handle::new(arena.counts().nodes as u32)).is_none());
+    assert_eq!(arena.node(root.handle()).unwrap().handle(), root.node().handle());
+    assert_eq!(
+        format!("{:?} {:?}", arena.root(), at(5)),
+        format!("Array {} Symbol {}", root.handle().number(), at(5).handle().number())
+    );
+    assert!(format!("{arena:?}").starts_with("Arena { counts: Counts"));
+}
+
+// A walk that guards itself by handle meets each node once, also where an array is its own member.
+#[test]
+fn a_recipe_that_holds_itself() {
+    // a hash whose default is the hash, in an array that holds itself twice
+    let input = b"\x04\x08[\x08@\x00}\x06:\x06a@\x06@\x06@\x00";
+    let mut tables = OwnedTables::for_input(input.len());
+    let arena = tables.load(input, MAX_LIMIT).unwrap();
+    let (mut seen, mut open, mut met) = (vec![false; arena.counts().nodes], vec![arena.root()], 0);
+    while let Some(node) = open.pop() {
+        if std::mem::replace(&mut seen[node.handle().index()], true) {
+            continue;
+        }
+        met += 1;
+        match node.value() {
+            Value::Array(array) => open.extend(array),
+            Value::Hash(hash) => {
+                open.extend(hash.pairs().flat_map(|(key, value)| [key, value]));
+                open.extend(hash.default_value());
+            }
+            _ => {}
+        }
+    }
+    assert_eq!(met, 3);
+    let root = arena.root().as_array().unwrap();
+    assert_eq!(root.get(0).unwrap().handle(), root.handle());
+    let hash = root.get(1).unwrap().as_hash().unwrap();
+    assert_eq!(hash.default_value().unwrap().handle(), hash.handle());
+    assert_eq!(arena.dump_to_vec(MAX_LIMIT).as_deref(), Ok(&input[..]));
+}
+
+// Every create function, the root, and what is then dumped; each function of `calls` is called once here.
+#[test]
+fn a_recipe_that_is_built() {
+    let mut owned = OwnedTables::new(20, 20, 64);
+    let mut builder = owned.builder().unwrap();
+    assert!(builder.arena().root().is_nil());
+    let nil = builder.create_nil().unwrap();
+    let yes = builder.create_bool(true).unwrap();
+    let number = builder.create_fixnum(-2_000_000_000).unwrap();
+    let name = builder.create_symbol(b"sand").unwrap();
+    assert_eq!(builder.create_symbol(b"sand"), Ok(name));
+    let other = builder.create_new_symbol(b"sand").unwrap();
+    assert_ne!(name, other);
+    let text = builder.create_string(b"dry").unwrap();
+    let list = builder.create_array(&[nil, yes, number]).unwrap();
+    let hash = builder.create_hash(&[[name, list], [other, text]], Some(nil)).unwrap();
+    let user = builder.create_user_defined(name, b"\x01").unwrap();
+    let object = builder.create_object(name, &[[other, hash], [name, user]]).unwrap();
+    assert_eq!(builder.replace_root(object), Ok(Handle::new(0)));
+
+    // Refusals leave the builder as it was.
+    let counts = builder.counts();
+    assert_eq!(builder.create_array(&[Handle::new(99)]), Err(Refusal::BadHandle(99)));
+    assert_eq!(builder.create_hash(&[], Some(Handle::new(u32::MAX))), Err(Refusal::BadHandle(u32::MAX)));
+    assert_eq!(builder.create_hash(&[], Some(Handle::new(77))), Err(Refusal::BadHandle(77)));
+    assert_eq!(builder.create_object(text, &[]), Err(Refusal::WrongKind(text.number())));
+    assert_eq!(builder.create_string(&[7; 65]), Err(Refusal::NoSpace(Slice::Bytes)));
+    assert_eq!(builder.create_array(&[nil; 21]), Err(Refusal::NoSpace(Slice::References)));
+    assert_eq!(builder.replace_root(Handle::new(counts.nodes as u32)), Err(Refusal::BadHandle(counts.nodes as u32)));
+    assert_eq!(builder.counts(), counts);
+    assert!(format!("{builder:?}").starts_with("Builder { counts: Counts"));
+
+    let arena = builder.into_arena();
+    assert_eq!(arena.counts(), counts);
+    assert_eq!(arena.root().as_object().unwrap().get(b"sand").unwrap().kind(), Kind::UserDefined);
+    let (n, r, b) = (arena.node_table(), arena.reference_table(), arena.byte_table());
+    assert_eq!((n.len(), r.len(), b.len(), arena.scratch_words()), (20 * NODE_WORDS, 20, 64, 20));
+    assert_eq!(calls::root(n, r, b, counts), Ok(object.number()));
+    assert_eq!(calls::kind(n, r, b, counts, hash.number()), Ok(5));
+    assert_eq!(calls::get(n, r, b, counts, number.number()), Ok([2, (-2_000_000_000_i32) as u32, 0, 0, 0, 0, 0]));
+    let (start, length) = calls::get_symbol(n, r, b, counts, other.number()).unwrap();
+    assert_eq!(&b[start as usize..][..length as usize], b"sand");
+    assert_eq!(calls::get_symbol(n, r, b, counts, text.number()), Err(Refusal::WrongKind(text.number())));
+
+    let bytes = arena.dump_to_vec(MAX_LIMIT).unwrap();
+    let (mut scratch, mut output) = (vec![9; 20], vec![9; bytes.len()]);
+    assert_eq!(arena.dump(&mut scratch, &mut output, MAX_LIMIT), Ok(&bytes[..]));
+    assert_eq!(arena.dump(&mut scratch, &mut output[1..], MAX_LIMIT), Err(Refusal::NoSpace(Slice::Output)));
+    assert_eq!(arena.dump(&mut scratch, &mut output, 2), Err(Refusal::TooDeep(2)));
+
+    // The two symbols of one name are one in what is loaded.
+    let mut again = OwnedTables::for_input(bytes.len());
+    let (tables, lists) = again.lend();
+    let mut builder = Builder::load(&bytes, tables, lists, MAX_LIMIT).unwrap();
+    assert_eq!(builder.arena().nodes().filter(|node| node.kind() == Kind::Symbol).count(), 1);
+    assert!(builder.create_nil().is_ok());
+    let (tables, lists) = again.lend();
+    assert_eq!(Builder::load(b"\x04", tables, lists, 1).map(|_| ()), Err(Refusal::ShortInput));
+}
+
+// The functions of `calls` that make nodes.
+#[test]
+fn the_calls_that_create() {
+    let (mut n, mut r, mut b) = ([9; 7 * 12], [9; 8], [9; 16]);
+    let begun = calls::new(&mut n, &mut r, &mut b);
+    assert_eq!((begun.answer, begun.counts), (Ok(()), Counts { nodes: 1, ..Counts::default() }));
+    assert!(n.iter().chain(&r).all(|&word| word == 0) && b == [0; 16]);
+    let mut c = begun.counts;
+    let made = |created: calls::Created| {
+        assert_eq!(created.answer, Ok(()));
+        created
+    };
+    c = made(calls::create_nil(&mut n, &r, &b, c)).counts;
+    c = made(calls::create_bool(&mut n, &r, &b, c, true)).counts;
+    c = made(calls::create_fixnum(&mut n, &r, &b, c, i32::MIN)).counts;
+    let symbol = made(calls::create_symbol(&mut n, &r, &mut b, c, b"ab"));
+    c = made(calls::create_new_symbol(&mut n, &r, &mut b, symbol.counts, b"ab")).counts;
+    c = made(calls::create_array(&mut n, &mut r, &b, c, &[0, 1, 2])).counts;
+    c = made(calls::create_hash(&mut n, &mut r, &b, c, &[0, 1], 4)).counts;
+    c = made(calls::create_object(&mut n, &mut r, &b, c, symbol.handle, &[symbol.handle, 3])).counts;
+    c = made(calls::create_string(&mut n, &r, &mut b, c, b"xyz")).counts;
+    let user = made(calls::create_user_defined(&mut n, &r, &mut b, c, symbol.handle, b""));
+    c = made(calls::replace_root(&n, &r, &b, user.counts, 7)).counts;
+    assert_eq!((c.nodes, c.references, c.bytes, c.root), (11, 7, 7, 7));
+    let refused = calls::create_object(&mut n, &mut r, &b, c, 0, &[0]);
+    assert_eq!((numbers(&refused.answer), refused.handle, refused.counts), ((1, 9, 0), 0, c));
+    let arena = Arena::check(&n, &r, &b, c).unwrap();
+    assert_eq!(arena.root().as_hash().unwrap().default_value().unwrap().as_fixnum(), Some(i32::MIN));
+    assert_eq!(arena.nodes().next_back().unwrap().as_user_defined().map(|user| user.name()), Some(&b"ab"[..]));
+}
+
+#[test]
+fn lent_tables_are_lent_again() {
+    let (mut nodes, mut references, mut bytes) = ([0; 21], [0; 4], [0; 8]);
+    let (mut symbols, mut objects) = ([0; 3], [0; 3]);
+    let mut tables = Tables { nodes: &mut nodes, references: &mut references, bytes: &mut bytes };
+    let mut lists = Lists { symbols: &mut symbols, objects: &mut objects };
+    for input in [&b"\x04\x08:\x06a"[..], b"\x04\x08", b"\x04\x08[\x060"] {
+        let arena = load(input, tables.lend(), lists.lend(), 2);
+        assert_eq!(arena.is_ok(), input.len() > 2);
+    }
+    let arena = load(b"\x04\x08[\x060", tables, lists, 2).unwrap();
+    assert!(arena.root().as_array().unwrap().get(0).unwrap().is_nil());
+}
+
+// Each refusal of a load, with its details, name and text; and BAD-ARENA, whose node the archive names.
+#[test]
+fn refusals() {
+    let load_refused = |input: &[u8], limit: u32| {
+        OwnedTables::new(3, 2, 2).load(input, limit).map(|arena| arena.counts()).expect_err("a refusal")
+    };
+    let cases: &[(&[u8], u32, Refusal, &str)] = &[
+        (b"\x04\x080", 129, Refusal::BadTables(Slice::Limit), "wrong size: limit"),
+        (b"\x04\x090", 1, Refusal::InvalidVersion { major: 4, minor: 9 }, "version 4.9, not 4.0 to 4.8"),
+        (b"\x04\x08i", 1, Refusal::ShortInput, "the input ends too early"),
+        (b"\x04\x08?", 1, Refusal::InvalidKind(b'?'), "unknown kind byte 3F"),
+        (b"\x04\x08[\xfa", 1, Refusal::NegativeCount(-1), "a length, count or index of -1"),
+        (b"\x04\x08[\xfc\x00\x00\x00\x80", 1, Refusal::NegativeCount(i32::MIN), "a length, count or index of -2147483648"),
+        (b"\x04\x08;\x06", 1, Refusal::MissingSymbol(1), "no symbol 1 so far"),
+        (b"\x04\x08@\x07", 1, Refusal::MissingObject(2), "no object 2 so far"),
+        (b"\x04\x08o0", 1, Refusal::NotASymbol(b'0'), "kind byte 30 where a symbol is wanted"),
+        (b"\x04\x08I0\x00", 2, Refusal::NotAnObject, "instance variables on a value that takes none"),
+        (b"\x04\x08[\x060", 1, Refusal::TooDeep(1), "more than 1 levels"),
+        (b"\x04\x08[\x08", 1, Refusal::NoSpace(Slice::References), "no space: references"),
+        (b"\x04\x08:\x08abc", 1, Refusal::NoSpace(Slice::Bytes), "no space: bytes"),
+        (b"\x04\x08[\x0700", 2, Refusal::NoSpace(Slice::Nodes), "no space: nodes"),
+    ];
+    for &(input, limit, expected, text) in cases {
+        let refusal = load_refused(input, limit);
+        assert_eq!((refusal, refusal.to_string().as_str()), (expected, text));
+        let error: Box<dyn Error> = refusal.into();
+        assert_eq!(error.to_string(), text);
+    }
+    let names = [
+        (Refusal::BadTables(Slice::Nodes), "BAD-TABLES", 1, (1, 0)),
+        (Refusal::BadArena(Fault::Counts), "BAD-ARENA", 2, (-1, 0)),
+        (Refusal::BadArena(Fault::Node(7)), "BAD-ARENA", 2, (7, 0)),
+        (Refusal::InvalidVersion { major: 4, minor: 9 }, "INVALID-VERSION", 3, (4, 9)),
+        (Refusal::ShortInput, "SHORT-INPUT", 4, (0, 0)),
+        (Refusal::InvalidKind(1), "INVALID-KIND", 5, (1, 0)),
+        (Refusal::NegativeCount(-5), "NEGATIVE-COUNT", 6, (-5, 0)),
+        (Refusal::MissingSymbol(3), "MISSING-SYMBOL", 7, (3, 0)),
+        (Refusal::MissingObject(3), "MISSING-OBJECT", 8, (3, 0)),
+        (Refusal::NotASymbol(3), "NOT-A-SYMBOL", 9, (3, 0)),
+        (Refusal::NotAnObject, "NOT-AN-OBJECT", 10, (0, 0)),
+        (Refusal::TooDeep(64), "TOO-DEEP", 11, (64, 0)),
+        (Refusal::NoSpace(Slice::Scratch), "NO-SPACE", 12, (10, 0)),
+        (Refusal::BadHandle(u32::MAX), "BAD-HANDLE", 13, (4294967295, 0)),
+        (Refusal::WrongKind(2), "WRONG-KIND", 14, (2, 0)),
+    ];
+    for (refusal, name, number, details) in names {
+        assert_eq!((refusal.name(), refusal.number(), refusal.details()), (name, number, details));
+        assert!(!refusal.to_string().is_empty());
+    }
+    let counts = Counts { nodes: 2, ..Counts::default() };
+    let check = |nodes: &[u32], counts| Arena::check(nodes, &[], &[], counts).map(|arena| arena.counts());
+    assert_eq!(check(&[0; 14], counts), Ok(counts));
+    assert_eq!(check(&[0; 7], counts), Err(Refusal::BadArena(Fault::Counts)));
+    assert_eq!(check(&[0, 0, 0, 0, 0, 0, 0, 9, 0, 0, 0, 0, 0, 0], counts), Err(Refusal::BadArena(Fault::Node(1))));
+}

@@ -1,0 +1,52 @@
+-- What a reader answers: an input slice with an offset, from which it reads on (01, "Reader").
+use Prim.Native.Nat.{ℕ, _+_, _-_}
+use mathlib.Core.List.{List}
+use lib.ListN.{length, drop}
+use Rattle.definition.specs.Run.{Outcome, ok, refused}
+use Rattle.definition.specs.Load.{State, Lists, LoadCall, at-set, begin, read-byte, read-header, read-integer, read-byte-string, load-call}
+use Rattle.definition.specs.declared.Answer.the-variants.{Accepted, Refused}
+use Rattle.definition.specs.declared.Taken.{Taken}
+use Rattle.definition.specs.declared.Text.{Text}
+
+-- the state of a reader at an offset
+abbrev pub starting : ℕ → State
+starting offset = at-set offset begin
+
+-- a value read from the offset given; "refused: it stays"
+unfoldable pub taken : ℕ → Outcome State ℕ → Taken
+taken offset (ok v s) = record { answer = Accepted; value = v; offset = s .at }
+taken offset (refused r) = record { answer = Refused r; value = 0; offset = offset }
+
+-- nothing to answer
+unfoldable pub passed : ℕ → Outcome State (Unit {0}) → Taken
+passed offset (ok v s) = record { answer = Accepted; value = 0; offset = s .at }
+passed offset (refused r) = record { answer = Refused r; value = 0; offset = offset }
+
+-- bytes, which stand before the offset then
+unfoldable pub spanned : ℕ → Outcome State (List ℕ) → Text
+spanned offset (ok bs s) = record { answer = Accepted; start = s .at - length bs; length = length bs; offset = s .at }
+spanned offset (refused r) = record { answer = Refused r; start = 0; length = 0; offset = offset }
+
+-- the bytes left; "an offset past the end reads as nothing left"
+abbrev pub left : List ℕ → ℕ → ℕ
+left input offset = length input - offset
+
+abbrev pub next-byte : List ℕ → ℕ → Taken
+next-byte input offset = taken offset (read-byte input (starting offset))
+
+abbrev pub next-header : List ℕ → ℕ → Taken
+next-header input offset = passed offset (read-header input (starting offset))
+
+abbrev pub next-integer : List ℕ → ℕ → Taken
+next-integer input offset = taken offset (read-integer input (starting offset))
+
+abbrev pub next-byte-string : List ℕ → ℕ → Text
+next-byte-string input offset = spanned offset (read-byte-string input (starting offset))
+
+-- the load of what stands at an offset
+abbrev pub load-next : List ℕ → ℕ → Lists → ℕ → LoadCall
+load-next input offset T limit = load-call (drop offset input) T limit
+
+-- the offset after it, where the next load begins; a refused load uses no bytes
+abbrev pub offset-after : List ℕ → ℕ → Lists → ℕ → ℕ
+offset-after input offset T limit = offset + load-next input offset T limit .answer .used

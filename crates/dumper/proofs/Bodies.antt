@@ -1,0 +1,152 @@
+-- Values of kinds 6 to 8 up to their pairs: what each call adds.
+use Prim.Native.Nat.{ℕ, _*_, _+_, _≤_, _<_}
+use native.Mathlib.Omega.{arith}
+use mathlib.Core.Path.{_≡_, sym, ap}
+use mathlib.Core.List.{List, [], _∷_, _++_}
+use lib.ListN.{length, getD, take, drop}
+use Rattle.definition.specs.Run.{pure}
+use Rattle.definition.specs.Integer.{integer-bytes}
+use Rattle.definition.specs.Kind.{OBJECT, STRING, USER-DEFINED}
+use Rattle.definition.specs.Node.{width}
+use Rattle.definition.specs.Arena.{Arena, node, range}
+use Rattle.definition.specs.Dump.{Writer, _>>_, write, write-level, write-elements, write-name, write-instance-variables, write-object-or-link, write-row, write-value}
+use Rattle.well_formed.specs.Right.{PairsIn}
+use Rattle.dumper.specs.Held.{Buffers, Lent, Listed, Ready, IsObject, IsSymbol, Goes, Leads, Meets, Heads, Opens, begun, opened, members-of, MembersIn}
+use Rattle.dumper.specs.Laws.{then, goes-to, linked, lead-to, lead-goes, lead-stop, lead-first, lead-head, head-as, head-to, head-after, head-goes, head-keep, ready-goes}
+use Rattle.dumper.proofs.Heads.{is-object, object-row, string-row, user-row, right-row, symbol-as, bytes-inside, object-open, string-open, user-open, after, after-none, after-some, vars-present, members-pairs, in-pairs}
+
+-- the tables, the node and the levels left for its members
+pub record Here : Type 0 where
+  pub nodes : List ℕ
+  pub references : List ℕ
+  pub bytes : List ℕ
+  pub v : ℕ
+  pub levels : ℕ
+
+abbrev pub here : List ℕ → List ℕ → List ℕ → ℕ → ℕ → Here
+here n r b v levels = record { nodes = n; references = r; bytes = b; v = v; levels = levels }
+
+module _ (h : Here) where
+  abbrev word : ℕ → ℕ
+  word i = getD (h .nodes) (h .v * width + i) 0
+
+  -- the node's value; its pairs as members; its variables
+  abbrev value : Arena → ℕ → ℕ → Writer
+  value A room limit = write-row room A (write-level limit (h .levels)) (write-value room A limit (h .levels)) (h .v) (node A (h .v))
+
+  abbrev pairs : ℕ → Arena → ℕ → ℕ → Writer
+  pairs k A room limit = members-of room A (write-value room A limit (h .levels)) k (word 3) (word 4) (word 6)
+
+  abbrev pub variables : Arena → ℕ → ℕ → Writer
+  variables A room limit = write-instance-variables room A (write-value room A limit (h .levels)) (word 3) (word 4)
+
+  -- its byte string; after that, variables where the mark says that there are some
+  abbrev pub text : Arena → ℕ → ℕ → Writer
+  text A room limit = write room (integer-bytes (word 2) ++ take (word 2) (drop (word 1) (h .bytes)))
+
+  abbrev pub rest : Arena → ℕ → ℕ → Writer
+  rest A room limit = after room A (write-level limit (h .levels)) (write-value room A limit (h .levels)) (h .v) (word 6) (word 3) (word 4)
+
+  -- what holds of every arena that is lent
+  abbrev Each : (Arena → ℕ → ℕ → Type 0) → Type 0
+  Each P = (A : Arena) (room limit : ℕ) → Lent A (h .nodes) (h .bytes) → Listed A (h .references) → h .v < length (A .nodes) → P A room limit
+
+  abbrev Reached : (Arena → ℕ → ℕ → Writer) → Buffers → List ℕ → Buffers → List ℕ → Type 0
+  Reached m B c B' c' = Each (λ A room limit. Goes A room (value A room limit) B c (m A room limit) B' c')
+
+  abbrev Held : Arena → Type 0
+  Held A = Lent A (h .nodes) (h .bytes) × Listed A (h .references) × (h .v < length (A .nodes))
+
+  pub reached-ready : {B B₁ : Buffers} {c c₁ : List ℕ} (m : Arena → ℕ → ℕ → Writer) → Reached m B c B₁ c₁ → Ready Held B c → Ready Held B₁ c₁
+  reached-ready m g R = ready-goes R (g (R .arena) (R .room) 0 (R .fact .0) (R .fact .1) (R .fact .2))
+
+  -- no variables come after the byte string, or some do
+  pub no-variables : {B B₁ : Buffers} {c c₁ : List ℕ} → word 6 ≡ 0 → Reached rest B c B₁ c₁ → Each (λ A room limit. Goes A room (value A room limit) B c (pure tt) B₁ c₁)
+  no-variables z g A room limit L l b = goes-to (after-none room A (write-level limit (h .levels)) (write-value room A limit (h .levels)) (h .v) (word 6) (word 3) (word 4) z) (g A room limit L l b)
+
+  pub some-variables : {B B₁ : Buffers} {c c₁ : List ℕ} → (word 6 ≡ 0 → ⊥) → Reached rest B c B₁ c₁ → Reached variables B c B₁ c₁
+  some-variables n g A room limit L l b = goes-to (after-some room A (write-level limit (h .levels)) (write-value room A limit (h .levels)) (h .v) (word 6) (word 3) (word 4) n) (g A room limit L l b)
+
+module _ (h : Here) (k : ℕ) where
+  -- what the contracts say of an answer
+  abbrev Answers : Buffers → List ℕ → ℕ → Buffers → List ℕ → Type 0
+  Answers B c r B' c' = Each h (λ A room limit. Heads A room limit (value h A room limit) (pairs h k A room limit) B c r B' c') × ((A : Arena) → Lent A (h .nodes) (h .bytes) → h .v < length (A .nodes) → r ≡ 0 → MembersIn A (h .nodes) (h .v))
+
+  -- by the kind as it was read
+  pub answers-as : {B B₁ : Buffers} {c c₁ : List ℕ} {r : ℕ} (j : ℕ) → k ≡ j → Each h (λ A room limit. Heads A room limit (value h A room limit) (pairs h j A room limit) B c r B₁ c₁) → Each h (λ A room limit. Heads A room limit (value h A room limit) (pairs h k A room limit) B c r B₁ c₁)
+  answers-as j e f A room limit L l b = head-to (ap (λ (i : ℕ). pairs h i A room limit) (sym e)) (f A room limit L l b)
+
+  -- the first call, which comes to m or doesn't
+  module _ {B B₁ : Buffers} {c c₁ : List ℕ} {r : ℕ} (m : Arena → ℕ → ℕ → Writer) (first : Each h (λ A room limit. Heads A room limit (value h A room limit) (m A room limit) B c r B₁ c₁)) where
+    pub first-stops : (r ≡ 0 → ⊥) → Answers B c r B₁ c₁
+    first-stops n = (λ A room limit L l b. head-keep n (first A room limit L l b), λ A L b e. absurd (n e))
+
+    pub first-done : r ≡ 0 → Reached h m B c B₁ c₁
+    first-done z A room limit L l b = head-goes z (first A room limit L l b)
+
+  -- a call that writes x before m
+  module _ {B B₁ B₂ : Buffers} {c c₁ c₂ : List ℕ} {r : ℕ} (x m : Arena → ℕ → ℕ → Writer) (before : Reached h (λ A room limit. x A room limit >> m A room limit) B c B₁ c₁) (next : Each h (λ A room limit. Meets A room limit (x A room limit) B₁ c₁ r B₂ c₂)) where
+    pub next-stops : (r ≡ 0 → ⊥) → Answers B c r B₂ c₂
+    next-stops n = (λ A room limit L l b. head-after (before A room limit L l b) (lead-head (lead-stop n (lead-first _ (next A room limit L l b)))), λ A L b e. absurd (n e))
+
+    pub next-done : r ≡ 0 → Reached h m B c B₂ c₂
+    next-done z A room limit L l b = then (before A room limit L l b) (lead-goes z (lead-first _ (next A room limit L l b)))
+
+  -- nothing comes after it
+  pub whole : {B B₁ : Buffers} {c c₁ : List ℕ} → word h 6 ≡ 0 → Reached h (rest h) B c B₁ c₁ → Answers B c 1 B₁ c₁
+  whole z g = (λ A room limit L l b. linked (no-variables h z g A room limit L l b), λ A L b e. absurd (omega (arith, e)))
+
+  module _ (is : getD (h .nodes) (h .v * width) 0 ≡ k) (high : 5 < k) where
+    -- the call that opens the variables
+    pub variables-answer : {B B₁ B₂ : Buffers} {c c₁ c₂ : List ℕ} {r : ℕ} → Reached h (variables h) B c B₁ c₁ → ((A : Arena) → Lent A (h .nodes) (h .bytes) → h .v < length (A .nodes) → PairsIn A (word h 3) (word h 4)) → ((A : Arena) (room limit : ℕ) → Lent A (h .nodes) (h .bytes) → Listed A (h .references) → PairsIn A (word h 3) (word h 4) → Leads A room limit (variables h A room limit) (write-elements (write-value room A limit (h .levels)) (range (A .references) (word h 3) (word h 4 * 2))) B₁ c₁ r B₂ c₂) → Answers B c r B₂ c₂
+    variables-answer g inside m = (
+      λ A room limit L l b.
+          let as-pairs = members-pairs room A (write-value room A limit (h .levels)) k (word h 3) (word h 4) (word h 6) (λ q. omega (arith, q)) (λ q. omega (arith, q)) in
+          head-after (g A room limit L l b) (lead-head (lead-to (sym as-pairs) (m A room limit L l (inside A L b)))),
+      λ A L b e. in-pairs (h .nodes) (h .v) (λ q. omega (arith, q)) (λ q. omega (arith, q)) (inside A L b),
+    )
+
+    pub object-here : k ≤ 8 → (A : Arena) → Lent A (h .nodes) (h .bytes) → h .v < length (A .nodes) → IsObject A (h .v)
+    object-here low A L b = is-object (L .noded) (h .v) b k is (omega arith) low
+
+-- ---- by kind
+
+module _ (h : Here) (name : ℕ) (named : name ≡ word h 5) where
+  module _ (is : getD (h .nodes) (h .v * width) 0 ≡ 6) where
+    pub object-first : {B B₁ : Buffers} {c c₁ : List ℕ} {r : ℕ} → ((A : Arena) (room limit : ℕ) → IsObject A (h .v) → Opens A room limit (opened room (h .v) (OBJECT ∷ [])) B c r B₁ c₁) → Each h (λ A room limit. Heads A room limit (value h A room limit) (write-name room A name >> variables h A room limit) B c r B₁ c₁)
+    object-first o A room limit L l b = head-as (object-open room A (write-level limit (h .levels)) (write-value room A limit (h .levels)) (h .v) _ _ _ name (object-row (L .noded) (h .v) b is) named) (o A room limit (object-here h 6 is (omega arith) (omega arith) A L b) _)
+
+    pub object-name : (A : Arena) → Lent A (h .nodes) (h .bytes) → h .v < length (A .nodes) → IsSymbol A name
+    object-name A L b = symbol-as _ name named (right-row L (h .v) b _ (object-row (L .noded) (h .v) b is) .0)
+
+  module _ (is : getD (h .nodes) (h .v * width) 0 ≡ 8) where
+    pub user-first : {B B₁ : Buffers} {c c₁ : List ℕ} {r : ℕ} → ((A : Arena) (room limit : ℕ) → IsObject A (h .v) → Opens A room limit (λ m. write-object-or-link room (h .v) (begun room (write-level limit (h .levels)) (word h 6) (write room (USER-DEFINED ∷ [])) m)) B c r B₁ c₁) → Each h (λ A room limit. Heads A room limit (value h A room limit) (write-name room A name >> (text h A room limit >> rest h A room limit)) B c r B₁ c₁)
+    user-first o A room limit L l b =
+        let row = user-row (L .noded) (h .v) b is in
+        head-as (user-open room A (write-level limit (h .levels)) (write-value room A limit (h .levels)) (h .v) L _ _ _ _ _ (right-row L (h .v) b _ row .0) _ name named row) (o A room limit (object-here h 8 is (omega arith) (omega arith) A L b) _)
+
+    pub user-name : (A : Arena) → Lent A (h .nodes) (h .bytes) → h .v < length (A .nodes) → IsSymbol A name
+    user-name A L b = symbol-as _ name named (right-row L (h .v) b _ (user-row (L .noded) (h .v) b is) .1)
+
+module _ (h : Here) where
+  pub object-pairs : getD (h .nodes) (h .v * width) 0 ≡ 6 → (A : Arena) → Lent A (h .nodes) (h .bytes) → h .v < length (A .nodes) → PairsIn A (word h 3) (word h 4)
+  object-pairs is A L b = right-row L (h .v) b _ (object-row (L .noded) (h .v) b is) .1
+
+  module _ (is : getD (h .nodes) (h .v * width) 0 ≡ 7) where
+    pub string-first : {B B₁ : Buffers} {c c₁ : List ℕ} {r : ℕ} → ((A : Arena) (room limit : ℕ) → IsObject A (h .v) → Opens A room limit (λ m. write-object-or-link room (h .v) (begun room (write-level limit (h .levels)) (word h 6) (write room (STRING ∷ [])) m)) B c r B₁ c₁) → Each h (λ A room limit. Heads A room limit (value h A room limit) (text h A room limit >> rest h A room limit) B c r B₁ c₁)
+    string-first o A room limit L l b =
+        let row = string-row (L .noded) (h .v) b is in
+        head-as (string-open room A (write-level limit (h .levels)) (write-value room A limit (h .levels)) (h .v) L _ _ _ _ _ (right-row L (h .v) b _ row .0) row) (o A room limit (object-here h 7 is (omega arith) (omega arith) A L b) _)
+
+    pub string-inside : (A : Arena) → Lent A (h .nodes) (h .bytes) → h .v < length (A .nodes) → word h 1 + word h 2 ≤ length (h .bytes)
+    string-inside A L b = bytes-inside _ _ L (right-row L (h .v) b _ (string-row (L .noded) (h .v) b is) .0)
+
+    pub string-pairs : (word h 6 ≡ 0 → ⊥) → (A : Arena) → Lent A (h .nodes) (h .bytes) → h .v < length (A .nodes) → PairsIn A (word h 3) (word h 4)
+    string-pairs n A L b = vars-present _ _ _ n (right-row L (h .v) b _ (string-row (L .noded) (h .v) b is) .1)
+
+  module _ (is : getD (h .nodes) (h .v * width) 0 ≡ 8) where
+    pub user-inside : (A : Arena) → Lent A (h .nodes) (h .bytes) → h .v < length (A .nodes) → word h 1 + word h 2 ≤ length (h .bytes)
+    user-inside A L b = bytes-inside _ _ L (right-row L (h .v) b _ (user-row (L .noded) (h .v) b is) .0)
+
+    pub user-pairs : (word h 6 ≡ 0 → ⊥) → (A : Arena) → Lent A (h .nodes) (h .bytes) → h .v < length (A .nodes) → PairsIn A (word h 3) (word h 4)
+    user-pairs n A L b = vars-present _ _ _ n (right-row L (h .v) b _ (user-row (L .noded) (h .v) b is) .2)

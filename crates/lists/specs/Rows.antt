@@ -1,0 +1,93 @@
+-- Seven words as a row, by word 0.
+use Prim.Native.Nat.{ℕ, zero, suc, _≤_, _<_}
+use native.Mathlib.Omega.{arith}
+use mathlib.Core.Path.{_≡_, refl, ap, sym, _∙_}
+use mathlib.Core.Bool.{Bool, true, false}
+use lib.Dec.{leb, eqb}
+use borrow.Author.Tests.{ne-eqb, leb-true, leb-false}
+use Rattle.definition.specs.Run.{pick}
+use Rattle.definition.specs.Node.{nil, bool, fixnum, symbol, array, hash, object, string, user, kind, row-of, vars}
+
+module _ (k a b s n c f : ℕ) where
+  -- the row of each kind
+  pub row-0 : k ≡ 0 → row-of k a b s n c f ≡ nil
+  unfolding row-of pick
+  row-0 e = rw e refl
+
+  pub row-1 : k ≡ 1 → row-of k a b s n c f ≡ bool (eqb a 1)
+  unfolding row-of pick
+  row-1 e = rw e refl
+
+  pub row-2 : k ≡ 2 → row-of k a b s n c f ≡ fixnum a
+  unfolding row-of pick
+  row-2 e = rw e refl
+
+  pub row-3 : k ≡ 3 → row-of k a b s n c f ≡ symbol a b
+  unfolding row-of pick
+  row-3 e = rw e refl
+
+  pub row-4 : k ≡ 4 → row-of k a b s n c f ≡ array s n
+  unfolding row-of pick
+  row-4 e = rw e refl
+
+  pub row-5 : k ≡ 5 → row-of k a b s n c f ≡ hash s n f
+  unfolding row-of pick
+  row-5 e = rw e refl
+
+  pub row-6 : k ≡ 6 → row-of k a b s n c f ≡ object s n c
+  unfolding row-of pick
+  row-6 e = rw e refl
+
+  pub row-7 : k ≡ 7 → row-of k a b s n c f ≡ string a b (vars f s n)
+  unfolding row-of pick
+  row-7 e = rw e refl
+
+  pub row-8 : k ≡ 8 → row-of k a b s n c f ≡ user a b c (vars f s n)
+  unfolding row-of pick
+  row-8 e = rw e refl
+
+  -- past 8 it is nil
+  row-past : 8 < k → row-of k a b s n c f ≡ nil
+  unfolding row-of pick
+  row-past l = simp (ne-eqb k 1 (omega arith), ne-eqb k 2 (omega arith), ne-eqb k 3 (omega arith), ne-eqb k 4 (omega arith), ne-eqb k 5 (omega arith), ne-eqb k 6 (omega arith), ne-eqb k 7 (omega arith), ne-eqb k 8 (omega arith))
+
+  kind-past : 8 < k → kind (row-of k a b s n c f) ≡ 0
+  unfolding kind
+  kind-past l = ap kind (row-past l)
+
+pub kind-of : (k a b s n c f : ℕ) → k ≤ 8 → kind (row-of k a b s n c f) ≡ k
+unfolding row-of pick kind
+kind-of zero a b s n c f h = refl
+kind-of (suc zero) a b s n c f h = refl
+kind-of (suc (suc zero)) a b s n c f h = refl
+kind-of (suc (suc (suc zero))) a b s n c f h = refl
+kind-of (suc (suc (suc (suc zero)))) a b s n c f h = refl
+kind-of (suc (suc (suc (suc (suc zero))))) a b s n c f h = refl
+kind-of (suc (suc (suc (suc (suc (suc zero)))))) a b s n c f h = refl
+kind-of (suc (suc (suc (suc (suc (suc (suc zero))))))) a b s n c f h = refl
+kind-of (suc (suc (suc (suc (suc (suc (suc (suc zero)))))))) a b s n c f h = refl
+kind-of (suc (suc (suc (suc (suc (suc (suc (suc (suc j))))))))) a b s n c f h = absurd (omega arith)
+
+module _ (k a b s n c f : ℕ) where
+  -- up to 8 the kind is word 0
+  pub kind-is : (x : ℕ) → kind (row-of k a b s n c f) ≡ x → 0 < x → k ≡ x
+  kind-is x e h = go (leb k 8) refl
+    where
+      go : (t : Bool) → leb k 8 ≡ t → k ≡ x
+      go true q = sym (kind-of k a b s n c f (leb-true k 8 q)) ∙ e
+      go false q = absurd (omega (arith, kind-past k a b s n c f (leb-false k 8 q)))
+
+  -- a kind that is none of 4 to 8
+  pub kind-low : (k ≡ 4 → ⊥) → (k ≡ 5 → ⊥) → (k ≡ 6 → ⊥) → (k ≡ 7 → ⊥) → (k ≡ 8 → ⊥) → kind (row-of k a b s n c f) ≤ 3
+  kind-low n4 n5 n6 n7 n8 = go (leb k 8) refl
+    where
+      go : (t : Bool) → leb k 8 ≡ t → kind (row-of k a b s n c f) ≤ 3
+      go true q = omega (arith, kind-of k a b s n c f (leb-true k 8 q), leb-true k 8 q)
+      go false q = omega (arith, kind-past k a b s n c f (leb-false k 8 q))
+
+  pub row-nil : (k ≡ 1 → ⊥) → (k ≡ 2 → ⊥) → (k ≡ 3 → ⊥) → kind (row-of k a b s n c f) ≤ 3 → row-of k a b s n c f ≡ nil
+  row-nil n1 n2 n3 h = go (leb k 8) refl
+    where
+      go : (t : Bool) → leb k 8 ≡ t → row-of k a b s n c f ≡ nil
+      go true q = row-0 k a b s n c f (omega (arith, kind-of k a b s n c f (leb-true k 8 q)))
+      go false q = row-past k a b s n c f (leb-false k 8 q)

@@ -1,0 +1,202 @@
+-- The words of a list: one more of them, and the run over integers and symbol links.
+use Prim.Native.Nat.{ℕ, zero, suc, _+_, _-_, _*_, _/_, _%_, _≤_, _<_}
+use native.Mathlib.Omega.{arith}
+use mathlib.Core.Path.{_≡_, refl, sym, ap, _∙_, subst}
+use mathlib.Core.Bool.{Bool, true, false}
+use mathlib.Core.List.{List, [], _∷_}
+use lib.Dec.{eqb}
+use lib.ListN.{length, getD, set, drop, length-set}
+use lib.Seq.{sets, set-set, set-comm, getD-set-other}
+use borrow.Author.Tests.{lt-ltb, ne-eqb}
+use Rattle.definition.specs.Run.{pure, pick, look, _>>=_}
+use Rattle.definition.specs.Integer.{form, value}
+use Rattle.definition.specs.Kind.{FIXNUM, SYMBOL-LINK}
+use Rattle.definition.specs.Node.{fixnum, words}
+use Rattle.definition.specs.Load.{Room, State, Reader, Lists, lists, Fixnum, SymbolLink, head, value-of, read-value, read-integer, read-count, read-fixnum, read-symbol-link, read-symbol-like, put-reference, add-node, entry}
+use Rattle.definition.specs.declared.Refusal.the-variants.{MissingSymbol}
+use Rattle.reader.specs.Integers.{size-of, word-of, size-small}
+use Rattle.loader.specs.Holds.{Held, Holds, Goes, slot, slots, at-of, nodes-of, references-of, symbols-of}
+use Rattle.loader.proofs.Counts.{is}
+use Rattle.loader.proofs.Laws.{then, still, goes-to, goes-first, held-goes}
+use Rattle.loader.proofs.Readers.{kind-read, like-link}
+use Rattle.loader.proofs.Steps.{integer-one, integer-whole, symbol-listed, reference-put, row-goes}
+
+-- ---- one word
+
+-- no name is wanted there
+pub slot-value : (name inner : Reader ℕ) (names to : ℕ) → (to % 2 ≡ names → ⊥) → slot name inner names to ≡ inner
+unfolding pick
+slot-value name inner names to n = rw (ne-eqb (to % 2) names n)
+
+module _ {input : List ℕ} {room : Room} (name inner : Reader ℕ) (names : ℕ) where
+  -- a member is read and stored
+  slot-suc : {T : Lists} {c : List ℕ} {no re by sy ob c' : List ℕ} (v n to : ℕ) → to < references-of c' → Goes input room (slot name inner names to) T c (pure v) (lists no re by sy ob) c' → Goes input room (slots name inner names (suc n) to) T c (slots name inner names n (suc to)) (lists no (set re to v) by sy ob) c'
+  unfolding slots
+  slot-suc v n to h g = then (goes-first (λ x. put-reference to x >>= λ _. slots name inner names n (suc to)) g) (goes-first (λ _. slots name inner names n (suc to)) (reference-put to v h))
+
+  -- the same at the numbers of a loop
+  pub slot-put : {T : Lists} {c : List ℕ} {no re by sy ob c' : List ℕ} (v end to : ℕ) → to < end → to < references-of c' → Goes input room (slot name inner names to) T c (pure v) (lists no re by sy ob) c' → Goes input room (slots name inner names (end - to) to) T c (slots name inner names (end - (to + 1)) (to + 1)) (lists no (set re to v) by sy ob) c'
+  slot-put {T} {c} {no} {re} {by} {sy} {ob} {c'} v end to l h g =
+      let a : suc (end - (to + 1)) ≡ end - to = omega arith in
+      let b : suc to ≡ to + 1 = omega arith in
+      subst (λ x. Goes input room (slots name inner names x to) T c (slots name inner names (end - (to + 1)) (to + 1)) (lists no (set re to v) by sy ob) c') a
+      (goes-to (ap (λ (x : ℕ). slots name inner names (end - (to + 1)) x) b) (slot-suc v (end - (to + 1)) to h g))
+
+-- ---- a link
+
+-- the index of one byte, after the kind byte
+index-goes : {input : List ℕ} {room : Room} {c : List ℕ} {no re by sy ob : List ℕ} (i : ℕ) → at-of c < length input → form (getD input (at-of c) 0) ≡ value i → i < symbols-of c → i < 2147483648 → Goes input room (read-symbol-link input) (lists no re by sy ob) c (pure (getD sy i 0)) (lists no re by sy ob) (set c 0 (at-of c + 1))
+unfolding read-symbol-link read-count pick
+index-goes {c = c} i l e h k =
+    let q : symbols-of (set c 0 (at-of c + 1)) ≡ symbols-of c = getD-set-other c 0 4 (at-of c + 1) 0 (omega arith) in
+    then (goes-first (λ i. look λ s. entry (s .symbols) i (MissingSymbol i)) (then (goes-first _ (integer-one {limit = 0} i l e (omega arith) .goes (omega arith))) (goes-to (simp (lt-ltb i 2147483648 k)) (still (λ s H. refl)))))
+    (symbol-listed i (MissingSymbol i) (omega (arith, q)))
+
+module _ {room : Room} {no re by sy ob : List ℕ} (input c : List ℕ) (limit levels : ℕ) (some : levels ≡ 0 → ⊥) (six : length c ≡ 6) (i : ℕ) (l : at-of c + 2 ≤ length input) (k : getD input (at-of c) 0 ≡ SYMBOL-LINK) (e : form (getD input (at-of c + 1) 0) ≡ value i) (h : i < symbols-of c) (small : i < 2147483648) where
+  -- after the kind byte
+  link-rest : Goes input room (read-symbol-link input) (lists no re by sy ob) (set c 0 (at-of c + 1)) (pure (getD sy i 0)) (lists no re by sy ob) (set c 0 (at-of c + 2))
+  link-rest =
+      let p : at-of (set c 0 (at-of c + 1)) ≡ at-of c + 1 = is 0 (at-of c + 1) c six (omega arith) in
+      let q : symbols-of (set c 0 (at-of c + 1)) ≡ symbols-of c = getD-set-other c 0 4 (at-of c + 1) 0 (omega arith) in
+      let next : at-of c + 2 ≡ at-of (set c 0 (at-of c + 1)) + 1 = omega (arith, p) in
+      subst (λ x. Goes input room (read-symbol-link input) (lists no re by sy ob) (set c 0 (at-of c + 1)) (pure (getD sy i 0)) (lists no re by sy ob) x) (set-set c 0 (at-of c + 1) (at-of (set c 0 (at-of c + 1)) + 1) ∙ ap (set c 0) (sym next))
+      (index-goes i (omega (arith, p)) (ap (λ (x : ℕ). form (getD input x 0)) p ∙ e) (omega (arith, q)) small)
+
+  -- as a name and as a value alike
+  pub link-goes : (t : Bool) → Goes input room (pick t (read-symbol-like input room) (read-value input room limit levels)) (lists no re by sy ob) c (pure (getD sy i 0)) (lists no re by sy ob) (set c 0 (at-of c + 2))
+  unfolding pick head value-of
+  link-goes true = then (like-link (omega arith) k) link-rest
+  link-goes false = then (goes-to (ap (λ (x : ℕ). value-of input room (read-value input room limit (levels - 1)) x (head x)) k) (kind-read limit levels some (omega arith))) link-rest
+
+-- ---- an integer
+
+-- how many bytes the integer at an offset takes, and its 32 bits
+abbrev pub size-at : List ℕ → ℕ → ℕ
+size-at input at = size-of (form (getD input at 0))
+
+abbrev pub word-at : List ℕ → ℕ → ℕ
+word-at input at = word-of (drop (at + 1) input) (form (getD input at 0))
+
+module _ {room : Room} {no re by sy ob : List ℕ} (input c : List ℕ) (limit levels : ℕ) (some : levels ≡ 0 → ⊥) (six : length c ≡ 6) (l : at-of c + 6 ≤ length input) (k : getD input (at-of c) 0 ≡ FIXNUM) (h : nodes-of c < length no / 7) where
+  -- the integer, after the kind byte
+  pub integer-goes : {no' : List ℕ} → word-at input (at-of c + 1) < 4294967296 → no' ≡ sets no (nodes-of c * 7) (2 ∷ word-at input (at-of c + 1) ∷ 0 ∷ 0 ∷ 0 ∷ 0 ∷ 0 ∷ []) → Goes input room (read-value input room limit levels) (lists no re by sy ob) c (pure (nodes-of c)) (lists no' re by sy ob) (set (set c 1 (nodes-of c + 1)) 0 (at-of c + 1 + size-at input (at-of c + 1)))
+  unfolding head value-of read-fixnum pick words
+  integer-goes {no'} fits f =
+      let c₁ = set c 0 (at-of c + 1) in
+      let p : at-of c₁ ≡ at-of c + 1 = is 0 (at-of c + 1) c six (omega arith) in
+      let q : nodes-of c₁ ≡ nodes-of c = getD-set-other c 0 1 (at-of c + 1) 0 (omega arith) in
+      let five = size-small (getD input (at-of c + 1) 0) in
+      let number : Goes input room (read-integer input) (lists no re by sy ob) c₁ (pure (word-at input (at-of c + 1))) (lists no re by sy ob) (set c 0 (at-of c + 1 + size-at input (at-of c + 1))) =
+      subst (λ x. Goes input room (read-integer input) (lists no re by sy ob) c₁ (pure (word-at input (at-of c + 1))) (lists no re by sy ob) x) (set-set c 0 (at-of c + 1) (at-of c + 1 + size-at input (at-of c + 1)))
+      (subst (λ a. Goes input room (read-integer input) (lists no re by sy ob) c₁ (pure (word-of (drop (a + 1) input) (form (getD input a 0)))) (lists no re by sy ob) (set c₁ 0 (a + size-of (form (getD input a 0))))) p
+      (integer-whole {limit = 0} _ (rw p (omega (arith, five))) refl (rw p fits) .goes (rw p fits))) in
+      let c₂ = set c 0 (at-of c + 1 + size-at input (at-of c + 1)) in
+      let r : nodes-of c₂ ≡ nodes-of c = getD-set-other c 0 1 (at-of c + 1 + size-at input (at-of c + 1)) 0 (omega arith) in
+      let node : Goes input room (add-node room (fixnum (word-at input (at-of c + 1)))) (lists no re by sy ob) c₂ (pure (nodes-of c)) (lists no' re by sy ob) (set (set c 1 (nodes-of c + 1)) 0 (at-of c + 1 + size-at input (at-of c + 1))) =
+      subst (λ x. Goes input room (add-node room (fixnum (word-at input (at-of c + 1)))) (lists no re by sy ob) c₂ (pure (nodes-of c)) (lists no' re by sy ob) x) (set-comm c 0 1 (at-of c + 1 + size-at input (at-of c + 1)) (nodes-of c + 1) (omega arith))
+      (subst (λ n. Goes input room (add-node room (fixnum (word-at input (at-of c + 1)))) (lists no re by sy ob) c₂ (pure n) (lists no' re by sy ob) (set c₂ 1 (n + 1))) r
+      (row-goes (fixnum (word-at input (at-of c + 1))) _ refl tt (omega (arith, r)) (f ∙ ap (λ (n : ℕ). sets no (n * 7) (2 ∷ word-at input (at-of c + 1) ∷ 0 ∷ 0 ∷ 0 ∷ 0 ∷ 0 ∷ [])) (sym r)))) in
+      then (goes-to (ap (λ (x : ℕ). value-of input room (read-value input room limit (levels - 1)) x (head x)) k) (kind-read limit levels some (omega arith)))
+      (then (goes-first (λ w. add-node room (fixnum w)) number) node)
+
+-- ---- the run
+
+-- what the run keeps: it has come to word `to`, with the offset in a local
+pub record Running (input no₀ re₀ sy c₀ : List ℕ) (start end names levels : ℕ) (no re c : List ℕ) (at to : ℕ) : Type 0 where
+  pub nodes : length no ≡ length no₀
+  pub references : length re ≡ length re₀
+  pub from : start ≤ to
+  pub within : to ≤ end
+  pub inside : end ≤ references-of (set c 0 at)
+  pub known : symbols-of (set c 0 at) ≡ symbols-of c₀
+  pub held : (by : List ℕ) × (ob : List ℕ) × Held input (lists no re by sy ob) (set c 0 at)
+  pub goes : (room : Room) (limit : ℕ) (by ob : List ℕ) → Goes input room (slots (read-symbol-like input room) (read-value input room limit levels) names (end - start) start) (lists no₀ re₀ by sy ob) c₀ (slots (read-symbol-like input room) (read-value input room limit levels) names (end - to) to) (lists no re by sy ob) (set c 0 at)
+
+-- the offset put where it is
+pub set-at : (c : List ℕ) → set c 0 (at-of c) ≡ c
+set-at [] = refl
+set-at (x ∷ c) = refl
+
+pub running-start : {input no re sy c by ob : List ℕ} {start end names levels : ℕ} → start ≤ end → end ≤ references-of c → Held input (lists no re by sy ob) c → Running input no re sy c start end names levels no re c (at-of c) start
+running-start {input} {no} {re} {sy} {c} {by} {ob} {start} {end} {names} {levels} l h H =
+    let e = set-at c in
+    record {
+      nodes = refl;
+      references = refl;
+      from = omega arith;
+      within = l;
+      inside = rw e h;
+      known = rw e refl;
+      held = (by, ob, rw e H);
+      goes = λ room limit by ob. rw e (still (λ s H. refl));
+    }
+
+module _ {input no₀ re₀ sy c₀ : List ℕ} {start end names levels : ℕ} {no re c : List ℕ} {at to : ℕ} (R : Running input no₀ re₀ sy c₀ start end names levels no re c at to) where
+  abbrev c₁ : List ℕ
+  c₁ = set c 0 at
+
+  pub six : length c ≡ 6
+  six = sym (length-set c 0 at) ∙ R .held .2 .holds .counts
+
+  pub is-at : at-of c₁ ≡ at
+  is-at = is 0 at c six (omega arith)
+
+  pub at-inside : at ≤ length input
+  at-inside = omega (arith, is-at, R .held .2 .holds .count-at, R .held .2 .holds .inside)
+
+  -- the run is over
+  pub run-over : {r : ℕ} {c' : List ℕ} → r ≡ to → c' ≡ set c 0 at → (room : Room) (limit : ℕ) (by ob : List ℕ) → Goes input room (slots (read-symbol-like input room) (read-value input room limit levels) names (end - start) start) (lists no₀ re₀ by sy ob) c₀ (slots (read-symbol-like input room) (read-value input room limit levels) names (end - r) r) (lists no re by sy ob) c'
+  run-over e f room limit by ob = rw (e, f) (R .goes room limit by ob)
+
+  -- a member was taken
+  module _ {no' : List ℕ} (c' : List ℕ) (at' v : ℕ) (l : to < end) (sized : length no' ≡ length no) (grown : references-of (set c' 0 at') ≡ references-of c₁) (same : symbols-of (set c' 0 at') ≡ symbols-of c₁) (g : (room : Room) (limit : ℕ) (by ob : List ℕ) → Goes input room (slot (read-symbol-like input room) (read-value input room limit levels) names to) (lists no re by sy ob) c₁ (pure v) (lists no' re by sy ob) (set c' 0 at')) where
+    step : (room : Room) (limit : ℕ) (by ob : List ℕ) → Goes input room (slots (read-symbol-like input room) (read-value input room limit levels) names (end - to) to) (lists no re by sy ob) c₁ (slots (read-symbol-like input room) (read-value input room limit levels) names (end - (to + 1)) (to + 1)) (lists no' (set re to v) by sy ob) (set c' 0 at')
+    step room limit by ob = slot-put (read-symbol-like input room) (read-value input room limit levels) names v end to l (omega (arith, grown, R .inside)) (g room limit by ob)
+
+    pub run-on : Running input no₀ re₀ sy c₀ start end names levels no' (set re to v) c' at' (to + 1)
+    run-on = record {
+      nodes = sized ∙ R .nodes;
+      references = length-set re to v ∙ R .references;
+      from = omega (arith, R .from);
+      within = omega (arith, l);
+      inside = omega (arith, grown, R .inside);
+      known = same ∙ R .known;
+      held = (R .held .0, R .held .1, held-goes {m = λ room. slots _ _ names (end - to) to} {m' = λ room. slots _ _ names (end - (to + 1)) (to + 1)} (R .held .2) (λ room. step room 0 (R .held .0) (R .held .1)));
+      goes = λ room limit by ob. then (R .goes room limit by ob) (step room limit by ob);
+    }
+
+  pub run-link : (i : ℕ) → (levels ≡ 0 → ⊥) → to < end → at + 2 ≤ length input → getD input at 0 ≡ SYMBOL-LINK → form (getD input (at + 1) 0) ≡ value i → i < symbols-of c₀ → Running input no₀ re₀ sy c₀ start end names levels no (set re to (getD sy i 0)) c (at + 2) (to + 1)
+  run-link i some l h k e y =
+      let p = is-at in
+      let z : i < 2147483648 = omega (arith, y, R .known, R .held .2 .holds .count-symbols, R .held .2 .holds .symbols .fits, R .held .2 .holds .small .symbols) in
+      run-on c (at + 2) (getD sy i 0) l refl (getD-set-other c 0 2 (at + 2) 0 (omega arith) ∙ sym (getD-set-other c 0 2 at 0 (omega arith))) (getD-set-other c 0 4 (at + 2) 0 (omega arith) ∙ sym (getD-set-other c 0 4 at 0 (omega arith)))
+      (λ room limit by ob.
+      subst (λ x. Goes input room (slot (read-symbol-like input room) (read-value input room limit levels) names to) (lists no re by sy ob) c₁ (pure (getD sy i 0)) (lists no re by sy ob) x) (set-set c 0 at (at-of c₁ + 2) ∙ ap (λ (x : ℕ). set c 0 (x + 2)) p)
+      (link-goes input c₁ limit levels some (R .held .2 .holds .counts) i (rw p h) (ap (λ (x : ℕ). getD input x 0) p ∙ k) (ap (λ (x : ℕ). form (getD input (x + 1) 0)) p ∙ e) (omega (arith, R .known)) z (eqb (to % 2) names)))
+
+  pub run-integer : {no' : List ℕ} (n : ℕ) → (levels ≡ 0 → ⊥) → to < end → at + 6 ≤ length input → getD input at 0 ≡ FIXNUM → (to % 2 ≡ names → ⊥) → nodes-of c < length no / 7 → n ≡ size-of (form (getD input (at + 1) 0)) → word-of (drop (at + 1 + 1) input) (form (getD input (at + 1) 0)) < 4294967296 → no' ≡ sets no (nodes-of c * 7) (2 ∷ word-of (drop (at + 1 + 1) input) (form (getD input (at + 1) 0)) ∷ 0 ∷ 0 ∷ 0 ∷ 0 ∷ 0 ∷ []) → length no' ≡ length no → Running input no₀ re₀ sy c₀ start end names levels no' (set re to (nodes-of c)) (set c 1 (nodes-of c + 1)) (at + 1 + n) (to + 1)
+  run-integer {no'} n some l h k e y z fits f sized =
+      let p = is-at in
+      let q : nodes-of c₁ ≡ nodes-of c = getD-set-other c 0 1 at 0 (omega arith) in
+      let d = set c 1 (nodes-of c + 1) in
+      let x = at + 1 + n in
+      run-on d x (nodes-of c) l sized
+      (getD-set-other d 0 2 x 0 (omega arith) ∙ getD-set-other c 1 2 (nodes-of c + 1) 0 (omega arith) ∙ sym (getD-set-other c 0 2 at 0 (omega arith)))
+      (getD-set-other d 0 4 x 0 (omega arith) ∙ getD-set-other c 1 4 (nodes-of c + 1) 0 (omega arith) ∙ sym (getD-set-other c 0 4 at 0 (omega arith)))
+      (λ room limit by ob.
+      rw (slot-value (read-symbol-like input room) (read-value input room limit levels) names to e)
+      (whole room limit by ob))
+    where
+      whole : (room : Room) (limit : ℕ) (by ob : List ℕ) → Goes input room (read-value input room limit levels) (lists no re by sy ob) c₁ (pure (nodes-of c)) (lists no' re by sy ob) (set (set c 1 (nodes-of c + 1)) 0 (at + 1 + n))
+      whole room limit by ob =
+          let p = is-at in
+          let q : nodes-of c₁ ≡ nodes-of c = getD-set-other c 0 1 at 0 (omega arith) in
+          let t : set (set c₁ 1 (nodes-of c₁ + 1)) 0 (at-of c₁ + 1 + size-of (form (getD input (at-of c₁ + 1) 0))) ≡ set (set c 1 (nodes-of c + 1)) 0 (at + 1 + n) =
+          (λ j. set (set c₁ 1 (q j + 1)) 0 (p j + 1 + size-of (form (getD input (p j + 1) 0))))
+          ∙ ap (λ (m : ℕ). set (set c₁ 1 (nodes-of c + 1)) 0 (at + 1 + m)) (sym z)
+          ∙ ap (λ (m : List ℕ). set m 0 (at + 1 + n)) (set-comm c 0 1 at (nodes-of c + 1) (omega arith))
+          ∙ set-set (set c 1 (nodes-of c + 1)) 0 at (at + 1 + n) in
+          subst (λ m. Goes input room (read-value input room limit levels) (lists no re by sy ob) c₁ (pure m) (lists no' re by sy ob) (set (set c 1 (nodes-of c + 1)) 0 (at + 1 + n))) q
+          (subst (λ m. Goes input room (read-value input room limit levels) (lists no re by sy ob) c₁ (pure (nodes-of c₁)) (lists no' re by sy ob) m) t
+          (integer-goes input c₁ limit levels some (R .held .2 .holds .counts) (rw p h) (ap (λ (m : ℕ). getD input m 0) p ∙ k) (omega (arith, q, y)) (rw p fits)
+          (f ∙ λ j. sets no (sym q j * 7) (2 ∷ word-of (drop (sym p j + 1 + 1) input) (form (getD input (sym p j + 1) 0)) ∷ 0 ∷ 0 ∷ 0 ∷ 0 ∷ 0 ∷ []))))

@@ -1,0 +1,19 @@
+-- The proof of link_index.
+use borrow.Author.Needs.{needs}
+use native.Mathlib.Omega.{arith}
+use Rattle.loader.proofs.link_index.Statement.{statement}
+use Rattle.loader.proofs.link_index.Tie as tie
+
+small-requires : tie.Need-small-requires
+small-requires c κs = search needs
+
+returns : tie.Need-returns
+returns c =
+    λ l. absurd (omega (arith, l))
+
+returns-2 : tie.Need-returns-2
+returns-2 c =
+    λ l. c .before .small .ensures (omega (arith, c .if1 .left))
+
+pub link-index-spec : {M : Type 1} → statement M
+link-index-spec = tie.close (tie.spec small-requires returns returns-2)

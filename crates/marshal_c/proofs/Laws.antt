@@ -1,0 +1,127 @@
+-- Details as words, words written one after the other, and a call's reply where the answer words are enough and where they are too few.
+use Prim.Native.Nat.{ℕ, _-_, _<_, _≤_}
+use mathlib.Core.Path.{_≡_, refl, sym, ap, _∙_}
+use mathlib.Core.Bool.{Bool, true, false}
+use mathlib.Core.List.{List, [], _∷_, _++_}
+use lib.IntN.{ℤ, pos, negsuc}
+use lib.ListN.{length, set}
+use lib.Seq.{sets}
+use borrow.Author.Tests.{le-leb, lt-leb}
+use Rattle.definition.specs.Run.{pick}
+use Rattle.definition.specs.Refused.{answer-numbers}
+use Rattle.definition.specs.Arena.{Tables}
+use Rattle.definition.specs.Load.{Lists, LoadCall}
+use Rattle.definition.specs.Dump.{DumpCall, dump-call-of}
+use Rattle.definition.specs.Build.{BuildCall, NewCall}
+use Rattle.definition.specs.declared.Answer.{Answer}
+use Rattle.definition.specs.declared.Begun.{Begun}
+use Rattle.definition.specs.declared.Counts.{Counts}
+use Rattle.definition.specs.declared.Created.{Created}
+use Rattle.definition.specs.declared.Dumped.{Dumped}
+use Rattle.definition.specs.declared.Loaded.{Loaded}
+use Rattle.definition.specs.declared.Name.{Name}
+use Rattle.definition.specs.declared.Number.{Number}
+use Rattle.definition.specs.declared.Words.{Words}
+use Rattle.refusal.specs.Shown.{integer, shown}
+use Rattle.refusal.specs.declared.Numbers.{Numbers}
+use Rattle.marshal_c.specs.Reply.{word, details, count-words, loaded-words, dumped-words, begun-words, number-words, node-words, name-words, created-words, Reply, reply, tell, tell-load, tell-dump, tell-new, tell-build, tell-number, tell-words, tell-name}
+
+-- ---- details
+
+pub below : (b : Bool) (n : ℕ) → b ≡ true → 18446744073709551615 - (n - 1) ≡ word (integer b n)
+unfolding word
+below b n e = rw e refl
+
+pub not-below : (b : Bool) (n : ℕ) → b ≡ false → n ≡ word (integer b n)
+unfolding word
+not-below b n e = rw e refl
+
+-- words 0 and 1 from an answer's numbers
+pub told : (a : Answer) (n : Numbers) (first : ℕ) (words : List ℕ) → shown n ≡ answer-numbers a → first ≡ word (integer (n .below) (n .first)) → (n .number ≡ answer-numbers a .0) × (set (set words 0 first) 1 (n .second) ≡ sets words 0 (details a))
+unfolding details word
+told a n first words e f =
+    (ap (λ (t : ℕ × ℤ × ℤ). t .0) e, ap (λ (x : ℕ). set (set words 0 x) 1 (n .second)) f ∙ ap (λ (t : ℕ × ℤ × ℤ). set (set words 0 (word (t .1))) 1 (word (t .2))) e)
+
+-- ---- words one after the other
+
+-- after the details
+pub then : (a : Answer) (words : List ℕ) {t : List ℕ} (vs : List ℕ) → t ≡ sets words 0 (details a) → sets t 2 vs ≡ sets words 0 (details a ++ vs)
+unfolding details
+then a words vs e = ap (λ (l : List ℕ). sets l 2 vs) e
+
+-- after the details and the counts
+pub last : (a : Answer) (c : Counts) (words : List ℕ) {t u : List ℕ} (v : ℕ) → t ≡ sets words 0 (details a) → u ≡ sets t 2 (count-words c) → set u 6 v ≡ sets words 0 (details a ++ count-words c ++ (v ∷ []))
+unfolding details count-words
+last a c words v e f = ap (λ (l : List ℕ). set l 6 v) (f ∙ ap (λ (l : List ℕ). sets l 2 (count-words c)) e)
+
+-- ---- replies
+
+module _ {L : Type 0} (a : Answer) (ws words : List ℕ) (before after : L) where
+  too-few : length words < length ws → reply 1 words before ≡ tell a ws words before after
+  unfolding tell pick
+  too-few h = rw (lt-leb (length ws) (length words) h) refl
+
+  enough : {n : ℕ} {w : List ℕ} → length ws ≤ length words → (n ≡ answer-numbers a .0) × (w ≡ sets words 0 ws) → reply n w after ≡ tell a ws words before after
+  unfolding tell pick
+  enough {w = w} h e = rw (le-leb (length ws) (length words) h) (ap (λ (m : ℕ). reply m w after) (e .0) ∙ ap (λ (l : List ℕ). reply (answer-numbers a .0) l after) (e .1))
+
+module _ (T : Lists) (words : List ℕ) where
+  pub load-few : (k : LoadCall) → length words < 7 → reply 1 words T ≡ tell-load k T words
+  unfolding tell-load loaded-words details count-words
+  load-few k h = too-few (k .answer .answer) (loaded-words (k .answer)) words T (k .lent) h
+
+  pub load-told : {r : Loaded} {T′ : Lists} {k : LoadCall} {n : ℕ} {w : List ℕ} → 7 ≤ length words → (n ≡ answer-numbers (r .answer) .0) × (w ≡ sets words 0 (loaded-words r)) → record { answer = r; lent = T′ } ≡ k → reply n w T′ ≡ tell-load k T words
+  unfolding tell-load loaded-words details count-words
+  load-told {r = r} {T′ = T′} h e g = enough (r .answer) (loaded-words r) words T T′ h e ∙ ap (λ (k : LoadCall). tell-load k T words) g
+
+module _ (T : Tables) (words : List ℕ) where
+  pub new-few : (k : NewCall) → length words < 6 → reply 1 words T ≡ tell-new k T words
+  unfolding tell-new begun-words details count-words
+  new-few k h = too-few (k .answer .answer) (begun-words (k .answer)) words T (k .tables) h
+
+  pub new-told : {r : Begun} {T′ : Tables} {k : NewCall} {n : ℕ} {w : List ℕ} → 6 ≤ length words → (n ≡ answer-numbers (r .answer) .0) × (w ≡ sets words 0 (begun-words r)) → record { answer = r; tables = T′ } ≡ k → reply n w T′ ≡ tell-new k T words
+  unfolding tell-new begun-words details count-words
+  new-told {r = r} {T′ = T′} h e g = enough (r .answer) (begun-words r) words T T′ h e ∙ ap (λ (k : NewCall). tell-new k T words) g
+
+module _ (T : Tables) (words : List ℕ) where
+  pub build-few : (k : BuildCall) → length words < 7 → reply 1 words T ≡ tell-build k T words
+  unfolding tell-build created-words details count-words
+  build-few k h = too-few (k .answer .answer) (created-words (k .answer)) words T (k .tables) h
+
+  pub build-told : {r : Created} {T′ : Tables} {k : BuildCall} {n : ℕ} {w : List ℕ} → 7 ≤ length words → (n ≡ answer-numbers (r .answer) .0) × (w ≡ sets words 0 (created-words r)) → record { answer = r; tables = T′ } ≡ k → reply n w T′ ≡ tell-build k T words
+  unfolding tell-build created-words details count-words
+  build-told {r = r} {T′ = T′} h e g = enough (r .answer) (created-words r) words T T′ h e ∙ ap (λ (k : BuildCall). tell-build k T words) g
+
+module _ (scratch output words : List ℕ) where
+  pub dump-few : (k : DumpCall) → length words < 3 → reply 1 words (scratch, output) ≡ tell-dump k scratch output words
+  unfolding tell-dump dumped-words details
+  dump-few k h = too-few (k .answer .answer) (dumped-words (k .answer)) words (scratch, output) (k .scratch, k .output) h
+
+  pub dump-told : (r : Dumped) {scratch′ output′ : List ℕ} {k : DumpCall} {n : ℕ} {w : List ℕ} → 3 ≤ length words → (n ≡ answer-numbers (r .answer) .0) × (w ≡ sets words 0 (dumped-words r)) → dump-call-of (r .answer) (r .written) scratch′ output′ ≡ k → reply n w (scratch′, output′) ≡ tell-dump k scratch output words
+  unfolding tell-dump dumped-words details
+  dump-told r {scratch′ = s} {output′ = o} h e g = enough (r .answer) (dumped-words r) words (scratch, output) (s, o) h e ∙ ap (λ (k : DumpCall). tell-dump k scratch output words) g
+
+module _ (words : List ℕ) where
+  pub number-few : (r : Number) → length words < 3 → reply 1 words tt ≡ tell-number r words
+  unfolding tell-number number-words details
+  number-few r h = too-few (r .answer) (number-words r) words tt tt h
+
+  pub number-told : {r k : Number} {n : ℕ} {w : List ℕ} → 3 ≤ length words → (n ≡ answer-numbers (r .answer) .0) × (w ≡ sets words 0 (number-words r)) → r ≡ k → reply n w tt ≡ tell-number k words
+  unfolding tell-number number-words details
+  number-told {r = r} h e g = enough (r .answer) (number-words r) words tt tt h e ∙ ap (λ (k : Number). tell-number k words) g
+
+  pub words-few : (r : Words) → length words < 9 → reply 1 words tt ≡ tell-words r words
+  unfolding tell-words node-words details
+  words-few r h = too-few (r .answer) (node-words r) words tt tt h
+
+  pub words-told : {r k : Words} {n : ℕ} {w : List ℕ} → 9 ≤ length words → (n ≡ answer-numbers (r .answer) .0) × (w ≡ sets words 0 (node-words r)) → r ≡ k → reply n w tt ≡ tell-words k words
+  unfolding tell-words node-words details
+  words-told {r = r} h e g = enough (r .answer) (node-words r) words tt tt h e ∙ ap (λ (k : Words). tell-words k words) g
+
+  pub name-few : (r : Name) → length words < 4 → reply 1 words tt ≡ tell-name r words
+  unfolding tell-name name-words details
+  name-few r h = too-few (r .answer) (name-words r) words tt tt h
+
+  pub name-told : {r k : Name} {n : ℕ} {w : List ℕ} → 4 ≤ length words → (n ≡ answer-numbers (r .answer) .0) × (w ≡ sets words 0 (name-words r)) → r ≡ k → reply n w tt ≡ tell-name k words
+  unfolding tell-name name-words details
+  name-told {r = r} h e g = enough (r .answer) (name-words r) words tt tt h e ∙ ap (λ (k : Name). tell-name k words) g

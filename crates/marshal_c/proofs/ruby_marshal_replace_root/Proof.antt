@@ -1,0 +1,25 @@
+-- The proof of ruby_marshal_replace_root.
+use borrow.Author.Needs.{needs}
+use Rattle.marshal_c.proofs.Laws.{build-few, build-told}
+use Rattle.marshal_c.proofs.ruby_marshal_replace_root.Statement.{statement}
+use Rattle.marshal_c.proofs.ruby_marshal_replace_root.Tie as tie
+
+returns : tie.Need-returns
+returns c = build-few _ _ _ (c .if1 .taken)
+
+replace-root-requires : tie.Need-replace-root-requires
+replace-root-requires c κs = search needs
+
+tell-created-requires : tie.Need-tell-created-requires
+tell-created-requires c κs = search needs
+
+same-length : tie.Need-same-length
+same-length c = search needs
+
+returns-2 : tie.Need-returns-2
+returns-2 c =
+    build-told _ _ (c .before .before .before .before .before .if1 .left) (c .before .before .tell-created .ensures) (c .before .before .before .before .replace-root .ensures)
+
+pub ruby-marshal-replace-root-spec : {M : Type 1} → statement M
+ruby-marshal-replace-root-spec =
+    tie.close (tie.spec returns replace-root-requires tell-created-requires same-length returns-2)

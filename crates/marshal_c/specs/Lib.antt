@@ -1,0 +1,2 @@
+-- What each function for C returns and leaves.
+pub mod Reply

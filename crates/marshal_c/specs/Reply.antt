@@ -1,0 +1,110 @@
+-- What a function for C returns and leaves: the answer's number, the answer words, and everything else lent as it then stands.
+use Prim.Native.Nat.{ℕ, _-_}
+use mathlib.Core.List.{List, [], _∷_, _++_}
+use lib.Dec.{leb}
+use lib.IntN.{ℤ, pos, negsuc}
+use lib.ListN.{length, getD}
+use lib.Seq.{sets}
+use Rattle.definition.specs.Run.{pick}
+use Rattle.definition.specs.Refused.{answer-numbers}
+use Rattle.definition.specs.Arena.{Tables}
+use Rattle.definition.specs.Load.{Lists, LoadCall}
+use Rattle.definition.specs.Dump.{DumpCall}
+use Rattle.definition.specs.Build.{BuildCall, NewCall}
+use Rattle.definition.specs.declared.Answer.{Answer}
+use Rattle.definition.specs.declared.Begun.{Begun}
+use Rattle.definition.specs.declared.Counts.{Counts}
+use Rattle.definition.specs.declared.Created.{Created}
+use Rattle.definition.specs.declared.Dumped.{Dumped}
+use Rattle.definition.specs.declared.Loaded.{Loaded}
+use Rattle.definition.specs.declared.Name.{Name}
+use Rattle.definition.specs.declared.Number.{Number}
+use Rattle.definition.specs.declared.Words.{Words}
+
+-- ---- the answer words: 0 and 1 the details, then what else the call answers, counts first
+
+-- a detail as a word: 64 bits in two's complement
+unfoldable pub word : ℤ → ℕ
+word (pos n) = n
+word (negsuc n) = 18446744073709551615 - n
+
+-- words 0 and 1: both details, 0 where the call is accepted
+unfoldable pub details : Answer → List ℕ
+details a = word (answer-numbers a .1) ∷ word (answer-numbers a .2) ∷ []
+
+-- words 2 to 5: nodes, references, bytes, root
+unfoldable pub count-words : Counts → List ℕ
+count-words c = c .nodes ∷ c .references ∷ c .bytes ∷ c .root ∷ []
+
+-- load: then the bytes used
+unfoldable pub loaded-words : Loaded → List ℕ
+loaded-words r = details (r .answer) ++ count-words (r .counts) ++ (r .used ∷ [])
+
+-- dump: the bytes written
+unfoldable pub dumped-words : Dumped → List ℕ
+dumped-words r = details (r .answer) ++ (r .written ∷ [])
+
+-- new: the counts
+unfoldable pub begun-words : Begun → List ℕ
+begun-words r = details (r .answer) ++ count-words (r .counts)
+
+-- root and kind: the number
+unfoldable pub number-words : Number → List ℕ
+number-words r = details (r .answer) ++ (r .value ∷ [])
+
+-- get: the node's seven words
+unfoldable pub node-words : Words → List ℕ
+node-words r = details (r .answer) ++ (getD (r .words) 0 0 ∷ getD (r .words) 1 0 ∷ getD (r .words) 2 0 ∷ getD (r .words) 3 0 ∷ getD (r .words) 4 0 ∷ getD (r .words) 5 0 ∷ getD (r .words) 6 0 ∷ [])
+
+-- get_symbol: byte start and length
+unfoldable pub name-words : Name → List ℕ
+name-words r = details (r .answer) ++ (r .start ∷ r .length ∷ [])
+
+-- create_* and replace_root: the counts, then the new node or the old root
+unfoldable pub created-words : Created → List ℕ
+created-words r = details (r .answer) ++ count-words (r .counts) ++ (r .handle ∷ [])
+
+-- ---- the reply
+
+-- the three tables as lent
+abbrev pub tables : List ℕ → List ℕ → List ℕ → Tables
+tables n r b = record { nodes = n; references = r; bytes = b }
+
+-- what is returned, the answer words, and everything else lent
+pub record Reply (L : Type 0) : Type 0 where
+  pub returned : ℕ
+  pub words : List ℕ
+  pub lent : L
+
+-- the three put together
+abbrev pub reply : {L : Type 0} → ℕ → List ℕ → L → Reply L
+reply n words lent = record { returned = n; words = words; lent = lent }
+
+-- the answer's number is returned, and its words ws stand first among the answer words; those past them stay as they were. Where fewer are lent than ws has, 1 (BAD-TABLES) is returned, and nothing is touched
+unfoldable pub tell : {L : Type 0} → Answer → List ℕ → List ℕ → L → L → Reply L
+tell a ws words before after = pick (leb (length ws) (length words)) (reply (answer-numbers a .0) (sets words 0 ws) after) (reply 1 words before)
+
+-- load's call over the answer words; T is what was lent
+unfoldable pub tell-load : LoadCall → Lists → List ℕ → Reply Lists
+tell-load k T words = tell (k .answer .answer) (loaded-words (k .answer)) words T (k .lent)
+
+-- dump's; lent are scratch and output
+unfoldable pub tell-dump : DumpCall → List ℕ → List ℕ → List ℕ → Reply (List ℕ × List ℕ)
+tell-dump k scratch output words = tell (k .answer .answer) (dumped-words (k .answer)) words (scratch, output) (k .scratch, k .output)
+
+-- new's, and a builder's
+unfoldable pub tell-new : NewCall → Tables → List ℕ → Reply Tables
+tell-new k T words = tell (k .answer .answer) (begun-words (k .answer)) words T (k .tables)
+
+unfoldable pub tell-build : BuildCall → Tables → List ℕ → Reply Tables
+tell-build k T words = tell (k .answer .answer) (created-words (k .answer)) words T (k .tables)
+
+-- a getter's, which changes nothing else
+unfoldable pub tell-number : Number → List ℕ → Reply (Unit {0})
+tell-number r words = tell (r .answer) (number-words r) words tt tt
+
+unfoldable pub tell-words : Words → List ℕ → Reply (Unit {0})
+tell-words r words = tell (r .answer) (node-words r) words tt tt
+
+unfoldable pub tell-name : Name → List ℕ → Reply (Unit {0})
+tell-name r words = tell (r .answer) (name-words r) words tt tt

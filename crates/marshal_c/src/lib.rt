@@ -1,0 +1,686 @@
+// load, dump, and the arena's getters and builder, for programs in C and in languages that call C.
+//
+// A slice is a pointer and a length there, and the counts are four numbers. The answer's number is returned, 0 where the call
+// is accepted. Its two details and what else the call answers go into the answer words (specs/Reply). Fewer of them than a
+// call writes are refused with 1, and nothing is touched then.
+use definition::Answer;
+use definition::Begun;
+use definition::Counts;
+use definition::Created;
+use definition::Dumped;
+use definition::Loaded;
+use definition::Name;
+use definition::Number;
+use definition::Words;
+use dump::dump;
+use load::load;
+use refusal::answer_numbers;
+use value_arena::create_array;
+use value_arena::create_bool;
+use value_arena::create_fixnum;
+use value_arena::create_hash;
+use value_arena::create_new_symbol;
+use value_arena::create_nil;
+use value_arena::create_object;
+use value_arena::create_string;
+use value_arena::create_symbol;
+use value_arena::create_user_defined;
+use value_arena::get;
+use value_arena::get_symbol;
+use value_arena::kind;
+use value_arena::new;
+use value_arena::replace_root;
+ghost use mathlib.Core.Path.{_≡_};
+ghost use mathlib.Core.List.{List, [], _∷_};
+ghost use Prim.Native.Nat.{ℕ, _≤_};
+ghost use lib.ListN.{length};
+ghost use lib.Seq.{sets};
+ghost use Rattle.definition.specs.Refused.{answer-numbers};
+ghost use Rattle.definition.specs.Arena.{Tables};
+ghost use Rattle.definition.specs.Load.{Lists, lists, counts, load-call};
+ghost use Rattle.definition.specs.Dump.{dump-call};
+ghost use Rattle.definition.specs.Build.{lent, build-call, new-call, number-done, words-done, name-done, get-words, get-kind, get-name, get-root, exchange-root, create-nil, create-bool, create-fixnum, create-new-symbol, create-symbol, create-array, create-hash, create-object, create-string, create-user-defined};
+ghost use Rattle.refusal.specs.Shown.{integer};
+ghost use Rattle.marshal_c.specs.Reply.{word, details, count-words, loaded-words, dumped-words, begun-words, number-words, node-words, name-words, created-words, tables, reply, tell-load, tell-dump, tell-new, tell-build, tell-number, tell-words, tell-name};
+
+// Too few answer words: BAD-TABLES.
+const BAD_TABLES: u32 = 1;
+
+// How many answer words each kind of answer takes.
+const LOADED: usize = 7;
+
+const DUMPED: usize = 3;
+
+const BEGUN: usize = 6;
+
+const NUMBER: usize = 3;
+
+const WORDS: usize = 9;
+
+const NAME: usize = 4;
+
+const CREATED: usize = 7;
+
+// ---- the answer words
+
+// A number with its sign apart, as 64 bits in two's complement. (Below 0 it is never 0; the definition reads that as −1.)
+fn detail(below: bool, n: u32) -> u64
+    ensures { λ r. ⌜ r ≡ word (integer below n) ⌝ }
+{
+    let size = n as u64;
+    if below {
+        if size == 0 {
+            return 18446744073709551615;
+        }
+        return 18446744073709551615 - (size - 1);
+    }
+    size
+}
+
+// Words 0 and 1; the answer's number is returned.
+fn tell(answer: &mut [u64], a: Answer) -> u32
+    requires { ⌜ 2 ≤ length (now answer) ⌝ }
+    ensures { λ r. ⌜ (r ≡ answer-numbers a .0) × (now (answer .exit) ≡ sets (now (answer .entry)) 0 (details a)) ⌝ }
+{
+    let n = answer_numbers(a);
+    let first = detail(n.below, n.first);
+    answer[0] = first;
+    answer[1] = n.second as u64;
+    n.number
+}
+
+// Words 2 to 5.
+fn tell_counts(answer: &mut [u64], c: Counts)
+    requires { ⌜ 6 ≤ length (now answer) ⌝ }
+    ensures { λ _. ⌜ now (answer .exit) ≡ sets (now (answer .entry)) 2 (count-words c) ⌝ }
+{
+    answer[2] = c.nodes as u64;
+    answer[3] = c.references as u64;
+    answer[4] = c.bytes as u64;
+    answer[5] = c.root as u64;
+}
+
+// Words 2 to 8.
+fn tell_seven(answer: &mut [u64], a: u32, b: u32, c: u32, d: u32, e: u32, f: u32, g: u32)
+    requires { ⌜ 9 ≤ length (now answer) ⌝ }
+    ensures { λ _. ⌜ now (answer .exit) ≡ sets (now (answer .entry)) 2 (a ∷ b ∷ c ∷ d ∷ e ∷ f ∷ g ∷ []) ⌝ }
+{
+    answer[2] = a as u64;
+    answer[3] = b as u64;
+    answer[4] = c as u64;
+    answer[5] = d as u64;
+    answer[6] = e as u64;
+    answer[7] = f as u64;
+    answer[8] = g as u64;
+}
+
+// Each kind of answer: its words, and its number.
+fn tell_loaded(answer: &mut [u64], r: Loaded) -> u32
+    requires { ⌜ 7 ≤ length (now answer) ⌝ }
+    ensures { λ n. ⌜ (n ≡ answer-numbers (r .answer) .0) × (now (answer .exit) ≡ sets (now (answer .entry)) 0 (loaded-words r)) ⌝ }
+{
+    let a = r.answer;
+    let c = r.counts;
+    let n = tell(answer, a);
+    tell_counts(answer, c);
+    answer[6] = r.used as u64;
+    n
+}
+
+fn tell_dumped(answer: &mut [u64], r: Dumped) -> u32
+    requires { ⌜ 3 ≤ length (now answer) ⌝ }
+    ensures { λ n. ⌜ (n ≡ answer-numbers (r .answer) .0) × (now (answer .exit) ≡ sets (now (answer .entry)) 0 (dumped-words r)) ⌝ }
+{
+    let a = r.answer;
+    let n = tell(answer, a);
+    answer[2] = r.written as u64;
+    n
+}
+
+fn tell_begun(answer: &mut [u64], r: Begun) -> u32
+    requires { ⌜ 6 ≤ length (now answer) ⌝ }
+    ensures { λ n. ⌜ (n ≡ answer-numbers (r .answer) .0) × (now (answer .exit) ≡ sets (now (answer .entry)) 0 (begun-words r)) ⌝ }
+{
+    let a = r.answer;
+    let c = r.counts;
+    let n = tell(answer, a);
+    tell_counts(answer, c);
+    n
+}
+
+fn tell_number(answer: &mut [u64], r: Number) -> u32
+    requires { ⌜ 3 ≤ length (now answer) ⌝ }
+    ensures { λ n. ⌜ (n ≡ answer-numbers (r .answer) .0) × (now (answer .exit) ≡ sets (now (answer .entry)) 0 (number-words r)) ⌝ }
+{
+    let a = r.answer;
+    let n = tell(answer, a);
+    answer[2] = r.value as u64;
+    n
+}
+
+fn tell_words(answer: &mut [u64], r: Words) -> u32
+    requires { ⌜ 9 ≤ length (now answer) ⌝ }
+    ensures { λ n. ⌜ (n ≡ answer-numbers (r .answer) .0) × (now (answer .exit) ≡ sets (now (answer .entry)) 0 (node-words r)) ⌝ }
+{
+    let a = r.answer;
+    let w = r.words;
+    let n = tell(answer, a);
+    tell_seven(answer, w[0], w[1], w[2], w[3], w[4], w[5], w[6]);
+    n
+}
+
+fn tell_name(answer: &mut [u64], r: Name) -> u32
+    requires { ⌜ 4 ≤ length (now answer) ⌝ }
+    ensures { λ n. ⌜ (n ≡ answer-numbers (r .answer) .0) × (now (answer .exit) ≡ sets (now (answer .entry)) 0 (name-words r)) ⌝ }
+{
+    let a = r.answer;
+    let n = tell(answer, a);
+    answer[2] = r.start as u64;
+    answer[3] = r.length as u64;
+    n
+}
+
+fn tell_created(answer: &mut [u64], r: Created) -> u32
+    requires { ⌜ 7 ≤ length (now answer) ⌝ }
+    ensures { λ n. ⌜ (n ≡ answer-numbers (r .answer) .0) × (now (answer .exit) ≡ sets (now (answer .entry)) 0 (created-words r)) ⌝ }
+{
+    let a = r.answer;
+    let c = r.counts;
+    let n = tell(answer, a);
+    tell_counts(answer, c);
+    answer[6] = r.handle as u64;
+    n
+}
+
+// ---- load and dump
+
+#[no_mangle]
+pub extern "C" fn ruby_marshal_load(
+    input: &[u8],
+    nodes: &mut [u32],
+    references: &mut [u32],
+    bytes: &mut [u8],
+    symbols: &mut [u32],
+    objects: &mut [u32],
+    limit: u32,
+    answer: &mut [u64],
+) -> u32
+    ensures { λ r. ⌜ reply r (now (answer .exit)) (lists (now (nodes .exit)) (now (references .exit)) (now (bytes .exit)) (now (symbols .exit)) (now (objects .exit))) ≡ tell-load (load-call (now (input .entry)) (lists (now (nodes .entry)) (now (references .entry)) (now (bytes .entry)) (now (symbols .entry)) (now (objects .entry))) limit) (lists (now (nodes .entry)) (now (references .entry)) (now (bytes .entry)) (now (symbols .entry)) (now (objects .entry))) (now (answer .entry)) ⌝ }
+{
+    if answer.len() < LOADED {
+        return BAD_TABLES;
+    }
+    let r = load(
+        &input[..],
+        nodes,
+        references,
+        bytes,
+        symbols,
+        objects,
+        limit,
+    );
+    tell_loaded(answer, r)
+}
+
+#[no_mangle]
+pub extern "C" fn ruby_marshal_dump(
+    nodes: &[u32],
+    references: &[u32],
+    bytes: &[u8],
+    node_count: usize,
+    reference_count: usize,
+    byte_count: usize,
+    root: u32,
+    scratch: &mut [u32],
+    output: &mut [u8],
+    limit: u32,
+    answer: &mut [u64],
+) -> u32
+    ensures { λ r. ⌜ reply r (now (answer .exit)) (now (scratch .exit), now (output .exit)) ≡ tell-dump (dump-call (tables (now (nodes .entry)) (now (references .entry)) (now (bytes .entry))) (counts «node_count» «reference_count» «byte_count» root) (now (scratch .entry)) (now (output .entry)) limit) (now (scratch .entry)) (now (output .entry)) (now (answer .entry)) ⌝ }
+{
+    if answer.len() < DUMPED {
+        return BAD_TABLES;
+    }
+    let c = Counts {
+        nodes: node_count,
+        references: reference_count,
+        bytes: byte_count,
+        root: root,
+    };
+    let r = dump(
+        &nodes[..],
+        &references[..],
+        &bytes[..],
+        c,
+        scratch,
+        output,
+        limit,
+    );
+    tell_dumped(answer, r)
+}
+
+// ---- getters
+
+#[no_mangle]
+pub extern "C" fn ruby_marshal_root(
+    nodes: &[u32],
+    references: &[u32],
+    bytes: &[u8],
+    node_count: usize,
+    reference_count: usize,
+    byte_count: usize,
+    root: u32,
+    answer: &mut [u64],
+) -> u32
+    ensures { λ r. ⌜ reply r (now (answer .exit)) tt ≡ tell-number (number-done (get-root (lent (now (nodes .entry)) (now (references .entry)) (now (bytes .entry)) (counts «node_count» «reference_count» «byte_count» root)))) (now (answer .entry)) ⌝ }
+{
+    if answer.len() < NUMBER {
+        return BAD_TABLES;
+    }
+    let c = Counts {
+        nodes: node_count,
+        references: reference_count,
+        bytes: byte_count,
+        root: root,
+    };
+    let r = value_arena::root(&nodes[..], &references[..], &bytes[..], c);
+    tell_number(answer, r)
+}
+
+#[no_mangle]
+pub extern "C" fn ruby_marshal_kind(
+    nodes: &[u32],
+    references: &[u32],
+    bytes: &[u8],
+    node_count: usize,
+    reference_count: usize,
+    byte_count: usize,
+    root: u32,
+    handle: u32,
+    answer: &mut [u64],
+) -> u32
+    ensures { λ r. ⌜ reply r (now (answer .exit)) tt ≡ tell-number (number-done (get-kind handle (lent (now (nodes .entry)) (now (references .entry)) (now (bytes .entry)) (counts «node_count» «reference_count» «byte_count» root)))) (now (answer .entry)) ⌝ }
+{
+    if answer.len() < NUMBER {
+        return BAD_TABLES;
+    }
+    let c = Counts {
+        nodes: node_count,
+        references: reference_count,
+        bytes: byte_count,
+        root: root,
+    };
+    let r = kind(&nodes[..], &references[..], &bytes[..], c, handle);
+    tell_number(answer, r)
+}
+
+#[no_mangle]
+pub extern "C" fn ruby_marshal_get(
+    nodes: &[u32],
+    references: &[u32],
+    bytes: &[u8],
+    node_count: usize,
+    reference_count: usize,
+    byte_count: usize,
+    root: u32,
+    handle: u32,
+    answer: &mut [u64],
+) -> u32
+    ensures { λ r. ⌜ reply r (now (answer .exit)) tt ≡ tell-words (words-done (get-words handle (lent (now (nodes .entry)) (now (references .entry)) (now (bytes .entry)) (counts «node_count» «reference_count» «byte_count» root)))) (now (answer .entry)) ⌝ }
+{
+    if answer.len() < WORDS {
+        return BAD_TABLES;
+    }
+    let c = Counts {
+        nodes: node_count,
+        references: reference_count,
+        bytes: byte_count,
+        root: root,
+    };
+    let r = get(&nodes[..], &references[..], &bytes[..], c, handle);
+    tell_words(answer, r)
+}
+
+#[no_mangle]
+pub extern "C" fn ruby_marshal_get_symbol(
+    nodes: &[u32],
+    references: &[u32],
+    bytes: &[u8],
+    node_count: usize,
+    reference_count: usize,
+    byte_count: usize,
+    root: u32,
+    handle: u32,
+    answer: &mut [u64],
+) -> u32
+    ensures { λ r. ⌜ reply r (now (answer .exit)) tt ≡ tell-name (name-done (get-name handle (lent (now (nodes .entry)) (now (references .entry)) (now (bytes .entry)) (counts «node_count» «reference_count» «byte_count» root)))) (now (answer .entry)) ⌝ }
+{
+    if answer.len() < NAME {
+        return BAD_TABLES;
+    }
+    let c = Counts {
+        nodes: node_count,
+        references: reference_count,
+        bytes: byte_count,
+        root: root,
+    };
+    let r = get_symbol(&nodes[..], &references[..], &bytes[..], c, handle);
+    tell_name(answer, r)
+}
+
+// ---- builder
+
+#[no_mangle]
+pub extern "C" fn ruby_marshal_new(
+    nodes: &mut [u32],
+    references: &mut [u32],
+    bytes: &mut [u8],
+    answer: &mut [u64],
+) -> u32
+    ensures { λ r. ⌜ reply r (now (answer .exit)) (tables (now (nodes .exit)) (now (references .exit)) (now (bytes .exit))) ≡ tell-new (new-call (tables (now (nodes .entry)) (now (references .entry)) (now (bytes .entry)))) (tables (now (nodes .entry)) (now (references .entry)) (now (bytes .entry))) (now (answer .entry)) ⌝ }
+{
+    if answer.len() < BEGUN {
+        return BAD_TABLES;
+    }
+    let r = new(nodes, references, bytes);
+    tell_begun(answer, r)
+}
+
+#[no_mangle]
+pub extern "C" fn ruby_marshal_replace_root(
+    nodes: &[u32],
+    references: &[u32],
+    bytes: &[u8],
+    node_count: usize,
+    reference_count: usize,
+    byte_count: usize,
+    root: u32,
+    handle: u32,
+    answer: &mut [u64],
+) -> u32
+    ensures { λ r. ⌜ reply r (now (answer .exit)) (tables (now (nodes .entry)) (now (references .entry)) (now (bytes .entry))) ≡ tell-build (build-call (exchange-root handle) (lent (now (nodes .entry)) (now (references .entry)) (now (bytes .entry)) (counts «node_count» «reference_count» «byte_count» root))) (tables (now (nodes .entry)) (now (references .entry)) (now (bytes .entry))) (now (answer .entry)) ⌝ }
+{
+    if answer.len() < CREATED {
+        return BAD_TABLES;
+    }
+    let c = Counts {
+        nodes: node_count,
+        references: reference_count,
+        bytes: byte_count,
+        root: root,
+    };
+    let r = replace_root(&nodes[..], &references[..], &bytes[..], c, handle);
+    tell_created(answer, r)
+}
+
+#[no_mangle]
+pub extern "C" fn ruby_marshal_create_nil(
+    nodes: &mut [u32],
+    references: &[u32],
+    bytes: &[u8],
+    node_count: usize,
+    reference_count: usize,
+    byte_count: usize,
+    root: u32,
+    answer: &mut [u64],
+) -> u32
+    ensures { λ r. ⌜ reply r (now (answer .exit)) (tables (now (nodes .exit)) (now (references .entry)) (now (bytes .entry))) ≡ tell-build (build-call create-nil (lent (now (nodes .entry)) (now (references .entry)) (now (bytes .entry)) (counts «node_count» «reference_count» «byte_count» root))) (tables (now (nodes .entry)) (now (references .entry)) (now (bytes .entry))) (now (answer .entry)) ⌝ }
+{
+    if answer.len() < CREATED {
+        return BAD_TABLES;
+    }
+    let c = Counts {
+        nodes: node_count,
+        references: reference_count,
+        bytes: byte_count,
+        root: root,
+    };
+    let r = create_nil(nodes, &references[..], &bytes[..], c);
+    tell_created(answer, r)
+}
+
+#[no_mangle]
+pub extern "C" fn ruby_marshal_create_bool(
+    nodes: &mut [u32],
+    references: &[u32],
+    bytes: &[u8],
+    node_count: usize,
+    reference_count: usize,
+    byte_count: usize,
+    root: u32,
+    value: bool,
+    answer: &mut [u64],
+) -> u32
+    ensures { λ r. ⌜ reply r (now (answer .exit)) (tables (now (nodes .exit)) (now (references .entry)) (now (bytes .entry))) ≡ tell-build (build-call (create-bool value) (lent (now (nodes .entry)) (now (references .entry)) (now (bytes .entry)) (counts «node_count» «reference_count» «byte_count» root))) (tables (now (nodes .entry)) (now (references .entry)) (now (bytes .entry))) (now (answer .entry)) ⌝ }
+{
+    if answer.len() < CREATED {
+        return BAD_TABLES;
+    }
+    let c = Counts {
+        nodes: node_count,
+        references: reference_count,
+        bytes: byte_count,
+        root: root,
+    };
+    let r = create_bool(nodes, &references[..], &bytes[..], c, value);
+    tell_created(answer, r)
+}
+
+#[no_mangle]
+pub extern "C" fn ruby_marshal_create_fixnum(
+    nodes: &mut [u32],
+    references: &[u32],
+    bytes: &[u8],
+    node_count: usize,
+    reference_count: usize,
+    byte_count: usize,
+    root: u32,
+    value: i32,
+    answer: &mut [u64],
+) -> u32
+    ensures { λ r. ⌜ reply r (now (answer .exit)) (tables (now (nodes .exit)) (now (references .entry)) (now (bytes .entry))) ≡ tell-build (build-call (create-fixnum value) (lent (now (nodes .entry)) (now (references .entry)) (now (bytes .entry)) (counts «node_count» «reference_count» «byte_count» root))) (tables (now (nodes .entry)) (now (references .entry)) (now (bytes .entry))) (now (answer .entry)) ⌝ }
+{
+    if answer.len() < CREATED {
+        return BAD_TABLES;
+    }
+    let c = Counts {
+        nodes: node_count,
+        references: reference_count,
+        bytes: byte_count,
+        root: root,
+    };
+    let r = create_fixnum(nodes, &references[..], &bytes[..], c, value);
+    tell_created(answer, r)
+}
+
+#[no_mangle]
+pub extern "C" fn ruby_marshal_create_new_symbol(
+    nodes: &mut [u32],
+    references: &[u32],
+    bytes: &mut [u8],
+    node_count: usize,
+    reference_count: usize,
+    byte_count: usize,
+    root: u32,
+    name: &[u8],
+    answer: &mut [u64],
+) -> u32
+    ensures { λ r. ⌜ reply r (now (answer .exit)) (tables (now (nodes .exit)) (now (references .entry)) (now (bytes .exit))) ≡ tell-build (build-call (create-new-symbol (now (name .entry))) (lent (now (nodes .entry)) (now (references .entry)) (now (bytes .entry)) (counts «node_count» «reference_count» «byte_count» root))) (tables (now (nodes .entry)) (now (references .entry)) (now (bytes .entry))) (now (answer .entry)) ⌝ }
+{
+    if answer.len() < CREATED {
+        return BAD_TABLES;
+    }
+    let c = Counts {
+        nodes: node_count,
+        references: reference_count,
+        bytes: byte_count,
+        root: root,
+    };
+    let r = create_new_symbol(nodes, &references[..], bytes, c, &name[..]);
+    tell_created(answer, r)
+}
+
+#[no_mangle]
+pub extern "C" fn ruby_marshal_create_symbol(
+    nodes: &mut [u32],
+    references: &[u32],
+    bytes: &mut [u8],
+    node_count: usize,
+    reference_count: usize,
+    byte_count: usize,
+    root: u32,
+    name: &[u8],
+    answer: &mut [u64],
+) -> u32
+    ensures { λ r. ⌜ reply r (now (answer .exit)) (tables (now (nodes .exit)) (now (references .entry)) (now (bytes .exit))) ≡ tell-build (build-call (create-symbol (now (name .entry))) (lent (now (nodes .entry)) (now (references .entry)) (now (bytes .entry)) (counts «node_count» «reference_count» «byte_count» root))) (tables (now (nodes .entry)) (now (references .entry)) (now (bytes .entry))) (now (answer .entry)) ⌝ }
+{
+    if answer.len() < CREATED {
+        return BAD_TABLES;
+    }
+    let c = Counts {
+        nodes: node_count,
+        references: reference_count,
+        bytes: byte_count,
+        root: root,
+    };
+    let r = create_symbol(nodes, &references[..], bytes, c, &name[..]);
+    tell_created(answer, r)
+}
+
+#[no_mangle]
+pub extern "C" fn ruby_marshal_create_array(
+    nodes: &mut [u32],
+    references: &mut [u32],
+    bytes: &[u8],
+    node_count: usize,
+    reference_count: usize,
+    byte_count: usize,
+    root: u32,
+    members: &[u32],
+    answer: &mut [u64],
+) -> u32
+    ensures { λ r. ⌜ reply r (now (answer .exit)) (tables (now (nodes .exit)) (now (references .exit)) (now (bytes .entry))) ≡ tell-build (build-call (create-array (now (members .entry))) (lent (now (nodes .entry)) (now (references .entry)) (now (bytes .entry)) (counts «node_count» «reference_count» «byte_count» root))) (tables (now (nodes .entry)) (now (references .entry)) (now (bytes .entry))) (now (answer .entry)) ⌝ }
+{
+    if answer.len() < CREATED {
+        return BAD_TABLES;
+    }
+    let c = Counts {
+        nodes: node_count,
+        references: reference_count,
+        bytes: byte_count,
+        root: root,
+    };
+    let r = create_array(nodes, references, &bytes[..], c, &members[..]);
+    tell_created(answer, r)
+}
+
+#[no_mangle]
+pub extern "C" fn ruby_marshal_create_hash(
+    nodes: &mut [u32],
+    references: &mut [u32],
+    bytes: &[u8],
+    node_count: usize,
+    reference_count: usize,
+    byte_count: usize,
+    root: u32,
+    pairs: &[u32],
+    default: u32,
+    answer: &mut [u64],
+) -> u32
+    ensures { λ r. ⌜ reply r (now (answer .exit)) (tables (now (nodes .exit)) (now (references .exit)) (now (bytes .entry))) ≡ tell-build (build-call (create-hash (now (pairs .entry)) default) (lent (now (nodes .entry)) (now (references .entry)) (now (bytes .entry)) (counts «node_count» «reference_count» «byte_count» root))) (tables (now (nodes .entry)) (now (references .entry)) (now (bytes .entry))) (now (answer .entry)) ⌝ }
+{
+    if answer.len() < CREATED {
+        return BAD_TABLES;
+    }
+    let c = Counts {
+        nodes: node_count,
+        references: reference_count,
+        bytes: byte_count,
+        root: root,
+    };
+    let r = create_hash(nodes, references, &bytes[..], c, &pairs[..], default);
+    tell_created(answer, r)
+}
+
+#[no_mangle]
+pub extern "C" fn ruby_marshal_create_object(
+    nodes: &mut [u32],
+    references: &mut [u32],
+    bytes: &[u8],
+    node_count: usize,
+    reference_count: usize,
+    byte_count: usize,
+    root: u32,
+    name: u32,
+    pairs: &[u32],
+    answer: &mut [u64],
+) -> u32
+    ensures { λ r. ⌜ reply r (now (answer .exit)) (tables (now (nodes .exit)) (now (references .exit)) (now (bytes .entry))) ≡ tell-build (build-call (create-object name (now (pairs .entry))) (lent (now (nodes .entry)) (now (references .entry)) (now (bytes .entry)) (counts «node_count» «reference_count» «byte_count» root))) (tables (now (nodes .entry)) (now (references .entry)) (now (bytes .entry))) (now (answer .entry)) ⌝ }
+{
+    if answer.len() < CREATED {
+        return BAD_TABLES;
+    }
+    let c = Counts {
+        nodes: node_count,
+        references: reference_count,
+        bytes: byte_count,
+        root: root,
+    };
+    let r = create_object(nodes, references, &bytes[..], c, name, &pairs[..]);
+    tell_created(answer, r)
+}
+
+#[no_mangle]
+pub extern "C" fn ruby_marshal_create_string(
+    nodes: &mut [u32],
+    references: &[u32],
+    bytes: &mut [u8],
+    node_count: usize,
+    reference_count: usize,
+    byte_count: usize,
+    root: u32,
+    value: &[u8],
+    answer: &mut [u64],
+) -> u32
+    ensures { λ r. ⌜ reply r (now (answer .exit)) (tables (now (nodes .exit)) (now (references .entry)) (now (bytes .exit))) ≡ tell-build (build-call (create-string (now (value .entry))) (lent (now (nodes .entry)) (now (references .entry)) (now (bytes .entry)) (counts «node_count» «reference_count» «byte_count» root))) (tables (now (nodes .entry)) (now (references .entry)) (now (bytes .entry))) (now (answer .entry)) ⌝ }
+{
+    if answer.len() < CREATED {
+        return BAD_TABLES;
+    }
+    let c = Counts {
+        nodes: node_count,
+        references: reference_count,
+        bytes: byte_count,
+        root: root,
+    };
+    let r = create_string(nodes, &references[..], bytes, c, &value[..]);
+    tell_created(answer, r)
+}
+
+#[no_mangle]
+pub extern "C" fn ruby_marshal_create_user_defined(
+    nodes: &mut [u32],
+    references: &[u32],
+    bytes: &mut [u8],
+    node_count: usize,
+    reference_count: usize,
+    byte_count: usize,
+    root: u32,
+    name: u32,
+    value: &[u8],
+    answer: &mut [u64],
+) -> u32
+    ensures { λ r. ⌜ reply r (now (answer .exit)) (tables (now (nodes .exit)) (now (references .entry)) (now (bytes .exit))) ≡ tell-build (build-call (create-user-defined name (now (value .entry))) (lent (now (nodes .entry)) (now (references .entry)) (now (bytes .entry)) (counts «node_count» «reference_count» «byte_count» root))) (tables (now (nodes .entry)) (now (references .entry)) (now (bytes .entry))) (now (answer .entry)) ⌝ }
+{
+    if answer.len() < CREATED {
+        return BAD_TABLES;
+    }
+    let c = Counts {
+        nodes: node_count,
+        references: reference_count,
+        bytes: byte_count,
+        root: root,
+    };
+    let r = create_user_defined(nodes, &references[..], bytes, c, name, &value[..]);
+    tell_created(answer, r)
+}

@@ -1,0 +1,46 @@
+-- The proof of byte_from.
+use borrow.Author.Needs.{needs}
+use native.Mathlib.Omega.{arith}
+use Prim.Native.Nat.{_+_}
+use mathlib.Core.Path.{ap, _∙_}
+use Rattle.reader.specs.From.{taken-as, not-taken, no-text}
+use Rattle.reader.proofs.Froms.{byte-there, byte-none}
+use Rattle.reader.proofs.byte_from.Statement.{statement}
+use Rattle.reader.proofs.byte_from.Tie as tie
+
+shared-slice-read-byte : tie.Need-shared-slice-read-byte
+shared-slice-read-byte c = search needs
+
+byte-requires : tie.Need-byte-requires
+byte-requires c κs = search needs
+
+add-took : tie.Need-add-took
+add-took c = search needs
+
+took-requires : tie.Need-took-requires
+took-requires c κs = search needs
+
+returns : tie.Need-returns
+returns c =
+    let a = c .before .before .before .before .before .args in
+    c .took .ensures ∙ ap (λ b. taken-as b (a .at + 1)) (c .before .byte .ensures .0) ∙ byte-there (a .input .now) (a .at) (c .before .before .before .if1 .taken)
+
+short-requires : tie.Need-short-requires
+short-requires c κs = search needs
+
+returns-2 : tie.Need-returns-2
+returns-2 c =
+    let a = c .before .before .before .args in
+    c .short .ensures ∙ byte-none (a .input .now) (a .at) (c .before .if1 .left)
+
+pub byte-from-spec : {M : Type 1} → statement M
+byte-from-spec =
+    tie.close
+    (tie.spec
+    shared-slice-read-byte
+    byte-requires
+    add-took
+    took-requires
+    returns
+    short-requires
+    returns-2)

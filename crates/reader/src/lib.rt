@@ -1,0 +1,394 @@
+// What stands in the input at an offset: integers and the header; the numbers that readers answer; and the reader, an input
+// with an offset.
+use definition::Answer;
+use definition::Refusal;
+use definition::Taken;
+use definition::Text;
+ghost use mathlib.Core.Path.{_≡_};
+ghost use mathlib.Core.List.{List};
+ghost use Prim.Native.Nat.{ℕ, _+_, _-_, _*_, _^_, _<_, _≤_};
+ghost use lib.ListN.{length, getD, take, drop};
+ghost use Rattle.definition.specs.Integer.{value, form};
+ghost use Rattle.definition.specs.Integer as integer;
+ghost use Rattle.definition.specs.Load.{read-header};
+ghost use Rattle.definition.specs.Reader.{left, next-byte, next-header, next-integer, next-byte-string};
+ghost use Rattle.reader.specs.Answers.{refusal-at, coded, Reads};
+ghost use Rattle.definition.specs.declared.Refusal.the-variants.{ShortInput};
+ghost use Rattle.reader.specs.Integers.{size-of, word-of};
+ghost use Rattle.reader.specs.From.{taken-as, not-taken, no-text};
+
+// A reader answers a number, which comes back in a register: an enum comes back in memory. Below REFUSED it is a value;
+// from there on a refusal, whose number is the quotient and whose detail is the remainder by REFUSED.
+pub const REFUSED: u64 = 4294967296;
+
+const INVALID_VERSION: u64 = 3 * REFUSED;
+
+pub const SHORT_INPUT: u64 = 4 * REFUSED;
+
+pub const INVALID_KIND: u64 = 5 * REFUSED;
+
+pub const NEGATIVE_COUNT: u64 = 6 * REFUSED;
+
+pub const MISSING_SYMBOL: u64 = 7 * REFUSED;
+
+pub const MISSING_OBJECT: u64 = 8 * REFUSED;
+
+const NOT_A_SYMBOL: u64 = 9 * REFUSED;
+
+pub const NOT_AN_OBJECT: u64 = 10 * REFUSED;
+
+pub const TOO_DEEP: u64 = 11 * REFUSED;
+
+pub const NO_SPACE: u64 = 12 * REFUSED;
+
+// The refusal that an answer from REFUSED on is, under this limit.
+pub fn refusal_of(r: u64, limit: u32) -> Refusal
+    requires { ⌜ 4294967296 ≤ r ⌝ }
+    ensures { λ q. ⌜ q ≡ refusal-at limit r ⌝ }
+{
+    let number = r / REFUSED;
+    let detail = (r % REFUSED) as u32;
+    match number {
+        3 => Refusal::InvalidVersion((detail / 256 % 256) as u8, (detail % 256) as u8),
+        4 => Refusal::ShortInput,
+        5 => Refusal::InvalidKind((detail % 256) as u8),
+        6 => Refusal::NegativeCount(detail),
+        7 => Refusal::MissingSymbol(detail),
+        8 => Refusal::MissingObject(detail),
+        9 => Refusal::NotASymbol((detail % 256) as u8),
+        10 => Refusal::NotAnObject,
+        11 => Refusal::TooDeep(limit),
+        _ => Refusal::NoSpace(detail),
+    }
+}
+
+// A word as a wider number.
+pub fn wide(x: u32) -> u64
+    ensures { λ r. ⌜ r ≡ x ⌝ }
+{
+    x as u64
+}
+
+// The refusal of a kind byte where a name is wanted.
+pub fn not_a_symbol(k: u8) -> u64
+    ensures { λ r. ⌜ (r ≡ coded 9 k) × (k ≤ 255) ⌝ }
+{
+    NOT_A_SYMBOL + k as u64
+}
+
+// ---- integers
+
+// A byte as a wider number.
+fn byte(b: u8) -> u32
+    ensures { λ r. ⌜ (r ≡ b) × (r ≤ 255) ⌝ }
+{
+    b as u32
+}
+
+// How many bytes an integer takes, by its first byte.
+pub fn integer_size(b: u8) -> usize
+    ensures { λ r. ⌜ r ≡ size-of (form b) ⌝ }
+{
+    if b <= 4 {
+        return 1 + b as usize;
+    }
+    if b <= 251 {
+        return 1;
+    }
+    257 - b as usize
+}
+
+// The n bytes from `at` on, the lowest first.
+fn little(input: &[u8], at: usize, n: usize) -> u32
+    requires { ⌜ (1 ≤ n) × (n ≤ 4) × (at + n ≤ length (now input)) ⌝ }
+    ensures { λ r. ⌜ r ≡ integer.little (take n (drop at (now (input .entry)))) 0 ⌝ }
+    ensures { λ r. ⌜ r < 256 ^ n ⌝ }
+{
+    let one = byte(input[at]);
+    if n == 1 {
+        return one;
+    }
+    let two = one + byte(input[at + 1]) * 256;
+    if n == 2 {
+        return two;
+    }
+    let three = two + byte(input[at + 2]) * 65536;
+    if n == 3 {
+        return three;
+    }
+    three + byte(input[at + 3]) * 16777216
+}
+
+// All ones above n bytes.
+fn ones_above(n: usize) -> u32
+    requires { ⌜ (1 ≤ n) × (n ≤ 4) ⌝ }
+    ensures { λ r. ⌜ r + 256 ^ n ≡ 4294967296 ⌝ }
+{
+    match n {
+        1 => 4294967040,
+        2 => 4294901760,
+        3 => 4278190080,
+        _ => 0,
+    }
+}
+
+// The 32 bits of the integer at `at`, whose bytes are all there.
+pub fn integer_at(input: &[u8], at: usize) -> u32
+    requires { ⌜ at + size-of (form (getD (now input) at 0)) ≤ length (now input) ⌝ }
+    ensures { λ r. ⌜ r ≡ word-of (drop (at + 1) (now (input .entry))) (form (getD (now (input .entry)) at 0)) ⌝ }
+{
+    let b = byte(input[at]);
+    if b <= 4 {
+        if b == 0 {
+            return 0;
+        }
+        return little(&input[..], at + 1, b as usize);
+    }
+    if b <= 127 {
+        return b - 5;
+    }
+    if b <= 250 {
+        return b + 4294967045;
+    }
+    if b == 251 {
+        return 0;
+    }
+    let n = 256 - b as usize;
+    ones_above(n) + little(&input[..], at + 1, n)
+}
+
+// The number that an integer of the one byte b is, where that is 0 to 122, else 123.
+pub fn small(b: u8) -> usize
+    ensures { λ r. ⌜ (r < 123 → form b ≡ value r) ⌝ }
+{
+    if b == 0 {
+        return 0;
+    }
+    if b < 5 {
+        return 123;
+    }
+    if 127 < b {
+        return 123;
+    }
+    b as usize - 5
+}
+
+// ---- the header
+
+// The refusal of a version.
+fn invalid_version(major: u32, minor: u32) -> u64
+    requires { ⌜ (major ≤ 255) × (minor ≤ 255) ⌝ }
+    ensures { λ r. ⌜ r ≡ 12884901888 + (major * 256 + minor) ⌝ }
+{
+    INVALID_VERSION + (major * 256 + minor) as u64
+}
+
+// The header at `at`; both bytes are read first.
+pub fn header_at(input: &[u8], at: usize) -> u64
+    requires { ⌜ at ≤ length (now input) ⌝ }
+    ensures { λ r. ⌜ Reads (read-header (now (input .entry))) tt at r (at + 2) ⌝ }
+    ensures { λ r. ⌜ (r < 4294967296 → at + 2 ≤ length (now (input .entry))) ⌝ }
+{
+    if input.len() - at < 2 {
+        return SHORT_INPUT;
+    }
+    let major = byte(input[at]);
+    let minor = byte(input[at + 1]);
+    if major != 4 {
+        return invalid_version(major, minor);
+    }
+    if 8 < minor {
+        return invalid_version(major, minor);
+    }
+    0
+}
+
+// ---- what stands at any offset; past the end there is nothing
+
+// How many bytes are left.
+pub fn left_at(input: &[u8], at: usize) -> usize
+    ensures { λ r. ⌜ r ≡ left (now (input .entry)) at ⌝ }
+{
+    if at < input.len() {
+        return input.len() - at;
+    }
+    0
+}
+
+// The refusal for want of bytes.
+fn short(at: usize) -> Taken
+    ensures { λ r. ⌜ r ≡ not-taken ShortInput at ⌝ }
+{
+    Taken {
+        answer: Answer::Refused(Refusal::ShortInput),
+        value: 0,
+        offset: at,
+    }
+}
+
+// A value, and the offset after it.
+fn took(value: u32, at: usize) -> Taken
+    ensures { λ r. ⌜ r ≡ taken-as value at ⌝ }
+{
+    Taken {
+        answer: Answer::Accepted,
+        value: value,
+        offset: at,
+    }
+}
+
+// A byte.
+pub fn byte_from(input: &[u8], at: usize) -> Taken
+    ensures { λ r. ⌜ r ≡ next-byte (now (input .entry)) at ⌝ }
+{
+    if at < input.len() {
+        return took(byte(input[at]), at + 1);
+    }
+    short(at)
+}
+
+// The header.
+pub fn header_from(input: &[u8], at: usize) -> Taken
+    ensures { λ r. ⌜ r ≡ next-header (now (input .entry)) at ⌝ }
+{
+    if input.len() < at {
+        return short(at);
+    }
+    let w = header_at(&input[..], at);
+    if REFUSED <= w {
+        return Taken {
+            answer: Answer::Refused(refusal_of(w, 0)),
+            value: 0,
+            offset: at,
+        };
+    }
+    took(0, at + 2)
+}
+
+// An integer.
+pub fn integer_from(input: &[u8], at: usize) -> Taken
+    ensures { λ r. ⌜ r ≡ next-integer (now (input .entry)) at ⌝ }
+{
+    if input.len() <= at {
+        return short(at);
+    }
+    let n = integer_size(input[at]);
+    if input.len() - at < n {
+        return short(at);
+    }
+    took(integer_at(&input[..], at), at + n)
+}
+
+// A refused byte string.
+fn no_text(q: Refusal, at: usize) -> Text
+    ensures { λ r. ⌜ r ≡ no-text q at ⌝ }
+{
+    Text {
+        answer: Answer::Refused(q),
+        start: 0,
+        length: 0,
+        offset: at,
+    }
+}
+
+// A byte string.
+pub fn byte_string_from(input: &[u8], at: usize) -> Text
+    ensures { λ r. ⌜ r ≡ next-byte-string (now (input .entry)) at ⌝ }
+{
+    if input.len() <= at {
+        return no_text(Refusal::ShortInput, at);
+    }
+    let n = integer_size(input[at]);
+    if input.len() - at < n {
+        return no_text(Refusal::ShortInput, at);
+    }
+    let w = integer_at(&input[..], at);
+    if 2147483648 <= w {
+        return no_text(Refusal::NegativeCount(w), at);
+    }
+    let start = at + n;
+    let k = w as usize;
+    if input.len() - start < k {
+        return no_text(Refusal::ShortInput, at);
+    }
+    Text {
+        answer: Answer::Accepted,
+        start: start,
+        length: k,
+        offset: start + k,
+    }
+}
+
+// ---- the reader
+
+// An input and the offset from which it is read on.
+pub struct Reader<'a> {
+    pub input: &'a [u8],
+    pub offset: usize,
+}
+
+// At the start of an input.
+pub fn start<'a>(input: &'a [u8]) -> Reader<'a>
+    ensures { λ r. ⌜ (r .input ≡ input .entry) × (r .offset ≡ 0) ⌝ }
+{
+    Reader { input, offset: 0 }
+}
+
+// At an offset of an input.
+pub fn start_at<'a>(input: &'a [u8], offset: usize) -> Reader<'a>
+    ensures { λ r. ⌜ (r .input ≡ input .entry) × (r .offset ≡ offset) ⌝ }
+{
+    Reader { input, offset }
+}
+
+// The same input at another offset, as an answer gives it.
+pub fn moved<'a>(r: Reader<'a>, offset: usize) -> Reader<'a>
+    ensures { λ q. ⌜ (q .input ≡ r .entry .input) × (q .offset ≡ offset) ⌝ }
+{
+    Reader {
+        input: r.input,
+        offset,
+    }
+}
+
+// The offset.
+pub fn offset<'a>(r: Reader<'a>) -> usize
+    ensures { λ n. ⌜ n ≡ r .entry .offset ⌝ }
+{
+    r.offset
+}
+
+// How many bytes are left.
+pub fn bytes_left<'a>(r: Reader<'a>) -> usize
+    ensures { λ n. ⌜ n ≡ left (now (r .entry .input)) (r .entry .offset) ⌝ }
+{
+    left_at(r.input, r.offset)
+}
+
+// Reads a byte.
+pub fn read_byte<'a>(r: Reader<'a>) -> Taken
+    ensures { λ t. ⌜ t ≡ next-byte (now (r .entry .input)) (r .entry .offset) ⌝ }
+{
+    byte_from(r.input, r.offset)
+}
+
+// Reads the header.
+pub fn read_header<'a>(r: Reader<'a>) -> Taken
+    ensures { λ t. ⌜ t ≡ next-header (now (r .entry .input)) (r .entry .offset) ⌝ }
+{
+    header_from(r.input, r.offset)
+}
+
+// Reads an integer.
+pub fn read_integer<'a>(r: Reader<'a>) -> Taken
+    ensures { λ t. ⌜ t ≡ next-integer (now (r .entry .input)) (r .entry .offset) ⌝ }
+{
+    integer_from(r.input, r.offset)
+}
+
+// Reads a byte string.
+pub fn read_byte_string<'a>(r: Reader<'a>) -> Text
+    ensures { λ t. ⌜ t ≡ next-byte-string (now (r .entry .input)) (r .entry .offset) ⌝ }
+{
+    byte_string_from(r.input, r.offset)
+}

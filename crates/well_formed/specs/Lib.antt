@@ -1,0 +1,3 @@
+-- Nodes at their places, and what a well formed arena is.
+pub mod Nodes
+pub mod Right

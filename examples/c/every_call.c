@@ -1,0 +1,486 @@
+/*
+ * Calls every function, and tests what it returns, the answer words, and what is lent: accepted, refused, with every wrong
+ * length of tables, and with too few answer words. Prints how many calls were made.
+ *
+ * Each slice ends where a page ends that nothing may touch, so that an entry past the slice stops the program. (POSIX)
+ */
+#define _DEFAULT_SOURCE
+#include "ruby_marshal.h"
+
+#include <stdio.h>
+#include <stdlib.h>
+#include <string.h>
+#include <sys/mman.h>
+#include <unistd.h>
+
+static unsigned long calls;
+
+#define EXPECT(test)                                                                 \
+    do {                                                                             \
+        if (!(test)) {                                                               \
+            fprintf(stderr, "%s:%d: not so: %s\n", __FILE__, __LINE__, #test);       \
+            exit(1);                                                                 \
+        }                                                                            \
+    } while (0)
+
+/* ---- slices that end at a page that nothing may touch ---- */
+
+#define ROOM 4096u
+
+/* So many bytes, all of them 0xA5. They are never given back. */
+static void *slice(size_t size)
+{
+    size_t page = (size_t)sysconf(_SC_PAGESIZE);
+    size_t whole = (size + page - 1) / page * page;
+    uint8_t *start = (uint8_t *)mmap(NULL, whole + page, PROT_READ | PROT_WRITE, MAP_PRIVATE | MAP_ANONYMOUS, -1, 0);
+    EXPECT(start != (uint8_t *)MAP_FAILED);
+    EXPECT(mprotect(start + whole, page, PROT_NONE) == 0);
+    memset(start + whole - size, 0xA5, size);
+    return start + whole - size;
+}
+
+/* The last n entries of such memory: the end stays where it is. Of 0 entries the pointer is past the end, not null. */
+struct words {
+    uint32_t *at;
+    size_t length;
+};
+
+struct bytes {
+    uint8_t *at;
+    size_t length;
+};
+
+static uint32_t *word_room[5];
+static uint8_t *byte_room[3];
+static uint64_t *answer_room;
+
+static struct words words(int which, size_t length)
+{
+    struct words w;
+    w.at = word_room[which] + ROOM - length;
+    w.length = length;
+    return w;
+}
+
+static struct bytes bytes(int which, size_t length)
+{
+    struct bytes b;
+    b.at = byte_room[which] + ROOM - length;
+    b.length = length;
+    return b;
+}
+
+/* ---- everything that a call is lent ---- */
+
+enum { NODES, REFERENCES, SYMBOLS, OBJECTS, SCRATCH };
+enum { INPUT, BYTES, OUTPUT };
+
+struct lent {
+    struct bytes input;
+    struct words nodes;
+    struct words references;
+    struct bytes bytes;
+    struct words symbols;
+    struct words objects;
+    struct words scratch;
+    struct bytes output;
+    uint64_t *answer;
+    size_t answer_length;
+    struct ruby_marshal_counts counts;
+};
+
+static struct lent lend(size_t input, size_t nodes, size_t references, size_t byte_count, size_t lists, size_t scratch, size_t output)
+{
+    struct lent l;
+    l.input = bytes(INPUT, input);
+    l.nodes = words(NODES, nodes);
+    l.references = words(REFERENCES, references);
+    l.bytes = bytes(BYTES, byte_count);
+    l.symbols = words(SYMBOLS, lists);
+    l.objects = words(OBJECTS, lists);
+    l.scratch = words(SCRATCH, scratch);
+    l.output = bytes(OUTPUT, output);
+    l.answer = answer_room + ROOM - RUBY_MARSHAL_ANSWER_WORDS;
+    l.answer_length = RUBY_MARSHAL_ANSWER_WORDS;
+    memset(&l.counts, 0, sizeof l.counts);
+    return l;
+}
+
+/* What all rooms hold, to be compared with later. */
+static uint8_t kept[5 * ROOM * 4 + 3 * ROOM + ROOM * 8];
+
+static size_t each_room(uint8_t *to, const uint8_t *other)
+{
+    size_t at = 0, differ = 0;
+    int i;
+    for (i = 0; i < 9; i++) {
+        const uint8_t *room = i < 5 ? (const uint8_t *)word_room[i] : i < 8 ? byte_room[i - 5] : (const uint8_t *)answer_room;
+        size_t size = i < 5 ? ROOM * 4 : i < 8 ? ROOM : ROOM * 8;
+        if (to != NULL)
+            memcpy(to + at, room, size);
+        else
+            differ += memcmp(other + at, room, size) != 0;
+        at += size;
+    }
+    return differ;
+}
+
+static void keep(void)
+{
+    each_room(kept, NULL);
+}
+
+static bool untouched(void)
+{
+    return each_room(NULL, kept) == 0;
+}
+
+/* ---- each function over what is lent ---- */
+
+enum call {
+    LOAD, DUMP, ROOT, KIND, GET, GET_SYMBOL, NEW, REPLACE_ROOT, CREATE_NIL, CREATE_BOOL, CREATE_FIXNUM, CREATE_SYMBOL,
+    CREATE_NEW_SYMBOL, CREATE_ARRAY, CREATE_HASH, CREATE_OBJECT, CREATE_STRING, CREATE_USER_DEFINED, CALLS
+};
+
+static const size_t answer_words[CALLS] = {
+    RUBY_MARSHAL_LOAD_WORDS, RUBY_MARSHAL_DUMP_WORDS, RUBY_MARSHAL_ROOT_WORDS, RUBY_MARSHAL_KIND_WORDS, RUBY_MARSHAL_GET_WORDS,
+    RUBY_MARSHAL_GET_SYMBOL_WORDS, RUBY_MARSHAL_NEW_WORDS, RUBY_MARSHAL_CREATE_WORDS, RUBY_MARSHAL_CREATE_WORDS,
+    RUBY_MARSHAL_CREATE_WORDS, RUBY_MARSHAL_CREATE_WORDS, RUBY_MARSHAL_CREATE_WORDS, RUBY_MARSHAL_CREATE_WORDS,
+    RUBY_MARSHAL_CREATE_WORDS, RUBY_MARSHAL_CREATE_WORDS, RUBY_MARSHAL_CREATE_WORDS, RUBY_MARSHAL_CREATE_WORDS,
+    RUBY_MARSHAL_CREATE_WORDS
+};
+
+/* What the functions take besides: a limit or handle, a number, words, bytes. */
+struct given {
+    uint32_t number;
+    int32_t value;
+    const uint32_t *list;
+    size_t list_length;
+    const uint8_t *string;
+    size_t string_length;
+};
+
+#define TABLES l->nodes.at, l->nodes.length, l->references.at, l->references.length, l->bytes.at, l->bytes.length
+#define COUNTS l->counts.nodes, l->counts.references, l->counts.bytes, l->counts.root
+#define ANSWER l->answer, l->answer_length
+
+static uint32_t call(enum call which, const struct lent *l, struct given g)
+{
+    calls++;
+    switch (which) {
+    case LOAD:
+        return ruby_marshal_load(l->input.at, l->input.length, TABLES, l->symbols.at, l->symbols.length, l->objects.at,
+            l->objects.length, g.number, ANSWER);
+    case DUMP:
+        return ruby_marshal_dump(TABLES, COUNTS, l->scratch.at, l->scratch.length, l->output.at, l->output.length, g.number, ANSWER);
+    case ROOT: return ruby_marshal_root(TABLES, COUNTS, ANSWER);
+    case KIND: return ruby_marshal_kind(TABLES, COUNTS, g.number, ANSWER);
+    case GET: return ruby_marshal_get(TABLES, COUNTS, g.number, ANSWER);
+    case GET_SYMBOL: return ruby_marshal_get_symbol(TABLES, COUNTS, g.number, ANSWER);
+    case NEW: return ruby_marshal_new(TABLES, ANSWER);
+    case REPLACE_ROOT: return ruby_marshal_replace_root(TABLES, COUNTS, g.number, ANSWER);
+    case CREATE_NIL: return ruby_marshal_create_nil(TABLES, COUNTS, ANSWER);
+    case CREATE_BOOL: return ruby_marshal_create_bool(TABLES, COUNTS, g.value != 0, ANSWER);
+    case CREATE_FIXNUM: return ruby_marshal_create_fixnum(TABLES, COUNTS, g.value, ANSWER);
+    case CREATE_SYMBOL: return ruby_marshal_create_symbol(TABLES, COUNTS, g.string, g.string_length, ANSWER);
+    case CREATE_NEW_SYMBOL: return ruby_marshal_create_new_symbol(TABLES, COUNTS, g.string, g.string_length, ANSWER);
+    case CREATE_ARRAY: return ruby_marshal_create_array(TABLES, COUNTS, g.list, g.list_length, ANSWER);
+    case CREATE_HASH: return ruby_marshal_create_hash(TABLES, COUNTS, g.list, g.list_length, g.number, ANSWER);
+    case CREATE_OBJECT: return ruby_marshal_create_object(TABLES, COUNTS, g.number, g.list, g.list_length, ANSWER);
+    case CREATE_STRING: return ruby_marshal_create_string(TABLES, COUNTS, g.string, g.string_length, ANSWER);
+    case CREATE_USER_DEFINED:
+        return ruby_marshal_create_user_defined(TABLES, COUNTS, g.number, g.string, g.string_length, ANSWER);
+    case CALLS: break;
+    }
+    return 99;
+}
+
+static const uint32_t no_words[1] = { 0 };
+
+static struct given give(uint32_t number)
+{
+    struct given g;
+    memset(&g, 0, sizeof g);
+    g.number = number;
+    g.list = no_words;
+    g.string = (const uint8_t *)"";
+    return g;
+}
+
+static struct given give_list(uint32_t number, const uint32_t *list, size_t length)
+{
+    struct given g = give(number);
+    g.list = list;
+    g.list_length = length;
+    return g;
+}
+
+static struct given give_string(uint32_t number, const char *string)
+{
+    struct given g = give(number);
+    g.string = (const uint8_t *)string;
+    g.string_length = strlen(string);
+    return g;
+}
+
+static struct given give_value(int32_t value)
+{
+    struct given g = give(0);
+    g.value = value;
+    return g;
+}
+
+static void put(struct lent *l, const char *input)
+{
+    memcpy(l->input.at, input, l->input.length);
+}
+
+/* A refusal with its details; of what else is answered the first word. */
+static void refused(enum call which, const struct lent *l, struct given g, uint32_t number, int64_t first, uint64_t second)
+{
+    EXPECT(call(which, l, g) == number);
+    EXPECT(ruby_marshal_detail(l->answer) == first);
+    EXPECT(l->answer[RUBY_MARSHAL_SECOND] == second);
+}
+
+static void accepted(enum call which, struct lent *l, struct given g)
+{
+    uint32_t returned;
+    size_t i;
+    for (i = 0; i < RUBY_MARSHAL_ANSWER_WORDS; i++)
+        l->answer[i] = UINT64_MAX - i;
+    returned = call(which, l, g);
+    if (returned != RUBY_MARSHAL_ACCEPTED) {
+        fprintf(stderr, "call %d: %s %ld\n", (int)which, ruby_marshal_name(returned), (long)ruby_marshal_detail(l->answer));
+        exit(1);
+    }
+    EXPECT(l->answer[RUBY_MARSHAL_FIRST] == 0 && l->answer[RUBY_MARSHAL_SECOND] == 0);
+    for (i = answer_words[which]; i < RUBY_MARSHAL_ANSWER_WORDS; i++)
+        EXPECT(l->answer[i] == UINT64_MAX - i);
+    if (answer_words[which] >= RUBY_MARSHAL_NEW_WORDS && which != GET)
+        l->counts = ruby_marshal_counts_of(l->answer);
+}
+
+/* A node is made: it is the next one. */
+static uint32_t made(enum call which, struct lent *l, struct given g)
+{
+    size_t before = l->counts.nodes;
+    accepted(which, l, g);
+    EXPECT(l->counts.nodes == before + 1 && l->answer[RUBY_MARSHAL_HANDLE] == before);
+    return (uint32_t)l->answer[RUBY_MARSHAL_HANDLE];
+}
+
+static bool zero(const void *from, size_t size)
+{
+    const uint8_t *byte = (const uint8_t *)from;
+    size_t i;
+    for (i = 0; i < size; i++)
+        if (byte[i] != 0)
+            return false;
+    return true;
+}
+
+/* ---- the tests ---- */
+
+/* Every kind is built, looked at, dumped, loaded, and dumped again. */
+static void build_dump_load(void)
+{
+    struct lent l = lend(200, 12 * 7, 8, 16, 12, 12, 200);
+    uint32_t nil, yes, number, name, other, list[3], pairs[2], array, hash, object, string, user;
+    size_t written;
+
+    accepted(NEW, &l, give(0));
+    EXPECT(l.counts.nodes == 1 && l.counts.references == 0 && l.counts.bytes == 0 && l.counts.root == 0);
+    EXPECT(zero(l.nodes.at, l.nodes.length * 4) && zero(l.references.at, l.references.length * 4) && zero(l.bytes.at, l.bytes.length));
+    nil = made(CREATE_NIL, &l, give(0));
+    yes = made(CREATE_BOOL, &l, give_value(1));
+    number = made(CREATE_FIXNUM, &l, give_value(INT32_MIN));
+    name = made(CREATE_SYMBOL, &l, give_string(0, "sand"));
+    accepted(CREATE_SYMBOL, &l, give_string(0, "sand"));
+    EXPECT(l.answer[RUBY_MARSHAL_HANDLE] == name && l.counts.nodes == name + 1);
+    other = made(CREATE_NEW_SYMBOL, &l, give_string(0, "sand"));
+    list[0] = nil, list[1] = yes, list[2] = number;
+    array = made(CREATE_ARRAY, &l, give_list(0, list, 3));
+    pairs[0] = name, pairs[1] = array;
+    hash = made(CREATE_HASH, &l, give_list(nil + 1, pairs, 2));
+    string = made(CREATE_STRING, &l, give_string(0, "dry"));
+    user = made(CREATE_USER_DEFINED, &l, give_string(name, "\x01"));
+    pairs[1] = hash;
+    object = made(CREATE_OBJECT, &l, give_list(name, pairs, 2));
+    accepted(REPLACE_ROOT, &l, give(object));
+    EXPECT(l.counts.root == object && l.answer[RUBY_MARSHAL_HANDLE] == 0);
+
+    accepted(ROOT, &l, give(0));
+    EXPECT(l.answer[RUBY_MARSHAL_VALUE] == object);
+    accepted(KIND, &l, give(user));
+    EXPECT(l.answer[RUBY_MARSHAL_VALUE] == RUBY_MARSHAL_USER_DEFINED);
+    accepted(KIND, &l, give(string));
+    EXPECT(l.answer[RUBY_MARSHAL_VALUE] == RUBY_MARSHAL_STRING);
+    accepted(GET, &l, give(number));
+    EXPECT(l.answer[RUBY_MARSHAL_WORDS + RUBY_MARSHAL_WORD_KIND] == RUBY_MARSHAL_FIXNUM);
+    EXPECT(ruby_marshal_fixnum((uint32_t)l.answer[RUBY_MARSHAL_WORDS + RUBY_MARSHAL_WORD_VALUE]) == INT32_MIN);
+    accepted(GET, &l, give(hash));
+    EXPECT(l.answer[RUBY_MARSHAL_WORDS + RUBY_MARSHAL_WORD_COUNT] == 1);
+    EXPECT(l.answer[RUBY_MARSHAL_WORDS + RUBY_MARSHAL_WORD_DEFAULT] == nil + 1);
+    accepted(GET_SYMBOL, &l, give(other));
+    EXPECT(l.answer[RUBY_MARSHAL_LENGTH] == 4 && memcmp(l.bytes.at + l.answer[RUBY_MARSHAL_START], "sand", 4) == 0);
+
+    refused(GET, &l, give(12), RUBY_MARSHAL_BAD_HANDLE, 12, 0);
+    EXPECT(zero(l.answer + RUBY_MARSHAL_WORDS, 7 * 8));
+    refused(KIND, &l, give(UINT32_MAX), RUBY_MARSHAL_BAD_HANDLE, UINT32_MAX, 0);
+    refused(GET_SYMBOL, &l, give(string), RUBY_MARSHAL_WRONG_KIND, string, 0);
+    refused(REPLACE_ROOT, &l, give(12), RUBY_MARSHAL_BAD_HANDLE, 12, 0);
+    EXPECT(ruby_marshal_counts_of(l.answer).root == object && l.answer[RUBY_MARSHAL_HANDLE] == 0);
+    refused(CREATE_OBJECT, &l, give(string), RUBY_MARSHAL_WRONG_KIND, string, 0);
+    refused(CREATE_USER_DEFINED, &l, give_string(nil, ""), RUBY_MARSHAL_WRONG_KIND, nil, 0);
+    refused(CREATE_HASH, &l, give_list(0, pairs, 1), RUBY_MARSHAL_BAD_TABLES, RUBY_MARSHAL_SLICE_LIST, 0);
+    refused(CREATE_HASH, &l, give(UINT32_MAX), RUBY_MARSHAL_BAD_HANDLE, (int64_t)UINT32_MAX - 1, 0);
+    refused(CREATE_STRING, &l, give_string(0, "0123456789abcdef"), RUBY_MARSHAL_NO_SPACE, RUBY_MARSHAL_SLICE_BYTES, 0);
+    refused(CREATE_ARRAY, &l, give_list(0, list, 3), RUBY_MARSHAL_NO_SPACE, RUBY_MARSHAL_SLICE_REFERENCES, 0);
+    accepted(CREATE_NIL, &l, give(0));
+    refused(CREATE_NIL, &l, give(0), RUBY_MARSHAL_NO_SPACE, RUBY_MARSHAL_SLICE_NODES, 0);
+
+    accepted(DUMP, &l, give(RUBY_MARSHAL_LIMIT));
+    written = (size_t)l.answer[RUBY_MARSHAL_WRITTEN];
+    EXPECT(zero(l.scratch.at, l.scratch.length * 4) && zero(l.output.at + written, l.output.length - written));
+    refused(DUMP, &l, give(2), RUBY_MARSHAL_TOO_DEEP, 2, 0);
+    EXPECT(l.answer[RUBY_MARSHAL_WRITTEN] == 0 && zero(l.output.at, l.output.length));
+    accepted(DUMP, &l, give(RUBY_MARSHAL_LIMIT));
+    memcpy(l.input.at, l.output.at, written);
+    accepted(LOAD, &l, give(RUBY_MARSHAL_LIMIT));
+    EXPECT(l.answer[RUBY_MARSHAL_USED] == written);
+    EXPECT(zero(l.symbols.at, l.symbols.length * 4) && zero(l.objects.at, l.objects.length * 4));
+    accepted(DUMP, &l, give(RUBY_MARSHAL_LIMIT));
+    EXPECT(l.answer[RUBY_MARSHAL_WRITTEN] == written && memcmp(l.input.at, l.output.at, written) == 0);
+}
+
+/* An array that is its own member: a pass over the nodes ends, and so does dump. */
+static void cycle(void)
+{
+    struct lent l = lend(6, 2 * 7, 1, 0, 1, 2, 6);
+    put(&l, "\x04\x08[\x06@\x00");
+    accepted(LOAD, &l, give(2));
+    EXPECT(l.counts.nodes == 2 && l.counts.root == 1 && l.references.at[0] == 1);
+    accepted(DUMP, &l, give(2));
+    EXPECT(l.answer[RUBY_MARSHAL_WRITTEN] == 6 && memcmp(l.output.at, "\x04\x08[\x06@\x00", 6) == 0);
+}
+
+/* Each refusal of load, with its details and their signs. */
+static void refusals(void)
+{
+    static const struct {
+        const char *input;
+        size_t length;
+        uint32_t limit, number;
+        int64_t first;
+        uint64_t second;
+    } cases[] = {
+        { "\x04\x08" "0", 3, 129, RUBY_MARSHAL_BAD_TABLES, RUBY_MARSHAL_SLICE_LIMIT, 0 },
+        { "\x04\x09" "0", 3, 1, RUBY_MARSHAL_INVALID_VERSION, 4, 9 },
+        { "", 0, 1, RUBY_MARSHAL_SHORT_INPUT, 0, 0 },
+        { "\x04\x08?", 3, 1, RUBY_MARSHAL_INVALID_KIND, '?', 0 },
+        { "\x04\x08[\xFA", 4, 1, RUBY_MARSHAL_NEGATIVE_COUNT, -1, 0 },
+        { "\x04\x08[\xFC\0\0\0\x80", 8, 1, RUBY_MARSHAL_NEGATIVE_COUNT, INT32_MIN, 0 },
+        { "\x04\x08;\x06", 4, 1, RUBY_MARSHAL_MISSING_SYMBOL, 1, 0 },
+        { "\x04\x08@\x04\xFF\xFF\xFF\x7F", 8, 1, RUBY_MARSHAL_MISSING_OBJECT, INT32_MAX, 0 },
+        { "\x04\x08o0", 4, 1, RUBY_MARSHAL_NOT_A_SYMBOL, '0', 0 },
+        { "\x04\x08I0\0", 5, 2, RUBY_MARSHAL_NOT_AN_OBJECT, 0, 0 },
+        { "\x04\x08[\x06" "0", 5, 1, RUBY_MARSHAL_TOO_DEEP, 1, 0 },
+        { "\x04\x08[\x08", 4, 1, RUBY_MARSHAL_NO_SPACE, RUBY_MARSHAL_SLICE_REFERENCES, 0 },
+    };
+    size_t i;
+    for (i = 0; i < sizeof cases / sizeof cases[0]; i++) {
+        struct lent l = lend(cases[i].length, 3 * 7, 2, 2, 2, 0, 0);
+        put(&l, cases[i].input);
+        refused(LOAD, &l, give(cases[i].limit), cases[i].number, cases[i].first, cases[i].second);
+        EXPECT(l.answer[RUBY_MARSHAL_USED] == 0);
+        EXPECT(l.answer[RUBY_MARSHAL_NODES] == (cases[i].number == RUBY_MARSHAL_BAD_TABLES ? 0u : 1u));
+        EXPECT(strcmp(ruby_marshal_name(cases[i].number), "?") != 0);
+    }
+    {
+        struct lent l = lend(0, 2 * 7, 0, 0, 0, 2, 3);
+        memset(l.nodes.at, 0, l.nodes.length * 4);
+        refused(ROOT, &l, give(0), RUBY_MARSHAL_BAD_ARENA, -1, 0);
+        l.counts.nodes = 2;
+        l.nodes.at[7] = 9;
+        refused(DUMP, &l, give(1), RUBY_MARSHAL_BAD_ARENA, 1, 0);
+    }
+}
+
+/* Of every function: too few answer words, of each number, touch nothing; the number stated is enough. */
+static void few_words(void)
+{
+    int which;
+    size_t n;
+    for (which = 0; which < CALLS; which++) {
+        for (n = 0; n <= answer_words[which]; n++) {
+            struct lent l = lend(3, 2 * 7, 2, 2, 2, 2, 3);
+            put(&l, "\x04\x08" "0");
+            memset(l.nodes.at, 0, l.nodes.length * 4);
+            l.counts.nodes = 1;
+            l.answer = answer_room + ROOM - n;
+            l.answer_length = n;
+            keep();
+            if (n < answer_words[which]) {
+                EXPECT(call((enum call)which, &l, give(0)) == RUBY_MARSHAL_BAD_TABLES);
+                EXPECT(untouched());
+            } else {
+                EXPECT(call((enum call)which, &l, give(0)) != RUBY_MARSHAL_BAD_TABLES);
+            }
+        }
+    }
+}
+
+/* Tables of every wrong length: of every function that takes them, nothing but the answer is touched. */
+static void lengths(void)
+{
+    int which;
+    size_t n, i;
+    for (which = 0; which < CALLS; which++) {
+        for (n = 0; n <= 30; n++) {
+            struct lent l = lend(3, n, 0, 0, 0, 5, 5);
+            uint32_t returned;
+            put(&l, "\x04\x08" "0");
+            memset(l.nodes.at, 0, n * 4);
+            l.counts.nodes = 1;
+            memset(l.answer, 0, RUBY_MARSHAL_ANSWER_WORDS * 8);
+            keep();
+            returned = call((enum call)which, &l, give(which == LOAD || which == DUMP ? 1 : 0));
+            if (n == 0 || n % RUBY_MARSHAL_NODE_WORDS != 0) {
+                EXPECT(returned == RUBY_MARSHAL_BAD_TABLES && l.answer[RUBY_MARSHAL_FIRST] == RUBY_MARSHAL_SLICE_NODES);
+                for (i = 0; i < RUBY_MARSHAL_ANSWER_WORDS; i++)
+                    l.answer[i] = 0;
+                EXPECT(untouched());
+            } else {
+                EXPECT(returned != RUBY_MARSHAL_BAD_TABLES && returned != RUBY_MARSHAL_BAD_ARENA);
+            }
+        }
+    }
+    for (n = 0; n <= 5; n++) {
+        struct lent l = lend(0, 4 * 7, 0, 0, 0, n, 3);
+        memset(l.nodes.at, 0, l.nodes.length * 4);
+        l.counts.nodes = 1;
+        keep();
+        if (n < 4)
+            refused(DUMP, &l, give(1), RUBY_MARSHAL_BAD_TABLES, RUBY_MARSHAL_SLICE_SCRATCH, 0);
+        else
+            accepted(DUMP, &l, give(1));
+    }
+}
+
+int main(void)
+{
+    int i;
+    for (i = 0; i < 5; i++)
+        word_room[i] = (uint32_t *)slice(ROOM * 4);
+    for (i = 0; i < 3; i++)
+        byte_room[i] = (uint8_t *)slice(ROOM);
+    answer_room = (uint64_t *)slice(ROOM * 8);
+    build_dump_load();
+    cycle();
+    refusals();
+    few_words();
+    lengths();
+    printf("%d functions, %lu calls\n", CALLS, calls);
+    return 0;
+}

@@ -1,0 +1,400 @@
+/*
+ * Ruby Marshal 4.8 in lent tables: load, dump, and the arena's getters and builder. For C11 and C++.
+ *
+ * Link libmarshal_c.a, which `rt staticlib marshal_c` writes to target/staticlib (x86-64 Linux). It allocates nothing, keeps
+ * nothing between calls, and needs of the C library at most memcpy, memmove, memset and memcmp.
+ *
+ * Every function is proved to return and leave what its definition says, for whatever the slices and numbers hold. What the
+ * proof takes for granted is that the arguments are what their C types say; that is the caller's part:
+ *   - A slice is a pointer and its number of entries. The pointer refers to that many entries, which the function may read,
+ *     and write where the parameter is not const.
+ *   - It is never null, and aligned for its entries, also where the number is 0 (it need refer to nothing then).
+ *   - A slice that is not const overlaps no other slice of the call. Slices that are const may overlap each other.
+ *   - During the call nothing else writes a slice, and nothing else reads one that is not const.
+ *   - A bool is true or false.
+ * The linker does not compare these declarations with the library: header and archive must be of one version. (tools/bindings
+ * compares them with the source.)
+ *
+ * load and dump call themselves for each level of nesting. docs/PERFORMANCE.md says how much stack the levels take.
+ */
+#ifndef RUBY_MARSHAL_H
+#define RUBY_MARSHAL_H
+
+#include <stdbool.h>
+#include <stddef.h>
+#include <stdint.h>
+
+#ifdef __cplusplus
+extern "C" {
+#endif
+
+/* ---- what a function returns ---- */
+
+/* 0, or why the call is refused. In parentheses the first detail, and the second where there is one; others are 0. */
+enum ruby_marshal_refusal {
+    RUBY_MARSHAL_ACCEPTED = 0,
+    RUBY_MARSHAL_BAD_TABLES = 1,      /* (slice) wrong size, limit above 128, odd pair list */
+    RUBY_MARSHAL_BAD_ARENA = 2,       /* (lowest faulty node, or -1 for counts) not well formed */
+    RUBY_MARSHAL_INVALID_VERSION = 3, /* (major, minor) header */
+    RUBY_MARSHAL_SHORT_INPUT = 4,     /* byte missing */
+    RUBY_MARSHAL_INVALID_KIND = 5,    /* (byte) unknown kind */
+    RUBY_MARSHAL_NEGATIVE_COUNT = 6,  /* (value) length, count or index below 0 */
+    RUBY_MARSHAL_MISSING_SYMBOL = 7,  /* (index) past the symbol list */
+    RUBY_MARSHAL_MISSING_OBJECT = 8,  /* (index) past the object list */
+    RUBY_MARSHAL_NOT_A_SYMBOL = 9,    /* (byte) symbol-like wanted */
+    RUBY_MARSHAL_NOT_AN_OBJECT = 10,  /* instance variables on another kind than string or user-defined */
+    RUBY_MARSHAL_TOO_DEEP = 11,       /* (limit) level above limit */
+    RUBY_MARSHAL_NO_SPACE = 12,       /* (slice) next item doesn't fit */
+    RUBY_MARSHAL_BAD_HANDLE = 13,     /* (handle) not below node count */
+    RUBY_MARSHAL_WRONG_KIND = 14      /* (handle) symbol wanted */
+};
+
+/* The slices that BAD_TABLES and NO_SPACE name; the lowest wrong one is named. No slice has more than 2147483647 entries. */
+enum ruby_marshal_slice {
+    RUBY_MARSHAL_SLICE_NODES = 1,      /* words, a whole number of nodes, at least one node */
+    RUBY_MARSHAL_SLICE_REFERENCES = 2,
+    RUBY_MARSHAL_SLICE_BYTES = 3,
+    RUBY_MARSHAL_SLICE_SYMBOLS = 4,    /* symbol list */
+    RUBY_MARSHAL_SLICE_OBJECTS = 5,    /* object list */
+    RUBY_MARSHAL_SLICE_OUTPUT = 6,
+    RUBY_MARSHAL_SLICE_LIMIT = 7,      /* no slice: the limit */
+    RUBY_MARSHAL_SLICE_INPUT = 8,      /* the input, or a builder's byte string */
+    RUBY_MARSHAL_SLICE_LIST = 9,       /* a builder's members or pairs */
+    RUBY_MARSHAL_SLICE_SCRATCH = 10    /* dump scratch: at least one word for each node that the node table can hold */
+};
+
+/* The greatest limit: levels of nesting. */
+#define RUBY_MARSHAL_LIMIT 128u
+
+/* ---- the answer words ----
+ *
+ * The last slice of every function. Words 0 and 1 are the two details, 0 where the call is accepted; then comes what else
+ * the call answers, 0 where it is refused unless said. Words past those stay as they were.
+ *
+ * Fewer words than a function writes: it returns BAD_TABLES, and nothing at all is written, so that no detail names the
+ * slice. The number of words is the caller's own, so a caller that passes what is stated here never sees this.
+ */
+#define RUBY_MARSHAL_ANSWER_WORDS 9u /* enough for every function */
+#define RUBY_MARSHAL_LOAD_WORDS 7u
+#define RUBY_MARSHAL_DUMP_WORDS 3u
+#define RUBY_MARSHAL_NEW_WORDS 6u
+#define RUBY_MARSHAL_ROOT_WORDS 3u
+#define RUBY_MARSHAL_KIND_WORDS 3u
+#define RUBY_MARSHAL_GET_WORDS 9u
+#define RUBY_MARSHAL_GET_SYMBOL_WORDS 4u
+#define RUBY_MARSHAL_CREATE_WORDS 7u /* every create_ function, and replace_root */
+
+enum ruby_marshal_answer {
+    RUBY_MARSHAL_FIRST = 0,      /* first detail, in two's complement: ruby_marshal_detail */
+    RUBY_MARSHAL_SECOND = 1,     /* second detail, never below 0 */
+    RUBY_MARSHAL_NODES = 2,      /* load, new, replace_root, create_: the four counts */
+    RUBY_MARSHAL_REFERENCES = 3,
+    RUBY_MARSHAL_BYTES = 4,
+    RUBY_MARSHAL_ROOT = 5,
+    RUBY_MARSHAL_USED = 6,       /* load: bytes of input used */
+    RUBY_MARSHAL_HANDLE = 6,     /* create_: the node; replace_root: the old root */
+    RUBY_MARSHAL_WRITTEN = 2,    /* dump: bytes of output written */
+    RUBY_MARSHAL_VALUE = 2,      /* root: the root's node; kind: the node's kind */
+    RUBY_MARSHAL_WORDS = 2,      /* get: the node's seven words, 2 to 8 */
+    RUBY_MARSHAL_START = 2,      /* get_symbol: where the name's bytes start, */
+    RUBY_MARSHAL_LENGTH = 3      /*             and how many they are */
+};
+
+/* ---- the arena ----
+ *
+ * Three tables: nodes of seven words, references (nodes by number, in lists), bytes. Four counts say how much of each is
+ * used, and which node is the root. A handle is a node's number. Well formed: counts fit the tables, node count at least 1,
+ * root below it, each word as below, byte and list ranges inside the counts, members below the node count, names symbols.
+ * Entries past the counts are not examined. An arena may hold itself: a node can be its own member.
+ */
+#define RUBY_MARSHAL_NODE_WORDS 7u
+
+enum ruby_marshal_word {
+    RUBY_MARSHAL_WORD_KIND = 0,
+    RUBY_MARSHAL_WORD_VALUE = 1,     /* bool: 0 or 1; fixnum: 32 bits in two's complement */
+    RUBY_MARSHAL_WORD_START = 1,     /* symbol, string, user-defined: where its bytes start, */
+    RUBY_MARSHAL_WORD_LENGTH = 2,    /*                               and how many they are */
+    RUBY_MARSHAL_WORD_LIST = 3,      /* where its list starts among the references, */
+    RUBY_MARSHAL_WORD_COUNT = 4,     /* and its number of elements (array) or pairs (hash, object, variables) */
+    RUBY_MARSHAL_WORD_NAME = 5,      /* object, user-defined: the node of its class's name */
+    RUBY_MARSHAL_WORD_DEFAULT = 6,   /* hash: 0 for no default, else node + 1 */
+    RUBY_MARSHAL_WORD_VARIABLES = 6  /* string, user-defined: 1 if it has a variable list, even an empty one */
+};
+
+/* Word 0. Words that a kind does not use are 0. A pair takes two references; variables are pairs of a symbol and a value. */
+enum ruby_marshal_kind {
+    RUBY_MARSHAL_NIL = 0,
+    RUBY_MARSHAL_BOOL = 1,
+    RUBY_MARSHAL_FIXNUM = 2,
+    RUBY_MARSHAL_SYMBOL = 3,
+    RUBY_MARSHAL_ARRAY = 4,
+    RUBY_MARSHAL_HASH = 5,
+    RUBY_MARSHAL_OBJECT = 6,
+    RUBY_MARSHAL_STRING = 7,
+    RUBY_MARSHAL_USER_DEFINED = 8
+};
+
+/* ---- load and dump ---- */
+
+/*
+ * Reads input into the three tables; the two lists are work space. A value is at level 1 and its members one deeper; a
+ * level above limit (0 to 128) is refused. Bytes after the root value are ignored.
+ *
+ * Each node but the first, each reference, byte and list entry takes at least one byte of input of its own. So an input of n
+ * bytes that any tables accept is accepted by tables of n nodes, n references, n bytes, and n entries of each list.
+ *
+ * Answers: details, counts, bytes used.
+ * Accepted: the tables hold the arena, zeros past the counts; both lists are zero. Node 0 is nil.
+ * Refused with 1 (slices 1 2 3 4 5 7 8): nothing is touched; counts 0, 0, 0, 0.
+ * Refused with 3 to 12: tables and lists are zero; counts 1, 0, 0, 0, which with them are an arena that holds nil.
+ */
+uint32_t ruby_marshal_load(
+    const uint8_t *input, size_t input_length,
+    uint32_t *nodes, size_t nodes_length,
+    uint32_t *references, size_t references_length,
+    uint8_t *bytes, size_t bytes_length,
+    uint32_t *symbols, size_t symbols_length,
+    uint32_t *objects, size_t objects_length,
+    uint32_t limit,
+    uint64_t *answer, size_t answer_length);
+
+/*
+ * Writes the arena's root, and all that it holds, into output, in the one form that equal graphs share. Levels are those
+ * that load would count in what is written.
+ *
+ * Answers: details, bytes written.
+ * Accepted: output has the bytes written, then zeros; scratch is zero.
+ * Refused with 1 (slices 1 2 3 6 7 10) or 2: nothing is touched. Refused with 11 or 12: output and scratch are zero.
+ */
+uint32_t ruby_marshal_dump(
+    const uint32_t *nodes, size_t nodes_length,
+    const uint32_t *references, size_t references_length,
+    const uint8_t *bytes, size_t bytes_length,
+    size_t node_count, size_t reference_count, size_t byte_count, uint32_t root,
+    uint32_t *scratch, size_t scratch_length,
+    uint8_t *output, size_t output_length,
+    uint32_t limit,
+    uint64_t *answer, size_t answer_length);
+
+/* ---- getters ----
+ *
+ * Each tests the tables (1, slices 1 2 3) and the whole arena (2) first, then its handle (13). They write the answer alone.
+ * Where load or a builder has just been accepted, the arena is well formed and the node table may be read instead.
+ */
+
+/* Answers: details, the root's node. An accepted call is the check that an arena is well formed. */
+uint32_t ruby_marshal_root(
+    const uint32_t *nodes, size_t nodes_length,
+    const uint32_t *references, size_t references_length,
+    const uint8_t *bytes, size_t bytes_length,
+    size_t node_count, size_t reference_count, size_t byte_count, uint32_t root,
+    uint64_t *answer, size_t answer_length);
+
+/* Answers: details, the node's kind. */
+uint32_t ruby_marshal_kind(
+    const uint32_t *nodes, size_t nodes_length,
+    const uint32_t *references, size_t references_length,
+    const uint8_t *bytes, size_t bytes_length,
+    size_t node_count, size_t reference_count, size_t byte_count, uint32_t root,
+    uint32_t handle,
+    uint64_t *answer, size_t answer_length);
+
+/* Answers: details, the node's seven words. */
+uint32_t ruby_marshal_get(
+    const uint32_t *nodes, size_t nodes_length,
+    const uint32_t *references, size_t references_length,
+    const uint8_t *bytes, size_t bytes_length,
+    size_t node_count, size_t reference_count, size_t byte_count, uint32_t root,
+    uint32_t handle,
+    uint64_t *answer, size_t answer_length);
+
+/* Answers: details, where the symbol's bytes start and how many they are. 14 if the node is no symbol. */
+uint32_t ruby_marshal_get_symbol(
+    const uint32_t *nodes, size_t nodes_length,
+    const uint32_t *references, size_t references_length,
+    const uint8_t *bytes, size_t bytes_length,
+    size_t node_count, size_t reference_count, size_t byte_count, uint32_t root,
+    uint32_t handle,
+    uint64_t *answer, size_t answer_length);
+
+/* ---- builder ---- */
+
+/*
+ * An arena that holds nil. Answers: details, counts.
+ * Accepted: the tables are zero; counts 1, 0, 0, 0. Refused with 1 (slices 1 2 3): nothing is touched; counts 0, 0, 0, 0.
+ */
+uint32_t ruby_marshal_new(
+    uint32_t *nodes, size_t nodes_length,
+    uint32_t *references, size_t references_length,
+    uint8_t *bytes, size_t bytes_length,
+    uint64_t *answer, size_t answer_length);
+
+/*
+ * The functions from here on answer: details, counts, a handle.
+ * Each tests the tables (1, slices 1 2 3, and 8 or 9 where it takes one), the whole arena (2), handles in order (13), names
+ * (14), then space for bytes, references and a node (12).
+ * Accepted: a node is appended, with its bytes and its list, and its handle answered; root and all else stay. The counts
+ * answered are those to pass next; the arena is well formed again.
+ * Refused: nothing is changed; the counts are those given, the handle is 0.
+ */
+
+/* The root replaced by handle; the old root is answered. Only the counts change: no table is written. */
+uint32_t ruby_marshal_replace_root(
+    const uint32_t *nodes, size_t nodes_length,
+    const uint32_t *references, size_t references_length,
+    const uint8_t *bytes, size_t bytes_length,
+    size_t node_count, size_t reference_count, size_t byte_count, uint32_t root,
+    uint32_t handle,
+    uint64_t *answer, size_t answer_length);
+
+uint32_t ruby_marshal_create_nil(
+    uint32_t *nodes, size_t nodes_length,
+    const uint32_t *references, size_t references_length,
+    const uint8_t *bytes, size_t bytes_length,
+    size_t node_count, size_t reference_count, size_t byte_count, uint32_t root,
+    uint64_t *answer, size_t answer_length);
+
+uint32_t ruby_marshal_create_bool(
+    uint32_t *nodes, size_t nodes_length,
+    const uint32_t *references, size_t references_length,
+    const uint8_t *bytes, size_t bytes_length,
+    size_t node_count, size_t reference_count, size_t byte_count, uint32_t root,
+    bool value,
+    uint64_t *answer, size_t answer_length);
+
+uint32_t ruby_marshal_create_fixnum(
+    uint32_t *nodes, size_t nodes_length,
+    const uint32_t *references, size_t references_length,
+    const uint8_t *bytes, size_t bytes_length,
+    size_t node_count, size_t reference_count, size_t byte_count, uint32_t root,
+    int32_t value,
+    uint64_t *answer, size_t answer_length);
+
+/* The lowest symbol with that name, for which nothing is added; or a new one. */
+uint32_t ruby_marshal_create_symbol(
+    uint32_t *nodes, size_t nodes_length,
+    const uint32_t *references, size_t references_length,
+    uint8_t *bytes, size_t bytes_length,
+    size_t node_count, size_t reference_count, size_t byte_count, uint32_t root,
+    const uint8_t *name, size_t name_length,
+    uint64_t *answer, size_t answer_length);
+
+/* A new symbol, also where there is one with that name. */
+uint32_t ruby_marshal_create_new_symbol(
+    uint32_t *nodes, size_t nodes_length,
+    const uint32_t *references, size_t references_length,
+    uint8_t *bytes, size_t bytes_length,
+    size_t node_count, size_t reference_count, size_t byte_count, uint32_t root,
+    const uint8_t *name, size_t name_length,
+    uint64_t *answer, size_t answer_length);
+
+/* Members are handles. */
+uint32_t ruby_marshal_create_array(
+    uint32_t *nodes, size_t nodes_length,
+    uint32_t *references, size_t references_length,
+    const uint8_t *bytes, size_t bytes_length,
+    size_t node_count, size_t reference_count, size_t byte_count, uint32_t root,
+    const uint32_t *members, size_t members_length,
+    uint64_t *answer, size_t answer_length);
+
+/* Pairs are handles, key and value in turn. default_word is 0 for no default, else its node + 1; 13 names that word less 1. */
+uint32_t ruby_marshal_create_hash(
+    uint32_t *nodes, size_t nodes_length,
+    uint32_t *references, size_t references_length,
+    const uint8_t *bytes, size_t bytes_length,
+    size_t node_count, size_t reference_count, size_t byte_count, uint32_t root,
+    const uint32_t *pairs, size_t pairs_length,
+    uint32_t default_word,
+    uint64_t *answer, size_t answer_length);
+
+/* name is the class's symbol; pairs are a variable's symbol and its value in turn. */
+uint32_t ruby_marshal_create_object(
+    uint32_t *nodes, size_t nodes_length,
+    uint32_t *references, size_t references_length,
+    const uint8_t *bytes, size_t bytes_length,
+    size_t node_count, size_t reference_count, size_t byte_count, uint32_t root,
+    uint32_t name,
+    const uint32_t *pairs, size_t pairs_length,
+    uint64_t *answer, size_t answer_length);
+
+/* A string without variables. */
+uint32_t ruby_marshal_create_string(
+    uint32_t *nodes, size_t nodes_length,
+    const uint32_t *references, size_t references_length,
+    uint8_t *bytes, size_t bytes_length,
+    size_t node_count, size_t reference_count, size_t byte_count, uint32_t root,
+    const uint8_t *value, size_t value_length,
+    uint64_t *answer, size_t answer_length);
+
+/* A user-defined value without variables; name is the class's symbol. */
+uint32_t ruby_marshal_create_user_defined(
+    uint32_t *nodes, size_t nodes_length,
+    const uint32_t *references, size_t references_length,
+    uint8_t *bytes, size_t bytes_length,
+    size_t node_count, size_t reference_count, size_t byte_count, uint32_t root,
+    uint32_t name,
+    const uint8_t *value, size_t value_length,
+    uint64_t *answer, size_t answer_length);
+
+/* ---- helps, which the library does not have ---- */
+
+/* The four counts, as the functions take them. */
+struct ruby_marshal_counts {
+    size_t nodes;
+    size_t references;
+    size_t bytes;
+    uint32_t root;
+};
+
+/* The counts of an answer that has them. */
+static inline struct ruby_marshal_counts ruby_marshal_counts_of(const uint64_t *answer)
+{
+    struct ruby_marshal_counts c;
+    c.nodes = (size_t)answer[RUBY_MARSHAL_NODES];
+    c.references = (size_t)answer[RUBY_MARSHAL_REFERENCES];
+    c.bytes = (size_t)answer[RUBY_MARSHAL_BYTES];
+    c.root = (uint32_t)answer[RUBY_MARSHAL_ROOT];
+    return c;
+}
+
+/* The first detail with its sign. */
+static inline int64_t ruby_marshal_detail(const uint64_t *answer)
+{
+    uint64_t word = answer[RUBY_MARSHAL_FIRST];
+    return word <= INT64_MAX ? (int64_t)word : -(int64_t)~word - 1;
+}
+
+/* A fixnum's word 1 as a number. */
+static inline int32_t ruby_marshal_fixnum(uint32_t word)
+{
+    return word <= INT32_MAX ? (int32_t)word : -(int32_t)~word - 1;
+}
+
+/* The name of what a function returns. */
+static inline const char *ruby_marshal_name(uint32_t returned)
+{
+    switch (returned) {
+    case RUBY_MARSHAL_ACCEPTED: return "ACCEPTED";
+    case RUBY_MARSHAL_BAD_TABLES: return "BAD-TABLES";
+    case RUBY_MARSHAL_BAD_ARENA: return "BAD-ARENA";
+    case RUBY_MARSHAL_INVALID_VERSION: return "INVALID-VERSION";
+    case RUBY_MARSHAL_SHORT_INPUT: return "SHORT-INPUT";
+    case RUBY_MARSHAL_INVALID_KIND: return "INVALID-KIND";
+    case RUBY_MARSHAL_NEGATIVE_COUNT: return "NEGATIVE-COUNT";
+    case RUBY_MARSHAL_MISSING_SYMBOL: return "MISSING-SYMBOL";
+    case RUBY_MARSHAL_MISSING_OBJECT: return "MISSING-OBJECT";
+    case RUBY_MARSHAL_NOT_A_SYMBOL: return "NOT-A-SYMBOL";
+    case RUBY_MARSHAL_NOT_AN_OBJECT: return "NOT-AN-OBJECT";
+    case RUBY_MARSHAL_TOO_DEEP: return "TOO-DEEP";
+    case RUBY_MARSHAL_NO_SPACE: return "NO-SPACE";
+    case RUBY_MARSHAL_BAD_HANDLE: return "BAD-HANDLE";
+    case RUBY_MARSHAL_WRONG_KIND: return "WRONG-KIND";
+    default: return "?";
+    }
+}
+
+#ifdef __cplusplus
+}
+#endif
+
+#endif
