@@ -3,6 +3,18 @@ use crate::{Arena, Handle, NODE_WORDS};
 use core::fmt;
 use core::slice;
 
+// The places of a node's words, as RUBY_MARSHAL_WORD_ in the header.
+mod word {
+    pub const VALUE: usize = 1;
+    pub const START: usize = 1;
+    pub const LENGTH: usize = 2;
+    pub const LIST: usize = 3;
+    pub const COUNT: usize = 4;
+    pub const NAME: usize = 5;
+    pub const DEFAULT: usize = 6;
+    pub const VARIABLES: usize = 6;
+}
+
 /// What a node is: its word 0.
 #[derive(Clone, Copy, Debug, PartialEq, Eq, Hash)]
 pub enum Kind {
@@ -109,8 +121,8 @@ impl<'a> Node<'a> {
         let row = self.row();
         match self.kind() {
             Kind::Nil => Value::Nil,
-            Kind::Bool => Value::Bool(row.words[1] == 1),
-            Kind::Fixnum => Value::Fixnum(row.words[1] as i32),
+            Kind::Bool => Value::Bool(row.words[word::VALUE] == 1),
+            Kind::Fixnum => Value::Fixnum(row.words[word::VALUE] as i32),
             Kind::Symbol => Value::Symbol(row.bytes()),
             Kind::Array => Value::Array(Array(row)),
             Kind::Hash => Value::Hash(Hash(row)),
@@ -170,13 +182,13 @@ impl fmt::Debug for Node<'_> {
 impl<'a> Row<'a> {
     #[inline]
     fn bytes(self) -> &'a [u8] {
-        let start = self.words[1] as usize;
-        &self.node.arena.bytes[start..start + self.words[2] as usize]
+        let start = self.words[word::START] as usize;
+        &self.node.arena.bytes[start..start + self.words[word::LENGTH] as usize]
     }
 
     #[inline]
     fn list(self, words: usize) -> &'a [u32] {
-        let start = self.words[3] as usize;
+        let start = self.words[word::LIST] as usize;
         &self.node.arena.references[start..start + words]
     }
 
@@ -192,18 +204,23 @@ impl<'a> Row<'a> {
 
     #[inline]
     fn count(self) -> usize {
-        self.words[4] as usize
+        self.words[word::COUNT] as usize
     }
 
-    // Words 3 and 4 are a variable list where word 6 says that there is one.
+    // The list is one of variables where the node's last word says that there is one.
     #[inline]
     fn variable_list(self) -> Option<Variables<'a>> {
-        (self.words[6] == 1).then(|| self.variables())
+        (self.words[word::VARIABLES] == 1).then(|| self.variables())
+    }
+
+    #[inline]
+    fn name_node(self) -> Node<'a> {
+        Node::at(self.node.arena, self.words[word::NAME])
     }
 
     #[inline]
     fn name(self) -> &'a [u8] {
-        Node::at(self.node.arena, self.words[5]).row().bytes()
+        self.name_node().row().bytes()
     }
 }
 
@@ -305,7 +322,7 @@ impl<'a> Hash<'a> {
     /// The default, if it has one.
     #[inline]
     pub fn default_value(self) -> Option<Node<'a>> {
-        let handle = self.0.words[6].checked_sub(1)?;
+        let handle = self.0.words[word::DEFAULT].checked_sub(1)?;
         Some(Node::at(self.0.node.arena, handle))
     }
 
@@ -335,7 +352,7 @@ impl<'a> Object<'a> {
     /// The symbol that is the class's name.
     #[inline]
     pub fn name_node(self) -> Node<'a> {
-        Node::at(self.0.node.arena, self.0.words[5])
+        self.0.name_node()
     }
 
     /// The instance variables in order.
@@ -374,7 +391,7 @@ impl<'a> UserDefined<'a> {
     /// The symbol that is the class's name.
     #[inline]
     pub fn name_node(self) -> Node<'a> {
-        Node::at(self.0.node.arena, self.0.words[5])
+        self.0.name_node()
     }
 
     /// The bytes that the class wrote.
