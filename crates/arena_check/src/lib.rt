@@ -1,21 +1,62 @@
-// Whether an arena is well formed.
+// Whether the slices lent have allowed lengths, and whether an arena is well formed.
 use definition::Counts;
 use definition::Fault;
 use definition::Node;
 ghost use mathlib.Core.Path.{_≡_};
+ghost use mathlib.Core.Bool.{true};
 ghost use mathlib.Core.List.{[], _∷_};
 ghost use Prim.Native.Nat.{_+_, _*_, _/_, _<_, _≤_};
 ghost use lib.Dec.{eqb};
 ghost use lib.ListN.{length, take, drop};
 ghost use Rattle.definition.specs.Node.{width, is-row, row-of, rows, vars};
-ghost use mathlib.Core.Bool.{true};
-ghost use Rattle.definition.specs.Arena.{Arena, Tables, range, firsts, all-below, all-names, is-name, bytes-right, list-right, pairs-right, vars-right, row-right, node-right, faulty, counts-fit, fault};
+ghost use Rattle.definition.specs.Run.{pick};
+ghost use Rattle.definition.specs.Arena.{Arena, Tables, too-long, bad-nodes, range, firsts, all-below, all-names, is-name, bytes-right, list-right, pairs-right, vars-right, row-right, node-right, faulty, counts-fit, fault};
+ghost use Rattle.lists.specs.Slices.{Named, Small};
 ghost use Rattle.arena_check.specs.Held.{Held, checked, tables, Fits, FitIf, counted};
 
 pub enum Checked {
     Right,
     Wrong(Fault),
 }
+
+// ---- lengths of slices
+
+pub fn too_long(n: usize) -> bool
+    ensures { λ r. ⌜ r ≡ too-long n ⌝ }
+{
+    2147483647 < n
+}
+
+fn wrong_nodes(n: usize) -> bool
+    ensures { λ r. ⌜ r ≡ bad-nodes n ⌝ }
+{
+    too_long(n) | (n == 0) | (n % Node::WIDTH != 0)
+}
+
+// The number of a slice that is wrong, or else `more`, what the slices after it give.
+pub fn first_wrong(number: u32, wrong: bool, more: u32) -> u32
+    ensures { λ r. ⌜ r ≡ pick wrong number more ⌝ }
+{
+    if wrong { number } else { more }
+}
+
+// BAD-TABLES: the lowest wrong table, or `more` from the other slices, or 0.
+pub fn wrong_table(nodes: usize, references: usize, bytes: usize, more: u32) -> u32
+    ensures { λ r. ⌜ Named nodes references bytes more r ⌝ }
+    ensures { λ r. ⌜ (r ≡ 0 → Small nodes references bytes × (more ≡ 0)) ⌝ }
+{
+    first_wrong(
+        1,
+        wrong_nodes(nodes),
+        first_wrong(
+            2,
+            too_long(references),
+            first_wrong(3, too_long(bytes), more),
+        ),
+    )
+}
+
+// ---- the arena
 
 fn wide(x: u32) -> u64
     ensures { λ r. ⌜ r ≡ x ⌝ }

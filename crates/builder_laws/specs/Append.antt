@@ -16,10 +16,11 @@ use Rattle.definition.specs.Build.{Lent, lent, held, wrong, words-at, new-if, n
 use Rattle.definition.specs.declared.Answer.the-variants.{Accepted}
 use Rattle.definition.specs.declared.Counts.{Counts}
 use Rattle.lists.specs.Lists.{apart}
+use Rattle.lists.specs.Slices.{tables-right}
 use Rattle.lists.specs.Tables.{faulty-words, words-faulty, counts-fit-yes, fault-none, no-fault}
 use Rattle.lists.specs.Joined.{and-left, and-right, yes-and}
 use Rattle.well_formed.specs.Right.{fault-fit}
-use Rattle.load_forest.specs.Call.{row-words-back, is-row-words, nodes-allowed, lowest-none}
+use Rattle.load_forest.specs.Call.{row-words-back, is-row-words}
 use Rattle.builder_laws.specs.Tables.{take-stored, words-before, words-stored, rows-same, rows-last}
 use Rattle.builder_laws.specs.Grown.{grown, right-grown}
 
@@ -116,7 +117,7 @@ zeroed-tables T = record { nodes = zeroed (T .nodes); references = zeroed (T .re
 
 some-nodes : (T : Tables) → wrong T [] ≡ 0 → 1 ≤ length (T .nodes) / 7
 unfolding wrong
-some-nodes T e = nodes-allowed (length (T .nodes)) (lowest-none 0 _ _ e .0) .1
+some-nodes T e = tables-right _ _ _ _ e .0 .one
 
 zeroed-fault : (T : Tables) → 1 ≤ length (T .nodes) / 7 → fault (zeroed-tables T) first-counts ≡ none
 unfolding zeroed

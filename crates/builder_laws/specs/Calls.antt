@@ -1,5 +1,5 @@
 -- The builder's calls, each taken apart: what an accepted one adds to a well-formed arena.
-use Prim.Native.Nat.{ℕ, zero, suc, _*_, _/_, _%_, _≤_, _<_}
+use Prim.Native.Nat.{ℕ, zero, suc, _*_, _/_, _≤_, _<_}
 use mathlib.Core.Path.{_≡_, refl, ap, sym, _∙_}
 use mathlib.Core.Bool.{Bool, true}
 use mathlib.Core.Option.{Option, none, some}
@@ -8,14 +8,13 @@ use lib.Dec.{ltb}
 use lib.IntN.{ℤ}
 use lib.ListN.{length}
 use native.Mathlib.Omega.{arith}
-use borrow.Author.Tests.{eqb-true, not-false}
 use Rattle.definition.specs.Run.{Run, Outcome, ok, refused, pure, next, _>>=_, look, pick}
 use Rattle.definition.specs.Node.{Row, nil, bool, fixnum, symbol, array, hash, object, string, user, absent}
-use Rattle.definition.specs.Arena.{Tables, Arena, firsts, is-name, all-below, all-names, too-long, fault, row-right, vars-right, find-symbol}
+use Rattle.definition.specs.Arena.{Tables, Arena, firsts, is-name, all-below, all-names, fault, row-right, vars-right, find-symbol}
 use Rattle.definition.specs.Build.{Lent, held, wrong, check, check-handles, byte-slice, member-slice, pair-slice, handle-checked, set-root, exchange-root, add, bits, create-nil, create-bool, create-fixnum, add-symbol, create-new-symbol, known-or-new, create-symbol, create-array, default-handle, create-hash, create-object, create-string, create-user-defined}
-use Rattle.lists.specs.Joined.{yes-and, or-none, pick-true}
+use Rattle.lists.specs.Joined.{yes-and, pick-true}
+use Rattle.lists.specs.Slices.{lowest-none, whole-pairs, tables-right}
 use Rattle.well_formed.specs.Right.{Fit, below-of, fault-fit}
-use Rattle.load_forest.specs.Call.{lowest-none}
 use Rattle.builder_laws.specs.Grown.{grown, name-grown, bytes-added, list-added, pairs-added, default-added}
 use Rattle.builder_laws.specs.Append.{Room, appended}
 use Rattle.builder_laws.specs.Checks.{after-check, after-handles, after-names, after-add}
@@ -141,13 +140,7 @@ pub data Did (L : Lent) (h : ℕ) (M : Lent) : Builder → Type 0 where
 
 even-pairs : (T : Tables) (ps : List ℕ) → wrong T (pair-slice ps ∷ []) ≡ 0 → length ps ≡ length ps / 2 * 2
 unfolding wrong pair-slice
-even-pairs T ps e =
-    let e₁ = lowest-none 0 _ _ e .1 in
-    let e₂ = lowest-none 1 _ _ e₁ .1 in
-    let e₃ = lowest-none 2 _ _ e₂ .1 in
-    let b = lowest-none 8 _ _ e₃ .0 in
-    let z = eqb-true (length ps % 2) 0 (not-false _ (or-none (too-long (length ps)) _ b .1)) in
-    omega arith
+even-pairs T ps e = sym (whole-pairs (length ps) (lowest-none 8 _ _ (tables-right _ _ _ _ e .1) .0))
 
 all-below-parts : (n : ℕ) (l m : List ℕ) → all-below n (l ++ m) ≡ true → (all-below n l ≡ true) × (all-below n m ≡ true)
 unfolding all-below pick

@@ -10,9 +10,11 @@ use Rattle.definition.specs.Node.{width}
 use Rattle.definition.specs.Arena.{Arena, node, range}
 use Rattle.definition.specs.Dump.{Writer, _>>_, write-elements, write-default, write-row, write-level, write-value}
 use Rattle.well_formed.specs.Right.{ListIn}
-use Rattle.dumper.specs.Held.{buffers, Noded, Lent, Listed, Ready, Goes, Leads, Meets, Heads, listed, default-of, members-of, MembersIn}
-use Rattle.dumper.specs.Laws.{then, still, goes-as, goes-to, went, lead-as, lead-after, lead-first, lead-goes, lead-stop, head-goes, deep, ready-goes, ready, ready-head, ready-as}
-use Rattle.dumper.proofs.Members.{list-rest, member-below, element-next, elements-begin, elements-end, value-deep, value-row}
+use Rattle.writer.specs.Held.{buffers, Noded, Lent, Listed, Ready, Goes, Leads, Meets}
+use Rattle.writer.specs.Laws.{then, still, goes-as, goes-to, went, lead-as, lead-after, lead-first, lead-goes, lead-stop, ready-goes, ready, ready-as}
+use Rattle.writer.proofs.Members.{list-rest, member-below, element-next, elements-begin, elements-end, value-deep, value-row}
+use Rattle.dumper.specs.Values.{Heads, listed, default-of, members-of, MembersIn}
+use Rattle.dumper.specs.Laws.{head-goes, deep, ready-head}
 
 -- ---- elements
 

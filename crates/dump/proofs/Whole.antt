@@ -20,8 +20,9 @@ use Rattle.arena_check.specs.declared.Checked.the-variants.{Right, Wrong}
 use Rattle.lists.specs.Tables.{words-row}
 use Rattle.well_formed.specs.Right.{Fit, fault-fit, fault-right}
 use Rattle.store.specs.Laws.{cleared, cleared-after, cleared-whole}
-use Rattle.dumper.specs.Held.{Buffers, buffers, word, marked, marks, Lent, Listed, Holds, Ready, Went, Refuses, stopped, Meets, wrong, Allowed}
-use Rattle.dumper.specs.Laws.{assoc, write-join, lead-as, lead-after, lead-first, lead-goes, lead-stop}
+use Rattle.writer.specs.Held.{Buffers, buffers, word, marked, marks, Lent, Listed, Holds, Ready, Went, Refuses, stopped, Meets}
+use Rattle.writer.specs.Laws.{assoc, write-join, lead-as, lead-after, lead-first, lead-goes, lead-stop}
+use Rattle.dumper.specs.Lengths.{wrong, Allowed}
 use Rattle.dump.specs.Whole.{whole}
 
 -- ---- 1 and 2

@@ -11,9 +11,12 @@ use Rattle.definition.specs.Node.{width}
 use Rattle.definition.specs.Arena.{Arena, node, range}
 use Rattle.definition.specs.Dump.{Writer, _>>_, write, write-level, write-elements, write-name, write-instance-variables, write-object-or-link, write-row, write-value}
 use Rattle.well_formed.specs.Right.{PairsIn}
-use Rattle.dumper.specs.Held.{Buffers, Lent, Listed, Ready, IsObject, IsSymbol, Goes, Leads, Meets, Heads, Opens, begun, opened, members-of, MembersIn}
-use Rattle.dumper.specs.Laws.{then, goes-to, linked, lead-to, lead-goes, lead-stop, lead-first, lead-head, head-as, head-to, head-after, head-goes, head-keep, ready-goes}
-use Rattle.dumper.proofs.Heads.{is-object, object-row, string-row, user-row, right-row, symbol-as, bytes-inside, object-open, string-open, user-open, after, after-none, after-some, vars-present, members-pairs, in-pairs}
+use Rattle.writer.specs.Held.{Buffers, buffers, Lent, Listed, Ready, IsSymbol, Goes, Leads, Meets}
+use Rattle.writer.specs.Laws.{then, goes-to, lead-to, lead-goes, lead-stop, lead-first, ready-goes, ready-as}
+use Rattle.writer.proofs.Names.{right-row}
+use Rattle.dumper.specs.Values.{IsObject, Heads, Opens, begun, opened, members-of, MembersIn}
+use Rattle.dumper.specs.Laws.{linked, lead-head, head-as, head-to, head-after, head-goes, head-keep}
+use Rattle.dumper.proofs.Heads.{is-object, object-row, string-row, user-row, symbol-as, bytes-inside, object-open, string-open, user-open, after, after-none, after-some, vars-present, members-pairs, in-pairs}
 
 -- the tables, the node and the levels left for its members
 pub record Here : Type 0 where
@@ -41,13 +44,19 @@ module _ (h : Here) where
   variables A room limit = write-instance-variables room A (write-value room A limit (h .levels)) (word 3) (word 4)
 
   -- its byte string; after that, variables where the mark says that there are some
-  abbrev pub text : Arena → ℕ → ℕ → Writer
+  abbrev text : Arena → ℕ → ℕ → Writer
   text A room limit = write room (integer-bytes (word 2) ++ take (word 2) (drop (word 1) (h .bytes)))
 
-  abbrev pub rest : Arena → ℕ → ℕ → Writer
+  abbrev rest : Arena → ℕ → ℕ → Writer
   rest A room limit = after room A (write-level limit (h .levels)) (write-value room A limit (h .levels)) (h .v) (word 6) (word 3) (word 4)
 
+  abbrev pub text-rest : Arena → ℕ → ℕ → Writer
+  text-rest A room limit = text A room limit >> rest A room limit
+
   -- what holds of every arena that is lent
+  abbrev Of : (Arena → Type 0) → Type 0
+  Of P = (A : Arena) → Lent A (h .nodes) (h .bytes) → h .v < length (A .nodes) → P A
+
   abbrev Each : (Arena → ℕ → ℕ → Type 0) → Type 0
   Each P = (A : Arena) (room limit : ℕ) → Lent A (h .nodes) (h .bytes) → Listed A (h .references) → h .v < length (A .nodes) → P A room limit
 
@@ -57,11 +66,15 @@ module _ (h : Here) where
   abbrev Held : Arena → Type 0
   Held A = Lent A (h .nodes) (h .bytes) × Listed A (h .references) × (h .v < length (A .nodes))
 
-  pub reached-ready : {B B₁ : Buffers} {c c₁ : List ℕ} (m : Arena → ℕ → ℕ → Writer) → Reached m B c B₁ c₁ → Ready Held B c → Ready Held B₁ c₁
+  reached-ready : {B B₁ : Buffers} {c c₁ : List ℕ} (m : Arena → ℕ → ℕ → Writer) → Reached m B c B₁ c₁ → Ready Held B c → Ready Held B₁ c₁
   reached-ready m g R = ready-goes R (g (R .arena) (R .room) 0 (R .fact .0) (R .fact .1) (R .fact .2))
 
+  -- what is held where the variables are opened
+  pub pairs-ready : {B B₁ : Buffers} {c c₁ : List ℕ} (m : Arena → ℕ → ℕ → Writer) → Of (λ A. PairsIn A (word 3) (word 4)) → Reached m B c B₁ c₁ → Ready Held B c → Ready (λ A. Lent A (h .nodes) (h .bytes) × Listed A (h .references) × PairsIn A (word 3) (word 4)) B₁ c₁
+  pairs-ready m inside g R = ready-as (λ A f. (f .0, f .1, inside A (f .0) (f .2))) (reached-ready m g R)
+
   -- no variables come after the byte string, or some do
-  pub no-variables : {B B₁ : Buffers} {c c₁ : List ℕ} → word 6 ≡ 0 → Reached rest B c B₁ c₁ → Each (λ A room limit. Goes A room (value A room limit) B c (pure tt) B₁ c₁)
+  no-variables : {B B₁ : Buffers} {c c₁ : List ℕ} → word 6 ≡ 0 → Reached rest B c B₁ c₁ → Each (λ A room limit. Goes A room (value A room limit) B c (pure tt) B₁ c₁)
   no-variables z g A room limit L l b = goes-to (after-none room A (write-level limit (h .levels)) (write-value room A limit (h .levels)) (h .v) (word 6) (word 3) (word 4) z) (g A room limit L l b)
 
   pub some-variables : {B B₁ : Buffers} {c c₁ : List ℕ} → (word 6 ≡ 0 → ⊥) → Reached rest B c B₁ c₁ → Reached variables B c B₁ c₁
@@ -86,11 +99,34 @@ module _ (h : Here) (k : ℕ) where
 
   -- a call that writes x before m
   module _ {B B₁ B₂ : Buffers} {c c₁ c₂ : List ℕ} {r : ℕ} (x m : Arena → ℕ → ℕ → Writer) (before : Reached h (λ A room limit. x A room limit >> m A room limit) B c B₁ c₁) (next : Each h (λ A room limit. Meets A room limit (x A room limit) B₁ c₁ r B₂ c₂)) where
-    pub next-stops : (r ≡ 0 → ⊥) → Answers B c r B₂ c₂
+    next-stops : (r ≡ 0 → ⊥) → Answers B c r B₂ c₂
     next-stops n = (λ A room limit L l b. head-after (before A room limit L l b) (lead-head (lead-stop n (lead-first _ (next A room limit L l b)))), λ A L b e. absurd (n e))
 
-    pub next-done : r ≡ 0 → Reached h m B c B₂ c₂
+    next-done : r ≡ 0 → Reached h m B c B₂ c₂
     next-done z A room limit L l b = then (before A room limit L l b) (lead-goes z (lead-first _ (next A room limit L l b)))
+
+  -- the first call, and then the one that writes the name
+  module _ {B B₁ : Buffers} {c c₁ : List ℕ} {r : ℕ} (m : Arena → ℕ → ℕ → Writer) (name : ℕ) (first : Each h (λ A room limit. Heads A room limit (value h A room limit) (write-name room A name >> m A room limit) B c r B₁ c₁)) (z : r ≡ 0) (symbol : Of h (λ A. IsSymbol A name)) where
+    before-name : Reached h (λ A room limit. write-name room A name >> m A room limit) B c B₁ c₁
+    before-name = first-done _ first z
+
+    pub name-ready : Ready (Held h) B c → Ready (λ A. Lent A (h .nodes) (h .bytes) × IsSymbol A name) B₁ c₁
+    name-ready R = ready-as (λ A f. (f .0, symbol A (f .0) (f .2))) (reached-ready h _ before-name R)
+
+    module _ {B₂ : Buffers} {c₂ : List ℕ} {s : ℕ} (x : (A : Arena) (room limit : ℕ) → Lent A (h .nodes) (h .bytes) → IsSymbol A name → Meets A room limit (write-name room A name) B₁ c₁ s B₂ c₂) where
+      pub name-stops : (s ≡ 0 → ⊥) → Answers B c s B₂ c₂
+      name-stops = next-stops (λ A room limit. write-name room A name) m before-name (λ A room limit L l b. x A room limit L (symbol A L b))
+
+      pub name-done : s ≡ 0 → Reached h m B c B₂ c₂
+      name-done = next-done (λ A room limit. write-name room A name) m before-name (λ A room limit L l b. x A room limit L (symbol A L b))
+
+  -- the call that writes the byte string
+  module _ {B : Buffers} {sc out out' c c₁ c₂ : List ℕ} {r : ℕ} (before : Reached h (text-rest h) B c (buffers sc out) c₁) (t : (A : Arena) (room limit : ℕ) (sc : List ℕ) → Meets A room limit (text h A room limit) (buffers sc out) c₁ r (buffers sc out') c₂) where
+    pub text-stops : (r ≡ 0 → ⊥) → Answers B c r (buffers sc out') c₂
+    text-stops = next-stops (text h) (rest h) before (λ A room limit L l b. t A room limit sc)
+
+    pub text-done : r ≡ 0 → Reached h (rest h) B c (buffers sc out') c₂
+    text-done = next-done (text h) (rest h) before (λ A room limit L l b. t A room limit sc)
 
   -- nothing comes after it
   pub whole : {B B₁ : Buffers} {c c₁ : List ℕ} → word h 6 ≡ 0 → Reached h (rest h) B c B₁ c₁ → Answers B c 1 B₁ c₁
@@ -98,7 +134,7 @@ module _ (h : Here) (k : ℕ) where
 
   module _ (is : getD (h .nodes) (h .v * width) 0 ≡ k) (high : 5 < k) where
     -- the call that opens the variables
-    pub variables-answer : {B B₁ B₂ : Buffers} {c c₁ c₂ : List ℕ} {r : ℕ} → Reached h (variables h) B c B₁ c₁ → ((A : Arena) → Lent A (h .nodes) (h .bytes) → h .v < length (A .nodes) → PairsIn A (word h 3) (word h 4)) → ((A : Arena) (room limit : ℕ) → Lent A (h .nodes) (h .bytes) → Listed A (h .references) → PairsIn A (word h 3) (word h 4) → Leads A room limit (variables h A room limit) (write-elements (write-value room A limit (h .levels)) (range (A .references) (word h 3) (word h 4 * 2))) B₁ c₁ r B₂ c₂) → Answers B c r B₂ c₂
+    pub variables-answer : {B B₁ B₂ : Buffers} {c c₁ c₂ : List ℕ} {r : ℕ} → Reached h (variables h) B c B₁ c₁ → Of h (λ A. PairsIn A (word h 3) (word h 4)) → ((A : Arena) (room limit : ℕ) → Lent A (h .nodes) (h .bytes) → Listed A (h .references) → PairsIn A (word h 3) (word h 4) → Leads A room limit (variables h A room limit) (write-elements (write-value room A limit (h .levels)) (range (A .references) (word h 3) (word h 4 * 2))) B₁ c₁ r B₂ c₂) → Answers B c r B₂ c₂
     variables-answer g inside m = (
       λ A room limit L l b.
           let as-pairs = members-pairs room A (write-value room A limit (h .levels)) k (word h 3) (word h 4) (word h 6) (λ q. omega (arith, q)) (λ q. omega (arith, q)) in
@@ -106,47 +142,53 @@ module _ (h : Here) (k : ℕ) where
       λ A L b e. in-pairs (h .nodes) (h .v) (λ q. omega (arith, q)) (λ q. omega (arith, q)) (inside A L b),
     )
 
-    pub object-here : k ≤ 8 → (A : Arena) → Lent A (h .nodes) (h .bytes) → h .v < length (A .nodes) → IsObject A (h .v)
+    object-here : k ≤ 8 → Of h (λ A. IsObject A (h .v))
     object-here low A L b = is-object (L .noded) (h .v) b k is (omega arith) low
+
+    pub object-ready : {B : Buffers} {c : List ℕ} → k ≤ 8 → Ready (Held h) B c → Ready (λ A. IsObject A (h .v)) B c
+    object-ready low = ready-as (λ A f. object-here low A (f .0) (f .2))
 
 -- ---- by kind
 
-module _ (h : Here) (name : ℕ) (named : name ≡ word h 5) where
-  module _ (is : getD (h .nodes) (h .v * width) 0 ≡ 6) where
+module _ (h : Here) (is : getD (h .nodes) (h .v * width) 0 ≡ 6) where
+  pub object-pairs : Of h (λ A. PairsIn A (word h 3) (word h 4))
+  object-pairs A L b = right-row L (h .v) b _ (object-row (L .noded) (h .v) b is) .1
+
+  module _ (name : ℕ) (e : name ≡ word h 5) where
+    pub object-name : Of h (λ A. IsSymbol A name)
+    object-name A L b = symbol-as _ name e (right-row L (h .v) b _ (object-row (L .noded) (h .v) b is) .0)
+
     pub object-first : {B B₁ : Buffers} {c c₁ : List ℕ} {r : ℕ} → ((A : Arena) (room limit : ℕ) → IsObject A (h .v) → Opens A room limit (opened room (h .v) (OBJECT ∷ [])) B c r B₁ c₁) → Each h (λ A room limit. Heads A room limit (value h A room limit) (write-name room A name >> variables h A room limit) B c r B₁ c₁)
-    object-first o A room limit L l b = head-as (object-open room A (write-level limit (h .levels)) (write-value room A limit (h .levels)) (h .v) _ _ _ name (object-row (L .noded) (h .v) b is) named) (o A room limit (object-here h 6 is (omega arith) (omega arith) A L b) _)
+    object-first o A room limit L l b = head-as (object-open room A (write-level limit (h .levels)) (write-value room A limit (h .levels)) (h .v) _ _ _ name (object-row (L .noded) (h .v) b is) e) (o A room limit (object-here h 6 is (omega arith) (omega arith) A L b) _)
 
-    pub object-name : (A : Arena) → Lent A (h .nodes) (h .bytes) → h .v < length (A .nodes) → IsSymbol A name
-    object-name A L b = symbol-as _ name named (right-row L (h .v) b _ (object-row (L .noded) (h .v) b is) .0)
+-- what open_marked does
+abbrev Marks : Here → ℕ → Buffers → List ℕ → ℕ → Buffers → List ℕ → Type 0
+Marks h k B c r B' c' = (A : Arena) (room limit : ℕ) → IsObject A (h .v) → Opens A room limit (λ m. write-object-or-link room (h .v) (begun room (write-level limit (h .levels)) (word h 6) (write room (k ∷ [])) m)) B c r B' c'
 
-  module _ (is : getD (h .nodes) (h .v * width) 0 ≡ 8) where
-    pub user-first : {B B₁ : Buffers} {c c₁ : List ℕ} {r : ℕ} → ((A : Arena) (room limit : ℕ) → IsObject A (h .v) → Opens A room limit (λ m. write-object-or-link room (h .v) (begun room (write-level limit (h .levels)) (word h 6) (write room (USER-DEFINED ∷ [])) m)) B c r B₁ c₁) → Each h (λ A room limit. Heads A room limit (value h A room limit) (write-name room A name >> (text h A room limit >> rest h A room limit)) B c r B₁ c₁)
+module _ (h : Here) (is : getD (h .nodes) (h .v * width) 0 ≡ 7) where
+  pub string-inside : Of h (λ A. word h 1 + word h 2 ≤ length (h .bytes))
+  string-inside A L b = bytes-inside _ _ L (right-row L (h .v) b _ (string-row (L .noded) (h .v) b is) .0)
+
+  pub string-pairs : (word h 6 ≡ 0 → ⊥) → Of h (λ A. PairsIn A (word h 3) (word h 4))
+  string-pairs n A L b = vars-present _ _ _ n (right-row L (h .v) b _ (string-row (L .noded) (h .v) b is) .1)
+
+  pub string-first : {B B₁ : Buffers} {c c₁ : List ℕ} {r : ℕ} → Marks h STRING B c r B₁ c₁ → Each h (λ A room limit. Heads A room limit (value h A room limit) (text-rest h A room limit) B c r B₁ c₁)
+  string-first o A room limit L l b =
+      let row = string-row (L .noded) (h .v) b is in
+      head-as (string-open room A (write-level limit (h .levels)) (write-value room A limit (h .levels)) (h .v) L _ _ _ _ _ (right-row L (h .v) b _ row .0) row) (o A room limit (object-here h 7 is (omega arith) (omega arith) A L b) _)
+
+module _ (h : Here) (is : getD (h .nodes) (h .v * width) 0 ≡ 8) where
+  pub user-inside : Of h (λ A. word h 1 + word h 2 ≤ length (h .bytes))
+  user-inside A L b = bytes-inside _ _ L (right-row L (h .v) b _ (user-row (L .noded) (h .v) b is) .0)
+
+  pub user-pairs : (word h 6 ≡ 0 → ⊥) → Of h (λ A. PairsIn A (word h 3) (word h 4))
+  user-pairs n A L b = vars-present _ _ _ n (right-row L (h .v) b _ (user-row (L .noded) (h .v) b is) .2)
+
+  module _ (name : ℕ) (e : name ≡ word h 5) where
+    pub user-name : Of h (λ A. IsSymbol A name)
+    user-name A L b = symbol-as _ name e (right-row L (h .v) b _ (user-row (L .noded) (h .v) b is) .1)
+
+    pub user-first : {B B₁ : Buffers} {c c₁ : List ℕ} {r : ℕ} → Marks h USER-DEFINED B c r B₁ c₁ → Each h (λ A room limit. Heads A room limit (value h A room limit) (write-name room A name >> text-rest h A room limit) B c r B₁ c₁)
     user-first o A room limit L l b =
         let row = user-row (L .noded) (h .v) b is in
-        head-as (user-open room A (write-level limit (h .levels)) (write-value room A limit (h .levels)) (h .v) L _ _ _ _ _ (right-row L (h .v) b _ row .0) _ name named row) (o A room limit (object-here h 8 is (omega arith) (omega arith) A L b) _)
-
-    pub user-name : (A : Arena) → Lent A (h .nodes) (h .bytes) → h .v < length (A .nodes) → IsSymbol A name
-    user-name A L b = symbol-as _ name named (right-row L (h .v) b _ (user-row (L .noded) (h .v) b is) .1)
-
-module _ (h : Here) where
-  pub object-pairs : getD (h .nodes) (h .v * width) 0 ≡ 6 → (A : Arena) → Lent A (h .nodes) (h .bytes) → h .v < length (A .nodes) → PairsIn A (word h 3) (word h 4)
-  object-pairs is A L b = right-row L (h .v) b _ (object-row (L .noded) (h .v) b is) .1
-
-  module _ (is : getD (h .nodes) (h .v * width) 0 ≡ 7) where
-    pub string-first : {B B₁ : Buffers} {c c₁ : List ℕ} {r : ℕ} → ((A : Arena) (room limit : ℕ) → IsObject A (h .v) → Opens A room limit (λ m. write-object-or-link room (h .v) (begun room (write-level limit (h .levels)) (word h 6) (write room (STRING ∷ [])) m)) B c r B₁ c₁) → Each h (λ A room limit. Heads A room limit (value h A room limit) (text h A room limit >> rest h A room limit) B c r B₁ c₁)
-    string-first o A room limit L l b =
-        let row = string-row (L .noded) (h .v) b is in
-        head-as (string-open room A (write-level limit (h .levels)) (write-value room A limit (h .levels)) (h .v) L _ _ _ _ _ (right-row L (h .v) b _ row .0) row) (o A room limit (object-here h 7 is (omega arith) (omega arith) A L b) _)
-
-    pub string-inside : (A : Arena) → Lent A (h .nodes) (h .bytes) → h .v < length (A .nodes) → word h 1 + word h 2 ≤ length (h .bytes)
-    string-inside A L b = bytes-inside _ _ L (right-row L (h .v) b _ (string-row (L .noded) (h .v) b is) .0)
-
-    pub string-pairs : (word h 6 ≡ 0 → ⊥) → (A : Arena) → Lent A (h .nodes) (h .bytes) → h .v < length (A .nodes) → PairsIn A (word h 3) (word h 4)
-    string-pairs n A L b = vars-present _ _ _ n (right-row L (h .v) b _ (string-row (L .noded) (h .v) b is) .1)
-
-  module _ (is : getD (h .nodes) (h .v * width) 0 ≡ 8) where
-    pub user-inside : (A : Arena) → Lent A (h .nodes) (h .bytes) → h .v < length (A .nodes) → word h 1 + word h 2 ≤ length (h .bytes)
-    user-inside A L b = bytes-inside _ _ L (right-row L (h .v) b _ (user-row (L .noded) (h .v) b is) .0)
-
-    pub user-pairs : (word h 6 ≡ 0 → ⊥) → (A : Arena) → Lent A (h .nodes) (h .bytes) → h .v < length (A .nodes) → PairsIn A (word h 3) (word h 4)
-    user-pairs n A L b = vars-present _ _ _ n (right-row L (h .v) b _ (user-row (L .noded) (h .v) b is) .2)
+        head-as (user-open room A (write-level limit (h .levels)) (write-value room A limit (h .levels)) (h .v) L _ _ _ _ _ (right-row L (h .v) b _ row .0) _ name e row) (o A room limit (object-here h 8 is (omega arith) (omega arith) A L b) _)

@@ -4,22 +4,22 @@ use native.Mathlib.Omega.{arith}
 use mathlib.Core.Logic.{_⊎_, inl, inr}
 use mathlib.Core.Path.{_≡_, refl, sym, ap, _∙_, subst}
 use mathlib.Core.List.{List, [], _∷_, _++_}
-use lib.Dec.{eqb}
 use lib.ListN.{length, getD, take, drop}
 use borrow.Author.Tests.{eq-eqb, ne-eqb}
 use Rattle.definition.specs.Run.{pure, pick}
 use Rattle.definition.specs.Integer.{integer-bytes}
-use Rattle.definition.specs.Kind.{NIL, TRUE, FALSE, FIXNUM, ARRAY, HASH, HASH-DEFAULT, OBJECT, STRING, USER-DEFINED}
-use Rattle.definition.specs.Node.{width, Row, nil, bool, fixnum, symbol, array, hash, object, string, user, kind, vars}
-use Rattle.definition.specs.Arena.{Arena, node, range, name-of}
-use Rattle.definition.specs.Dump.{Writer, _>>_, write, write-elements, write-default, write-name, write-symbol, write-instance-variables, write-variables, write-object-or-link, write-row, hash-byte}
+use Rattle.definition.specs.Kind.{ARRAY, HASH, HASH-DEFAULT, OBJECT, STRING, USER-DEFINED}
+use Rattle.definition.specs.Node.{width, symbol, array, hash, object, string, user, kind, vars}
+use Rattle.definition.specs.Arena.{Arena, node, range}
+use Rattle.definition.specs.Dump.{Writer, _>>_, write, write-elements, write-default, write-name, write-instance-variables, write-variables, write-object-or-link, write-row, hash-byte}
 use Rattle.lists.specs.Lists.{at-lt}
-use Rattle.lists.specs.Rows.{kind-of, kind-low, row-1, row-2, row-3, row-4, row-5, row-6, row-7, row-8, row-nil}
-use Rattle.well_formed.specs.Nodes.{at-node, node-at, Name}
-use Rattle.well_formed.specs.Right.{BytesIn, PairsIn, VarsRight, RowRight}
-use Rattle.dumper.specs.Held.{Noded, Lent, IsObject, IsSymbol, begun, opened, listed, default-of, members-of, MembersIn}
-use Rattle.dumper.specs.Laws.{assoc, unit-right, write-join}
-use Rattle.dumper.proofs.Names.{string-bytes}
+use Rattle.lists.specs.Rows.{kind-of, kind-low, row-4, row-5, row-6, row-7, row-8}
+use Rattle.well_formed.specs.Nodes.{node-at, Name}
+use Rattle.well_formed.specs.Right.{BytesIn, PairsIn, VarsRight}
+use Rattle.writer.specs.Held.{Noded, Lent, IsSymbol}
+use Rattle.writer.specs.Laws.{assoc, unit-right, write-join}
+use Rattle.writer.proofs.Names.{right-row, string-bytes}
+use Rattle.dumper.specs.Values.{IsObject, begun, opened, listed, default-of, members-of, MembersIn}
 use Rattle.dumper.proofs.Openings.{begun-join}
 
 -- ---- what a row says
@@ -27,10 +27,6 @@ use Rattle.dumper.proofs.Openings.{begun-join}
 pub is-symbol : {A : Arena} (c : ℕ) → Name A c → IsSymbol A c
 unfolding kind
 is-symbol {A} c (s, l, e) = record { below = at-lt (A .nodes) c (symbol s l) e; kind-three = ap kind (node-at A c (symbol s l) e) }
-
--- the row is right
-pub right-row : {A : Arena} {no by : List ℕ} → Lent A no by → (v : ℕ) → v < length (A .nodes) → (r : Row) → node A v ≡ r → RowRight A r
-right-row {A} L v below r e = subst (RowRight A) e (L .right .rows-right v (node A v) (at-node A v below))
 
 module _ {A : Arena} {no : List ℕ} (N : Noded A no) (v : ℕ) (below : v < length (A .nodes)) where
   pub is-object : (k : ℕ) → getD no (v * width) 0 ≡ k → 3 < k → k ≤ 8 → IsObject A v
@@ -40,25 +36,6 @@ module _ {A : Arena} {no : List ℕ} (N : Noded A no) (v : ℕ) (below : v < len
 
   abbrev w : ℕ → ℕ
   w i = getD no (v * width + i) 0
-
-  pub fixnum-row : getD no (v * width) 0 ≡ 2 → node A v ≡ fixnum (w 1)
-  fixnum-row e = N .row-at v below ∙ row-2 _ _ _ _ _ _ _ e
-
-  pub bool-row : getD no (v * width) 0 ≡ 1 → node A v ≡ bool (eqb (w 1) 1)
-  bool-row e = N .row-at v below ∙ row-1 _ _ _ _ _ _ _ e
-
-  pub symbol-here : getD no (v * width) 0 ≡ 3 → IsSymbol A v
-  unfolding kind
-  symbol-here e = record { below = below; kind-three = ap kind (N .row-at v below ∙ row-3 _ _ _ _ _ _ _ e) }
-
-  pub symbol-row-here : getD no (v * width) 0 ≡ 3 → node A v ≡ symbol (w 1) (w 2)
-  symbol-row-here e = N .row-at v below ∙ row-3 _ _ _ _ _ _ _ e
-
-  pub nil-row : (getD no (v * width) 0 ≡ 1 → ⊥) → (getD no (v * width) 0 ≡ 2 → ⊥) → (getD no (v * width) 0 ≡ 3 → ⊥) → kind (node A v) ≤ 3 → node A v ≡ nil
-  nil-row a b c h =
-      let e = N .row-at v below in
-      let q = ap kind e in
-      e ∙ row-nil _ _ _ _ _ _ _ a b c (omega arith)
 
   pub low-kind : (getD no (v * width) 0 ≡ 4 → ⊥) → (getD no (v * width) 0 ≡ 5 → ⊥) → (getD no (v * width) 0 ≡ 6 → ⊥) → (getD no (v * width) 0 ≡ 7 → ⊥) → (getD no (v * width) 0 ≡ 8 → ⊥) → kind (node A v) ≤ 3
   low-kind a b c d f = omega (arith, ap kind (N .row-at v below), kind-low (getD no (v * width) 0) (w 1) (w 2) (w 3) (w 4) (w 5) (w 6) a b c d f)
@@ -78,34 +55,6 @@ module _ {A : Arena} {no : List ℕ} (N : Noded A no) (v : ℕ) (below : v < len
   pub user-row : getD no (v * width) 0 ≡ 8 → node A v ≡ user (w 1) (w 2) (w 5) (vars (w 6) (w 3) (w 4))
   user-row e = N .row-at v below ∙ row-8 _ _ _ _ _ _ _ e
 
--- ---- scalars
-
-module _ (room : ℕ) (A : Arena) (level : Writer) (inner : ℕ → Writer) (v : ℕ) where
-  pub fixnum-same : (x : ℕ) → node A v ≡ fixnum x → write-row room A level inner v (node A v) ≡ write room (FIXNUM ∷ integer-bytes x)
-  unfolding write-row
-  fixnum-same x e = ap (write-row room A level inner v) e
-
-  pub nil-same : node A v ≡ nil → write-row room A level inner v (node A v) ≡ write room (NIL ∷ [])
-  unfolding write-row
-  nil-same e = ap (write-row room A level inner v) e
-
-  pub true-same : (x : ℕ) → node A v ≡ bool (eqb x 1) → x ≡ 1 → write-row room A level inner v (node A v) ≡ write room (TRUE ∷ [])
-  unfolding write-row
-  true-same x e q = ap (write-row room A level inner v) (e ∙ ap bool (eq-eqb x 1 q))
-
-  pub false-same : (x : ℕ) → node A v ≡ bool (eqb x 1) → (x ≡ 1 → ⊥) → write-row room A level inner v (node A v) ≡ write room (FALSE ∷ [])
-  unfolding write-row
-  false-same x e q = ap (write-row room A level inner v) (e ∙ ap bool (ne-eqb x 1 q))
-
-  pub symbol-same : (s l : ℕ) → node A v ≡ symbol s l → write-row room A level inner v (node A v) ≡ write-name room A v
-  unfolding write-row write-name name-of
-  symbol-same s l e = ap (write-row room A level inner v) e ∙ sym (ap (λ (r : Row). write-symbol room v (name-of (A .bytes) r)) e)
-
--- a byte by a test that was made, in either case
-pub bool-byte : {X Y : Type 0} (room : ℕ) (A : Arena) (level : Writer) (inner : ℕ → Writer) (v x k : ℕ) → node A v ≡ bool (eqb x 1) → (X → x ≡ 1) → (Y → x ≡ 1 → ⊥) → (X × (k ≡ TRUE)) ⊎ (Y × (k ≡ FALSE)) → write-row room A level inner v (node A v) ≡ write room (k ∷ [])
-bool-byte room A level inner v x k e f g (inl (t, q)) = true-same room A level inner v x e (f t) ∙ ap (λ (b : ℕ). write room (b ∷ [])) (sym q)
-bool-byte room A level inner v x k e f g (inr (t, q)) = false-same room A level inner v x e (g t) ∙ ap (λ (b : ℕ). write room (b ∷ [])) (sym q)
-
 pub default-byte : {X Y : Type 0} (room : ℕ) (A : Arena) (d k : ℕ) → (X → d ≡ 0) → (Y → d ≡ 0 → ⊥) → (X × (k ≡ HASH)) ⊎ (Y × (k ≡ HASH-DEFAULT)) → k ≡ hash-byte room A d
 unfolding hash-byte
 default-byte room A d k f g (inl (t, q)) = q ∙ sym (ap (hash-byte room A) (f t))
@@ -123,11 +72,11 @@ unfolding listed pick
 listed-pairs k n r e q = rw (ne-eqb k 4 e) (ap (λ (x : ℕ). x * 2) q)
 
 module _ (room : ℕ) (A : Arena) (inner : ℕ → Writer) (k s n f : ℕ) where
-  pub members-array : k ≡ 4 → members-of room A inner k s n f ≡ write-elements inner (range (A .references) s n)
+  members-array : k ≡ 4 → members-of room A inner k s n f ≡ write-elements inner (range (A .references) s n)
   unfolding listed default-of pick write-default
   members-array e = rw e (unit-right (write-elements inner (range (A .references) s n)))
 
-  pub members-hash : k ≡ 5 → members-of room A inner k s n f ≡ write-elements inner (range (A .references) s (n * 2)) >> write-default room A inner f
+  members-hash : k ≡ 5 → members-of room A inner k s n f ≡ write-elements inner (range (A .references) s (n * 2)) >> write-default room A inner f
   unfolding listed default-of pick
   members-hash e = rw e refl
 

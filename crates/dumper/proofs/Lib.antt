@@ -1,10 +1,6 @@
--- Laws for the proofs of the writers.
-pub mod Steps
-pub mod Integers
-pub mod Names
+-- Laws for the proofs of what opens values.
+pub mod Objects
 pub mod Openings
 pub mod Heads
 pub mod Bodies
-pub mod Members
-pub mod Shorts
-pub mod Slices
+pub mod Variables

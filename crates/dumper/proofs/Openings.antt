@@ -8,8 +8,8 @@ use Rattle.definition.specs.Integer.{integer-bytes}
 use Rattle.definition.specs.Kind.{INSTANCE-VARIABLES}
 use Rattle.definition.specs.Dump.{Writer, _>>_, write, write-level, write-object-or-link}
 use Rattle.definition.specs.declared.Refusal.the-variants.{TooDeep}
-use Rattle.dumper.specs.Held.{begun, opened}
-use Rattle.dumper.specs.Laws.{assoc, unit-left, write-join}
+use Rattle.writer.specs.Laws.{assoc, unit-left, write-join}
+use Rattle.dumper.specs.Values.{begun, opened}
 
 -- a byte and more bytes
 byte-then : (room k : ℕ) (bs : List ℕ) (rest : Writer) → write room (k ∷ bs) >> rest ≡ write room (k ∷ []) >> (write room bs >> rest)

@@ -1,3 +1,4 @@
--- What the writers' contracts say, and how writers compose.
-pub mod Held
+-- What the contracts say of a value's beginning, and how it and the rest compose.
+pub mod Values
+pub mod Lengths
 pub mod Laws

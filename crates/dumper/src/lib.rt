@@ -1,318 +1,32 @@
-// What dump's writers do before a value's members: bytes, integers, numbers and links.
+// What dump's writers do before a value's members; the slices that dump takes.
+use arena_check::first_wrong;
 use arena_check::size;
+use arena_check::too_long;
+use arena_check::wrong_table;
 use definition::Node;
 use definition::ValueKind;
-use store::copy_bytes;
+use writer::DEEP;
+use writer::DONE;
+use writer::OBJECTS;
+use writer::WHOLE;
+use writer::write_byte;
+use writer::write_byte_string;
+use writer::write_fixnum;
+use writer::write_scalar;
+use writer::write_symbol;
+use writer::write_tagged;
 ghost use mathlib.Core.Path.{_≡_};
-ghost use mathlib.Core.List.{List, [], _∷_, _++_};
-ghost use Prim.Native.Nat.{ℕ, suc, _+_, _-_, _*_, _/_, _<_, _≤_};
-ghost use lib.ListN.{length, getD, take, drop};
-ghost use lib.Seq.{sets};
-ghost use Rattle.definition.specs.Integer.{integer-bytes, low-bytes, fewest};
-ghost use Rattle.definition.specs.Node.{width, kind};
+ghost use mathlib.Core.List.{[], _∷_};
+ghost use Prim.Native.Nat.{ℕ, _+_, _*_, _<_};
+ghost use lib.ListN.{length, getD};
+ghost use Rattle.definition.specs.Integer.{integer-bytes};
+ghost use Rattle.definition.specs.Node.{width};
 ghost use Rattle.definition.specs.Arena.{Arena, node, range};
-ghost use Rattle.definition.specs.Dump.{Writer, write, write-level, write-name, write-object-or-link, write-elements, write-instance-variables, write-row, write-value};
-ghost use Rattle.well_formed.specs.Right.{ListIn, PairsIn};
-ghost use Rattle.dumper.specs.Held.{buffers, Noded, Lent, Listed, Ready, IsObject, IsSymbol, Meets, Leads, Heads, Opens, Shorts, Goes, begun, opened, members-of, MembersIn, listed, wrong, Allowed};
-
-// The places of the three counts: bytes written, symbols and objects numbered.
-pub const WRITTEN: usize = 0;
-
-const SYMBOLS: usize = 1;
-
-const OBJECTS: usize = 2;
-
-// What a writer answers: done; done with the whole value, of which more could have come; no space; no level. They are numbers,
-// which come back in a register: an enum comes back in memory.
-pub const DONE: u32 = 0;
-
-pub const WHOLE: u32 = 1;
-
-pub const FULL: u32 = 2;
-
-pub const DEEP: u32 = 3;
-
-// ---- bytes and integers
-
-pub fn write_byte(output: &mut [u8], c: &mut [usize; 3], b: u8) -> u32
-    ensures { λ r. ⌜ ((A : Arena) (room limit : ℕ) (sc : List ℕ) → Meets A room limit (write room (b ∷ [])) (buffers sc (now (output .entry))) (now (c .entry)) r (buffers sc (now (output .exit))) (now (c .exit))) ⌝ }
-{
-    let at = c[WRITTEN];
-    if at < output.len() {
-        output[at] = b;
-        c[WRITTEN] = at + 1;
-        return DONE;
-    }
-    FULL
-}
-
-// The lowest n bytes of v, lowest first, from byte `at` on.
-fn store_low(output: &mut [u8], at: usize, n: usize, v: u32)
-    requires { ⌜ at + n ≤ length (now output) ⌝ }
-    ensures { λ _. ⌜ now (output .exit) ≡ sets (now (output .entry)) at (low-bytes n v) ⌝ }
-{
-    let mut i = 0;
-    let mut w = v;
-    while i < n {
-        output[at + i] = (w % 256) as u8;
-        w = w / 256;
-        i = i + 1;
-    }
-}
-
-// The fewest data bytes, from the leading zero bits.
-fn data_bytes(v: u32) -> u32
-    ensures { λ r. ⌜ r ≡ fewest v ⌝ }
-    ensures { λ r. ⌜ (r ≤ 4) × (0 < v → 1 ≤ r) ⌝ }
-{
-    (39 - u32::leading_zeros(v)) / 8
-}
-
-// How many bytes an integer takes.
-fn fixnum_size(v: u32) -> usize
-    ensures { λ r. ⌜ r ≡ length (integer-bytes v) ⌝ }
-{
-    if v < 123 {
-        return 1;
-    }
-    if v < 2147483648 {
-        return 1 + size(data_bytes(v));
-    }
-    if v < 4294967173 {
-        return 1 + size(data_bytes(4294967295 - v));
-    }
-    1
-}
-
-// A size byte k and n data bytes; how many bytes that is.
-fn store_data(output: &mut [u8], at: usize, k: u8, n: usize, v: u32) -> usize
-    requires { ⌜ at + (n + 1) ≤ length (now output) ⌝ }
-    ensures { λ r. ⌜ now (output .exit) ≡ sets (now (output .entry)) at (k ∷ low-bytes n v) ⌝ }
-    ensures { λ r. ⌜ r ≡ n + 1 ⌝ }
-{
-    output[at] = k;
-    store_low(output, at + 1, n, v);
-    n + 1
-}
-
-// An integer from byte `at` on; how many bytes it takes.
-fn store_fixnum(output: &mut [u8], at: usize, v: u32) -> usize
-    requires { ⌜ at + length (integer-bytes v) ≤ length (now output) ⌝ }
-    ensures { λ r. ⌜ now (output .exit) ≡ sets (now (output .entry)) at (integer-bytes v) ⌝ }
-    ensures { λ r. ⌜ r ≡ length (integer-bytes v) ⌝ }
-{
-    if v == 0 {
-        output[at] = 0;
-        return 1;
-    }
-    if v <= 122 {
-        output[at] = (v + 5) as u8;
-        return 1;
-    }
-    if v < 2147483648 {
-        let n = data_bytes(v);
-        return store_data(output, at, n as u8, size(n), v);
-    }
-    if v < 4294967173 {
-        let n = data_bytes(4294967295 - v);
-        return store_data(output, at, (256 - n) as u8, size(n), v);
-    }
-    output[at] = ((v - 5) % 256) as u8;
-    1
-}
-
-fn write_fixnum(output: &mut [u8], c: &mut [usize; 3], v: u32) -> u32
-    ensures { λ r. ⌜ ((A : Arena) (room limit : ℕ) (sc : List ℕ) → Meets A room limit (write room (integer-bytes v)) (buffers sc (now (output .entry))) (now (c .entry)) r (buffers sc (now (output .exit))) (now (c .exit))) ⌝ }
-{
-    let at = c[WRITTEN];
-    let n = fixnum_size(v);
-    if n <= output.len() {
-        if at <= output.len() - n {
-            store_fixnum(output, at, v);
-            c[WRITTEN] = at + n;
-            return DONE;
-        }
-    }
-    FULL
-}
-
-// A kind byte and an integer from byte `at` on; the place after them.
-fn store_tagged(output: &mut [u8], at: usize, k: u8, v: u32) -> usize
-    requires { ⌜ at + 1 + length (integer-bytes v) ≤ length (now output) ⌝ }
-    ensures { λ r. ⌜ now (output .exit) ≡ sets (now (output .entry)) at (k ∷ integer-bytes v) ⌝ }
-    ensures { λ r. ⌜ r ≡ at + 1 + length (integer-bytes v) ⌝ }
-{
-    output[at] = k;
-    at + 1 + store_fixnum(output, at + 1, v)
-}
-
-fn write_tagged(output: &mut [u8], c: &mut [usize; 3], k: u8, v: u32) -> u32
-    ensures { λ r. ⌜ ((A : Arena) (room limit : ℕ) (sc : List ℕ) → Meets A room limit (write room (k ∷ integer-bytes v)) (buffers sc (now (output .entry))) (now (c .entry)) r (buffers sc (now (output .exit))) (now (c .exit))) ⌝ }
-{
-    let at = c[WRITTEN];
-    let n = fixnum_size(v);
-    if n < output.len() {
-        if at < output.len() - n {
-            c[WRITTEN] = store_tagged(output, at, k, v);
-            return DONE;
-        }
-    }
-    FULL
-}
-
-// The length n and n bytes from `start` on.
-fn write_byte_string(bytes: &[u8], output: &mut [u8], c: &mut [usize; 3], start: u32, n: u32) -> u32
-    requires { ⌜ start + n ≤ length (now bytes) ⌝ }
-    ensures { λ r. ⌜ ((A : Arena) (room limit : ℕ) (sc : List ℕ) → Meets A room limit (write room (integer-bytes n ++ take n (drop start (now (bytes .entry))))) (buffers sc (now (output .entry))) (now (c .entry)) r (buffers sc (now (output .exit))) (now (c .exit))) ⌝ }
-{
-    let w = write_fixnum(output, c, n);
-    if w != DONE {
-        return w;
-    }
-    let at = c[WRITTEN];
-    let count = size(n);
-    if count <= output.len() {
-        if at <= output.len() - count {
-            copy_bytes(&bytes[..], size(start), output, at, count);
-            c[WRITTEN] = at + count;
-            return DONE;
-        }
-    }
-    FULL
-}
-
-// ---- symbols and scalars
-
-// A symbol, or a link where it has a number.
-fn write_symbol(
-    nodes: &[u32],
-    bytes: &[u8],
-    scratch: &mut [u32],
-    output: &mut [u8],
-    c: &mut [usize; 3],
-    v: usize,
-) -> u32
-    requires { ⌜ Ready (λ A. Lent A (now nodes) (now bytes) × IsSymbol A v) (buffers (now scratch) (now output)) (now c) ⌝ }
-    ensures { λ r. ⌜ ((A : Arena) (room limit : ℕ) → Lent A (now (nodes .entry)) (now (bytes .entry)) → IsSymbol A v → Meets A room limit (write-name room A v) (buffers (now (scratch .entry)) (now (output .entry))) (now (c .entry)) r (buffers (now (scratch .exit)) (now (output .exit))) (now (c .exit))) ⌝ }
-{
-    let seen = scratch[v];
-    if seen != 0 {
-        return write_tagged(output, c, ValueKind::SYMBOL_LINK, seen - 1);
-    }
-    let number = c[SYMBOLS] + 1;
-    scratch[v] = number as u32;
-    c[SYMBOLS] = number;
-    let w = write_byte(output, c, ValueKind::SYMBOL);
-    if w != DONE {
-        return w;
-    }
-    write_byte_string(
-        &bytes[..],
-        output,
-        c,
-        nodes[v * Node::WIDTH + Node::START],
-        nodes[v * Node::WIDTH + Node::LENGTH],
-    )
-}
-
-// nil, a bool, an integer or a symbol.
-fn write_scalar(
-    nodes: &[u32],
-    bytes: &[u8],
-    scratch: &mut [u32],
-    output: &mut [u8],
-    c: &mut [usize; 3],
-    v: usize,
-) -> u32
-    requires { ⌜ Ready (λ A. Lent A (now nodes) (now bytes) × (v < length (A .nodes))) (buffers (now scratch) (now output)) (now c) ⌝ }
-    ensures { λ r. ⌜ ((A : Arena) (room limit : ℕ) (level : Writer) (inner : ℕ → Writer) → Lent A (now (nodes .entry)) (now (bytes .entry)) → v < length (A .nodes) → kind (node A v) ≤ 3 → Meets A room limit (write-row room A level inner v (node A v)) (buffers (now (scratch .entry)) (now (output .entry))) (now (c .entry)) r (buffers (now (scratch .exit)) (now (output .exit))) (now (c .exit))) ⌝ }
-{
-    match nodes[v * Node::WIDTH] {
-        Node::FIXNUM => write_tagged(
-            output,
-            c,
-            ValueKind::FIXNUM,
-            nodes[v * Node::WIDTH + Node::VALUE],
-        ),
-        Node::SYMBOL => write_symbol(&nodes[..], &bytes[..], scratch, output, c, v),
-        Node::BOOL => {
-            let k = if nodes[v * Node::WIDTH + Node::VALUE] == 1 {
-                ValueKind::TRUE
-            } else {
-                ValueKind::FALSE
-            };
-            write_byte(output, c, k)
-        }
-        _ => write_byte(output, c, ValueKind::NIL),
-    }
-}
-
-// Node v from byte `at` on, where it is an integer or a symbol with a number and six bytes are free: the place after it, else 0.
-fn write_short(nodes: &[u32], scratch: &[u32], output: &mut [u8], at: usize, v: usize) -> usize
-    requires { ⌜ (v * width + width ≤ length (now nodes)) × (v < length (now scratch)) ⌝ }
-    ensures { λ r. ⌜ ((A : Arena) (room limit levels : ℕ) (counts : List ℕ) → Noded A (now (nodes .entry)) → v < length (A .nodes) → getD counts 0 0 ≡ at → Shorts A room (write-value room A limit (suc levels) v) (now (scratch .entry)) (now (output .entry)) counts r (now (output .exit))) ⌝ }
-{
-    if output.len() < 6 {
-        return 0;
-    }
-    if output.len() - 6 < at {
-        return 0;
-    }
-    let k = nodes[v * Node::WIDTH];
-    if k == Node::FIXNUM {
-        return store_tagged(
-            output,
-            at,
-            ValueKind::FIXNUM,
-            nodes[v * Node::WIDTH + Node::VALUE],
-        );
-    }
-    if k != Node::SYMBOL {
-        return 0;
-    }
-    let seen = scratch[v];
-    if seen == 0 {
-        return 0;
-    }
-    store_tagged(output, at, ValueKind::SYMBOL_LINK, seen - 1)
-}
-
-// Integers and links to symbols among the n values from reference `start` on, as far as they come one after the other: how many.
-pub fn write_shorts(
-    nodes: &[u32],
-    references: &[u32],
-    scratch: &[u32],
-    output: &mut [u8],
-    c: &mut [usize; 3],
-    start: usize,
-    n: usize,
-) -> usize
-    requires { ⌜ Ready (λ A. Noded A (now nodes) × Listed A (now references) × ListIn A start n) (buffers (now scratch) (now output)) (now c) ⌝ }
-    ensures { λ r. ⌜ r ≤ n ⌝ }
-    ensures { λ r. ⌜ ((A : Arena) (room limit levels : ℕ) → Noded A (now (nodes .entry)) → Listed A (now (references .entry)) → ListIn A start n → Goes A room (write-elements (write-value room A limit (suc levels)) (range (A .references) start n)) (buffers (now (scratch .entry)) (now (output .entry))) (now (c .entry)) (write-elements (write-value room A limit (suc levels)) (range (A .references) (start + r) (n - r))) (buffers (now (scratch .entry)) (now (output .exit))) (now (c .exit))) ⌝ }
-{
-    let mut at = c[WRITTEN];
-    let mut i = 0;
-    while i < n {
-        let p = write_short(
-            &nodes[..],
-            &scratch[..],
-            output,
-            at,
-            size(references[start + i]),
-        );
-        if p == 0 {
-            c[WRITTEN] = at;
-            return i;
-        }
-        at = p;
-        i = i + 1;
-    }
-    c[WRITTEN] = at;
-    i
-}
-
-// ---- values up to their members
+ghost use Rattle.definition.specs.Dump.{write, write-level, write-object-or-link, write-elements, write-instance-variables, write-row, write-value};
+ghost use Rattle.well_formed.specs.Right.{PairsIn};
+ghost use Rattle.writer.specs.Held.{buffers, Lent, Listed, Ready, Leads};
+ghost use Rattle.dumper.specs.Values.{IsObject, Heads, Opens, begun, opened, members-of, MembersIn, listed};
+ghost use Rattle.dumper.specs.Lengths.{wrong, Allowed};
 
 // A link where node v has a number; else its number, and byte k.
 fn open_object(scratch: &mut [u32], output: &mut [u8], c: &mut [usize; 3], v: usize, k: u8) -> u32
@@ -666,32 +380,15 @@ pub fn wrong_slice(
     ensures { λ r. ⌜ r ≡ wrong nodes references bytes output limit scratch ⌝ }
     ensures { λ r. ⌜ (r ≡ 0 → Allowed nodes references bytes output scratch) ⌝ }
 {
-    if 2147483647 < nodes {
-        return 1;
-    }
-    if nodes == 0 {
-        return 1;
-    }
-    if nodes % Node::WIDTH != 0 {
-        return 1;
-    }
-    if 2147483647 < references {
-        return 2;
-    }
-    if 2147483647 < bytes {
-        return 3;
-    }
-    if 2147483647 < output {
-        return 6;
-    }
-    if 128 < limit {
-        return 7;
-    }
-    if 2147483647 < scratch {
-        return 10;
-    }
-    if scratch < nodes / Node::WIDTH {
-        return 10;
-    }
-    0
+    let few = scratch < nodes / Node::WIDTH;
+    wrong_table(
+        nodes,
+        references,
+        bytes,
+        first_wrong(
+            6,
+            too_long(output),
+            first_wrong(7, 128 < limit, first_wrong(10, too_long(scratch) | few, 0)),
+        ),
+    )
 }

@@ -1,69 +1,77 @@
 -- BAD-TABLES: the tests of lent slices, in the order of their numbers.
-use Prim.Native.Nat.{ℕ, _%_, _≤_, _<_}
-use mathlib.Core.Bool.{Bool, true, false}
+use Prim.Native.Nat.{ℕ, suc, _*_, _/_, _%_, _≤_}
+use native.Mathlib.Omega.{arith}
+use mathlib.Core.Bool.{Bool, true, false, not, _||_}
 use mathlib.Core.List.{List, [], _∷_}
-use mathlib.Core.Path.{_≡_, refl}
-use borrow.Author.Tests.{lt-ltb, le-ltb, eq-eqb, ne-eqb}
+use mathlib.Core.Logic.{_≢_}
+use mathlib.Core.Path.{_≡_, refl, sym, _∙_}
+use lib.Dec.{eqb}
+use borrow.Author.Tests.{ltb-false, eqb-true, eqb-false, not-false}
 use Rattle.definition.specs.Run.{pick}
 use Rattle.definition.specs.Node.{width}
 use Rattle.definition.specs.Arena.{too-long, bad-nodes, lowest}
+use Rattle.lists.specs.Joined.{or-none}
 
--- slice k is wrong and is named, or it is right and the next is looked at
-module _ (k : ℕ) (ts : List (ℕ × Bool)) {b : Bool} where
-  pub slice-wrong : b ≡ true → k ≡ lowest ((k, b) ∷ ts)
-  unfolding lowest pick
-  slice-wrong e = rw e refl
+-- ---- the number of the lowest wrong slice
 
-  pub slice-right : {x : ℕ} → b ≡ false → x ≡ lowest ts → x ≡ lowest ((k, b) ∷ ts)
-  unfolding lowest pick
-  slice-right e q = rw e q
-
-pub none-wrong : 0 ≡ lowest []
+-- no slice
+pub no-slice : 0 ≡ lowest []
 unfolding lowest
-none-wrong = refl
+no-slice = refl
 
--- ---- one slice
+-- slice k, whose test is b, before the others
+pub slice : (k : ℕ) (ts : List (ℕ × Bool)) {x y : ℕ} {t b : Bool} → x ≡ pick t k y → t ≡ b → y ≡ lowest ts → x ≡ lowest ((k, b) ∷ ts)
+unfolding lowest
+slice k ts e f g = e ∙ λ i. pick (f i) k (g i)
 
-module _ (n : ℕ) where
-  pub long : 2147483647 < n → too-long n ≡ true
-  unfolding too-long
-  long h = lt-ltb 2147483647 n h
+-- ---- where no slice is wrong
 
-  pub not-long : n ≤ 2147483647 → too-long n ≡ false
-  unfolding too-long
-  not-long h = le-ltb 2147483647 n h
+pub lowest-none : (k : ℕ) (b : Bool) (ts : List (ℕ × Bool)) → lowest ((suc k, b) ∷ ts) ≡ 0 → (b ≡ false) × (lowest ts ≡ 0)
+unfolding lowest pick
+lowest-none k false ts e = (refl, e)
+lowest-none k true ts e = absurd (omega arith)
 
-  pub nodes-long : 2147483647 < n → bad-nodes n ≡ true
-  unfolding bad-nodes
-  nodes-long h = rw (long h) refl
+pub short : (n : ℕ) → too-long n ≡ false → n ≤ 2147483647
+unfolding too-long
+short n e = ltb-false 2147483647 n e
 
-  pub nodes-none : n ≤ 2147483647 → n ≡ 0 → bad-nodes n ≡ true
-  unfolding bad-nodes
-  nodes-none h e = rw (not-long h, eq-eqb n 0 e) refl
+pub whole-pairs : (n : ℕ) → too-long n || not (eqb (n % 2) 0) ≡ false → n / 2 * 2 ≡ n
+whole-pairs n e =
+    let z : n % 2 ≡ 0 = eqb-true (n % 2) 0 (not-false _ (or-none (too-long n) _ e .1)) in
+    omega arith
 
-  pub nodes-odd : n ≤ 2147483647 → (n ≡ 0 → ⊥) → (n % width ≡ 0 → ⊥) → bad-nodes n ≡ true
-  unfolding bad-nodes
-  nodes-odd h e f = rw (not-long h, ne-eqb n 0 e, ne-eqb (n % width) 0 f) refl
-
-  pub nodes-right : n ≤ 2147483647 → (n ≡ 0 → ⊥) → n % width ≡ 0 → bad-nodes n ≡ false
-  unfolding bad-nodes
-  nodes-right h e f = rw (not-long h, ne-eqb n 0 e, eq-eqb (n % width) 0 f) refl
+nodes-right : (n : ℕ) → bad-nodes n ≡ false → (n ≤ 2147483647) × (n ≢ 0) × (n % width ≡ 0)
+unfolding bad-nodes
+nodes-right n e =
+    let (x, y) = or-none _ _ e in
+    let (u, v) = or-none _ _ x in
+    (short n u, eqb-false n 0 v, eqb-true (n % width) 0 (not-false _ y))
 
 -- ---- the three tables, and then other slices
 
-module _ (n r b : ℕ) (ts : List (ℕ × Bool)) where
-  abbrev pub Named : ℕ → Type 0
-  Named x = x ≡ lowest ((1, bad-nodes n) ∷ (2, too-long r) ∷ (3, too-long b) ∷ ts)
+abbrev pub with-tables : ℕ → ℕ → ℕ → List (ℕ × Bool) → List (ℕ × Bool)
+with-tables nodes references bytes ts = (1, bad-nodes nodes) ∷ (2, too-long references) ∷ (3, too-long bytes) ∷ ts
 
-  pub nodes-named : bad-nodes n ≡ true → Named 1
-  nodes-named e = slice-wrong 1 _ e
+-- lengths of tables that are right: whole nodes, at least one, and none too long
+pub record Small (nodes references bytes : ℕ) : Type 0 where
+  pub whole : nodes / width * width ≡ nodes
+  pub one : 1 ≤ nodes / width
+  pub nodes-small : nodes ≤ 2147483647
+  pub references-small : references ≤ 2147483647
+  pub bytes-small : bytes ≤ 2147483647
 
-  module _ (e : bad-nodes n ≡ false) where
-    pub references-named : 2147483647 < r → Named 2
-    references-named h = slice-right 1 _ e (slice-wrong 2 _ (long r h))
+pub tables-right : (n r b : ℕ) (ts : List (ℕ × Bool)) → lowest (with-tables n r b ts) ≡ 0 → Small n r b × (lowest ts ≡ 0)
+tables-right n r b ts e =
+    let (b₁, e₁) = lowest-none 0 _ _ e in
+    let (b₂, e₂) = lowest-none 1 _ _ e₁ in
+    let (b₃, e₃) = lowest-none 2 _ _ e₂ in
+    let (most, some, whole) = nodes-right n b₁ in
+    (record { whole = omega arith; one = omega (arith, some); nodes-small = most; references-small = short r b₂; bytes-small = short b b₃ }, e₃)
 
-    pub bytes-named : r ≤ 2147483647 → 2147483647 < b → Named 3
-    bytes-named h i = slice-right 1 _ e (slice-right 2 _ (not-long r h) (slice-wrong 3 _ (long b i)))
+-- x is the lowest wrong of the tables, or else what other slices give
+abbrev pub Named : ℕ → ℕ → ℕ → ℕ → ℕ → Type 0
+Named nodes references bytes more x = (ts : List (ℕ × Bool)) → more ≡ lowest ts → x ≡ lowest (with-tables nodes references bytes ts)
 
-    pub tables-right : {x : ℕ} → r ≤ 2147483647 → b ≤ 2147483647 → x ≡ lowest ts → Named x
-    tables-right h i q = slice-right 1 _ e (slice-right 2 _ (not-long r h) (slice-right 3 _ (not-long b i) q))
+pub tables-named : (n r b : ℕ) {more x : ℕ} → Named n r b more x → Named n r b more x × (x ≡ 0 → Small n r b × (more ≡ 0))
+unfolding lowest pick
+tables-named n r b {more} e = let ts : List (ℕ × Bool) = (more, true) ∷ [] in (e, λ z. tables-right n r b ts (sym (e ts refl) ∙ z))

@@ -1,3 +1,2 @@
--- Laws for the proofs of load and its cycle of readers.
-pub mod Members
+-- Laws for the proofs of load.
 pub mod Whole

@@ -21,7 +21,8 @@ use Rattle.store.specs.Laws.{cleared, cleared-whole}
 use Rattle.reader.specs.Answers.{refusal-at}
 use Rattle.loader.specs.Holds.{Begins, Holds, Held, Meets, AllFit, Allowed, Names, find-listed, wrong, at-of, nodes-of, references-of, bytes-of}
 use Rattle.loader.proofs.Stores.{none, push, padded}
-use Rattle.load.specs.Call.{call, whole, loaded-as}
+use Rattle.value_reader.specs.Root.{whole}
+use Rattle.load.specs.Call.{call, loaded-as}
 
 -- ---- zeros
 

@@ -2,22 +2,21 @@
 use Prim.Native.Nat.{ℕ, zero, suc, _+_, _-_, _/_, _%_, _≤_, _<_}
 use mathlib.Core.Path.{_≡_, refl, ap}
 use mathlib.Core.Path.{_∙_}
-use mathlib.Core.Bool.{Bool, true, false}
-use mathlib.Core.Logic.{_≢_}
+use mathlib.Core.Bool.{true, false}
 use mathlib.Core.Option.{none}
 use mathlib.Core.List.{List, [], _∷_, _++_, append-assoc}
 use lib.ListN.{length, take, drop, replicate, length-append, length-replicate}
 use lib.Seq.{take-append-seam, take-at, drop-at}
 use native.Mathlib.Omega.{arith}
-use borrow.Author.Tests.{eqb-true, eqb-false, ltb-false, not-false}
+use borrow.Author.Tests.{ltb-false}
 use Rattle.definition.specs.Run.{Outcome, ok, refused, pick}
 use Rattle.definition.specs.Node.{Row, nil, bool, fixnum, symbol, array, hash, object, string, user, absent, present, width, words, flat, vars, row-of, row, rows, is-row}
-use Rattle.definition.specs.Arena.{Tables, Arena, arena, too-long, bad-nodes, lowest, padded, zeroed, row-right, node-right, counts-fit, faulty, fault}
+use Rattle.definition.specs.Arena.{Tables, Arena, arena, padded, zeroed, row-right, node-right, counts-fit, faulty, fault}
 use Rattle.definition.specs.Load.{State, Room, Lists, lists, room-of, load, load-wrong, LoadCall, counts, load-done, load-if, load-call, at-set}
 use Rattle.definition.specs.declared.Answer.the-variants.{Accepted, Refused}
 use Rattle.definition.specs.declared.Counts.{Counts}
 use Rattle.definition.specs.declared.Refusal.{Refusal}
-use Rattle.lists.specs.Joined.{or-none}
+use Rattle.lists.specs.Slices.{lowest-none, short, tables-right}
 use Rattle.lists.specs.Lists.{At, apart}
 use Rattle.lists.specs.Words.{equal-self, length-words, length-flat}
 use Rattle.lists.specs.Tables.{counts-fit-yes, fault-none}
@@ -122,11 +121,6 @@ load-used input room limit h s e = forwards (load-traced input room limit s h e)
 
 -- ---- what is lent is allowed
 
-pub lowest-none : (k : ℕ) (b : Bool) (ts : List (ℕ × Bool)) → lowest ((suc k, b) ∷ ts) ≡ 0 → (b ≡ false) × (lowest ts ≡ 0)
-unfolding lowest pick
-lowest-none k false ts e = (refl, e)
-lowest-none k true ts e = absurd (omega arith)
-
 -- what load's test of the slices says where it finds nothing
 pub record Allowed (input : List ℕ) (T : Lists) (limit : ℕ) : Type 0 where
   pub nodes-most : length (T .nodes) ≤ 2147483647
@@ -139,36 +133,20 @@ pub record Allowed (input : List ℕ) (T : Lists) (limit : ℕ) : Type 0 where
   pub limit-most : limit ≤ 128
   pub input-most : length input ≤ 2147483647
 
-pub short : (n : ℕ) → too-long n ≡ false → n ≤ 2147483647
-unfolding too-long
-short n e = ltb-false 2147483647 n e
-
-pub nodes-allowed : (n : ℕ) → bad-nodes n ≡ false → (n ≤ 2147483647) × (1 ≤ n / 7) × (n % 7 ≡ 0)
-unfolding bad-nodes
-nodes-allowed n e =
-    let (x, y) = or-none _ _ e in
-    let (u, v) = or-none _ _ x in
-    let z : n % 7 ≡ 0 = eqb-true (n % 7) 0 (not-false _ y) in
-    let w : n ≢ 0 = eqb-false n 0 v in
-    (short n u, omega (arith, w), z)
-
 pub load-allowed : (input : List ℕ) (T : Lists) (limit : ℕ) → load-wrong input T limit ≡ 0 → Allowed input T limit
 unfolding load-wrong
 load-allowed input T limit e =
-    let (b₁, e₁) = lowest-none 0 _ _ e in
-    let (b₂, e₂) = lowest-none 1 _ _ e₁ in
-    let (b₃, e₃) = lowest-none 2 _ _ e₂ in
+    let (t, e₃) = tables-right _ _ _ _ e in
     let (b₄, e₄) = lowest-none 3 _ _ e₃ in
     let (b₅, e₅) = lowest-none 4 _ _ e₄ in
     let (b₇, e₇) = lowest-none 6 _ _ e₅ in
     let (b₈, e₈) = lowest-none 7 _ _ e₇ in
-    let (n₁, n₂, n₃) = nodes-allowed _ b₁ in
     record {
-      nodes-most = n₁;
-      nodes-some = n₂;
-      nodes-whole = n₃;
-      references-most = short _ b₂;
-      bytes-most = short _ b₃;
+      nodes-most = t .nodes-small;
+      nodes-some = t .one;
+      nodes-whole = omega (arith, t .whole);
+      references-most = t .references-small;
+      bytes-most = t .bytes-small;
       symbols-most = short _ b₄;
       objects-most = short _ b₅;
       limit-most = ltb-false 128 limit b₇;

@@ -14,7 +14,7 @@ use borrow.Author.Tests.{eq-eqb, ne-eqb}
 use Rattle.definition.specs.Run.{pick}
 use Rattle.definition.specs.Node.{Row, nil, bool, fixnum, symbol, array, hash, object, string, user, kind, words, equal}
 use Rattle.definition.specs.Arena.{range, name-of, named, find-symbol}
-use Rattle.loader.specs.Holds.{Plain, Symbolic, Fit, AllFit, AllSymbolic, Names, find-listed}
+use Rattle.loader.specs.Holds.{Plain, Symbolic, Fit, AllFit, AllSymbolic, Names, find-listed, span}
 
 -- a test that did not hold
 pub untrue : {A : Type 0} → false ≡ true → A
@@ -329,6 +329,27 @@ same-more input bytes from to n i a b h l e p =
     turn input bytes from to n (i - 1) a b (omega arith)
     ∙ ap (λ (t : Bool). pick t (equal (drop (suc (i - 1)) (take n (drop from input))) (drop (suc (i - 1)) (take n (drop to bytes)))) false) (eq-eqb _ _ e)
     ∙ rw s p
+
+-- ---- the last of the n bytes before `at`
+
+pub span-none : (input : List ℕ) (at n : ℕ) → n ≡ 0 → 0 ≡ getD (span input at n) (n - 1) 0
+span-none input at n e = rw e refl
+
+pub span-last : (input : List ℕ) (at n : ℕ) → (n ≡ 0 → ⊥) → n ≤ at → at ≤ length input → getD input (at - 1) 0 ≡ getD (span input at n) (n - 1) 0
+span-last input at n z l h =
+    let e : at - n + (n - 1) ≡ at - 1 = omega arith in
+    sym (getD-take n (drop (at - n) input) (n - 1) 0 (omega arith) ∙ getD-drop (at - n) input (n - 1) 0 ∙ ap (λ (i : ℕ). getD input i 0) e)
+
+-- none are the same; a last byte differs
+pub same-empty : (n : ℕ) (X Y : List ℕ) → n ≡ 0 → true ≡ equal (take n X) (take n Y)
+unfolding equal
+same-empty n X Y e = rw e refl
+
+pub last-apart : (bytes : List ℕ) (to n : ℕ) (X : List ℕ) → (n ≡ 0 → ⊥) → length X ≡ n → to + n ≤ length bytes → (getD bytes (to + (n - 1)) 0 ≡ getD X (n - 1) 0 → ⊥) → false ≡ equal X (take n (drop to bytes))
+last-apart bytes to n X z k l e =
+    let y : n - 1 < length (take n (drop to bytes)) = simp (length-take, length-drop) (omega arith) in
+    let v : getD (take n (drop to bytes)) (n - 1) 0 ≡ getD bytes (to + (n - 1)) 0 = getD-take n (drop to bytes) (n - 1) 0 (omega arith) ∙ getD-drop to bytes (n - 1) 0 in
+    sym (same-apart X (take n (drop to bytes)) (n - 1) (omega arith) y (λ q. e (sym v ∙ sym q)))
 
 -- different lengths
 pub same-length : (X Y : List ℕ) → (length X ≡ length Y → ⊥) → equal X Y ≡ false

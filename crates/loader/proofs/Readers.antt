@@ -1,5 +1,5 @@
 -- Parts of readers: a name, a value after its kind byte, members' lists, what is held for the code's needs.
-use Prim.Native.Nat.{ℕ, zero, suc, _+_, _-_, _*_, _%_, _≤_, _<_}
+use Prim.Native.Nat.{ℕ, zero, suc, _+_, _-_, _*_, _≤_, _<_}
 use native.Mathlib.Omega.{arith}
 use mathlib.Core.Path.{_≡_, refl, sym, ap, _∙_, subst}
 use mathlib.Core.Bool.{Bool, true, false}
@@ -16,7 +16,7 @@ use Rattle.definition.specs.Node.{nil, symbol}
 use Rattle.definition.specs.Arena.{find-symbol, named}
 use Rattle.definition.specs.Load.{Room, State, Reader, Lists, Head, Unknown, head, value-of, read-header, read-value, read-symbol, read-symbol-link, read-symbol-like, intern, intern-as, add-symbol, add-bytes, add-node}
 use Rattle.definition.specs.declared.Refusal.the-variants.{NotASymbol, TooDeep}
-use Rattle.loader.specs.Holds.{Holds, Held, Goes, Leads, Does, Leaf, Allowed, new-symbol, find-listed, at-of, nodes-of, symbols-of}
+use Rattle.loader.specs.Holds.{Holds, Held, Goes, Leads, Does, Leaf, new-symbol, find-listed, at-of, nodes-of, symbols-of}
 use Rattle.reader.specs.Answers.{Reads, coded, at-name, at-level}
 use Rattle.loader.proofs.Stores.{at-held}
 use Rattle.loader.proofs.Names.{listed-here, listed-on, listed-none}
@@ -123,9 +123,6 @@ twice-at-most n zero l h = omega arith
 twice-at-most n (suc zero) l h = omega arith
 twice-at-most n (suc (suc zero)) l h = omega arith
 twice-at-most n (suc (suc (suc e))) l h = absurd (omega arith)
-
-pub allowed : {n r b y o : ℕ} → (n ≡ 0 → ⊥) → n ≤ 2147483647 → n % 7 ≡ 0 → r ≤ 2147483647 → b ≤ 2147483647 → y ≤ 2147483647 → o ≤ 2147483647 → Allowed n r b y o
-allowed a b c d e f g = record { whole = omega arith; one = omega arith; nodes-small = b; references-small = d; bytes-small = e; symbols-small = f; objects-small = g }
 
 -- ---- one turn of the search for a symbol
 

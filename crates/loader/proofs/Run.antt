@@ -4,6 +4,7 @@ use native.Mathlib.Omega.{arith}
 use mathlib.Core.Path.{_≡_, refl, sym, ap, _∙_, subst}
 use mathlib.Core.Bool.{Bool, true, false}
 use mathlib.Core.List.{List, [], _∷_}
+use mathlib.Core.Logic.{_⊎_, inl, inr}
 use lib.Dec.{eqb}
 use lib.ListN.{length, getD, set, drop, length-set}
 use lib.Seq.{sets, set-set, set-comm, getD-set-other}
@@ -15,8 +16,9 @@ use Rattle.definition.specs.Node.{fixnum, words}
 use Rattle.definition.specs.Load.{Room, State, Reader, Lists, lists, Fixnum, SymbolLink, head, value-of, read-value, read-integer, read-count, read-fixnum, read-symbol-link, read-symbol-like, put-reference, add-node, entry}
 use Rattle.definition.specs.declared.Refusal.the-variants.{MissingSymbol}
 use Rattle.reader.specs.Integers.{size-of, word-of, size-small}
-use Rattle.loader.specs.Holds.{Held, Holds, Goes, slot, slots, at-of, nodes-of, references-of, symbols-of}
+use Rattle.loader.specs.Holds.{Held, Holds, Goes, Link, Next, Either, Coming, slot, slots, at-of, nodes-of, references-of, symbols-of}
 use Rattle.loader.proofs.Counts.{is}
+use Rattle.loader.proofs.Names.{untrue}
 use Rattle.loader.proofs.Laws.{then, still, goes-to, goes-first, held-goes}
 use Rattle.loader.proofs.Readers.{kind-read, like-link}
 use Rattle.loader.proofs.Steps.{integer-one, integer-whole, symbol-listed, reference-put, row-goes}
@@ -117,6 +119,14 @@ pub set-at : (c : List ℕ) → set c 0 (at-of c) ≡ c
 set-at [] = refl
 set-at (x ∷ c) = refl
 
+-- what would be taken is an integer or a link
+pub coming-next : {input no c : List ℕ} {names to levels : ℕ} → (levels ≡ 0 → ⊥) → Coming input no c names to → Next input (at-of c) levels
+coming-next {input} {no} {c} {names} {to} n t = (n, omega (arith, t .six), go (t .kind))
+  where
+    go : Either input no c names to → (getD input (at-of c) 0 ≡ FIXNUM) ⊎ (getD input (at-of c) 0 ≡ SYMBOL-LINK)
+    go (inl k) = inr (k .0)
+    go (inr k) = inl (k .0)
+
 pub running-start : {input no re sy c by ob : List ℕ} {start end names levels : ℕ} → start ≤ end → end ≤ references-of c → Held input (lists no re by sy ob) c → Running input no re sy c start end names levels no re c (at-of c) start
 running-start {input} {no} {re} {sy} {c} {by} {ob} {start} {end} {names} {levels} l h H =
     let e = set-at c in
@@ -147,6 +157,31 @@ module _ {input no₀ re₀ sy c₀ : List ℕ} {start end names levels : ℕ} {
   -- the run is over
   pub run-over : {r : ℕ} {c' : List ℕ} → r ≡ to → c' ≡ set c 0 at → (room : Room) (limit : ℕ) (by ob : List ℕ) → Goes input room (slots (read-symbol-like input room) (read-value input room limit levels) names (end - start) start) (lists no₀ re₀ by sy ob) c₀ (slots (read-symbol-like input room) (read-value input room limit levels) names (end - r) r) (lists no re by sy ob) c'
   run-over e f room limit by ob = rw (e, f) (R .goes room limit by ob)
+
+  -- why it is over: what it would take does not come next
+  module _ {c' : List ℕ} {r : ℕ} (f : c' ≡ set c 0 at) (e : r ≡ to) (t : Coming input no c' names r) where
+    taken : Coming input no c₁ names to
+    taken = subst (λ x. Coming input no x names to) f (subst (λ x. Coming input no c' names x) e t)
+
+    there : at + 6 ≤ length input
+    there = omega (arith, taken .six, is-at)
+
+    pub over-short : length input - at < 6 → ⊥
+    over-short l = omega (arith, l, there)
+
+    -- by the kind byte
+    by-kind : {A : Type 0} → (getD input at 0 ≡ SYMBOL-LINK → (n : ℕ) → Link (getD input (at + 1) 0) (symbols-of c₀) n → A) → (getD input at 0 ≡ FIXNUM → (to % 2 ≡ names → ⊥) → nodes-of c < length no / 7 → A) → A
+    by-kind {A} g h = go (taken .kind)
+      where
+        go : Either input no c₁ names to → A
+        go (inl (k, (n, y))) = g (sym (ap (λ (x : ℕ). getD input x 0) is-at) ∙ k) n (subst (λ (x : ℕ). Link (getD input (at + 1) 0) x n) (R .known) (subst (λ (x : ℕ). Link (getD input (x + 1) 0) (symbols-of c₁) n) is-at y))
+        go (inr (k, y, u)) = h (sym (ap (λ (x : ℕ). getD input x 0) is-at) ∙ k) y (omega (arith, u, getD-set-other c 0 1 at 0 (omega arith)))
+
+    pub over-link : {i : ℕ} → getD input at 0 ≡ SYMBOL-LINK → ((n : ℕ) → Link (getD input (at + 1) 0) (symbols-of c₀) n → i ≡ n) → symbols-of c₀ ≤ i → ⊥
+    over-link k g l = by-kind (λ _ n y. omega (arith, g n y, y .3, l)) (λ q _ _. omega (arith, k, q))
+
+    pub over-integer : {b : Bool} → (getD input at 0 ≡ SYMBOL-LINK → ⊥) → (getD input at 0 ≡ FIXNUM → (to % 2 ≡ names → ⊥) → nodes-of c < length no / 7 → b ≡ true) → b ≡ false → ⊥
+    over-integer k g l = by-kind (λ q _ _. k q) (λ q y u. untrue (sym l ∙ g q y u))
 
   -- a member was taken
   module _ {no' : List ℕ} (c' : List ℕ) (at' v : ℕ) (l : to < end) (sized : length no' ≡ length no) (grown : references-of (set c' 0 at') ≡ references-of c₁) (same : symbols-of (set c' 0 at') ≡ symbols-of c₁) (g : (room : Room) (limit : ℕ) (by ob : List ℕ) → Goes input room (slot (read-symbol-like input room) (read-value input room limit levels) names to) (lists no re by sy ob) c₁ (pure v) (lists no' re by sy ob) (set c' 0 at')) where

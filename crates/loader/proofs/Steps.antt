@@ -2,11 +2,12 @@
 use Prim.Native.Nat.{ℕ, zero, suc, _+_, _-_, _*_, _/_, _≤_, _<_}
 use native.Mathlib.Omega.{arith}
 use mathlib.Core.Path.{_≡_, refl, sym, ap, _∙_, subst}
-use mathlib.Core.Bool.{true, false}
+use mathlib.Core.Bool.{Bool, true, false}
 use mathlib.Core.List.{List, [], _∷_, _++_}
 use lib.ListN.{length, take, drop, set, getD, replicate, length-take, length-drop, length-append, length-set, length-replicate, List·getD-append}
 use lib.Seq.{sets}
-use borrow.Author.Tests.{lt-ltb, le-ltb, le-leb, lt-leb}
+use lib.Dec.{ltb}
+use borrow.Author.Tests.{lt-ltb, le-ltb, ltb-true, ltb-false, le-leb, lt-leb}
 use Rattle.definition.specs.Run.{Outcome, ok, pure, refuse, next, look, pick, _>>=_}
 use Rattle.definition.specs.Integer.{form, value}
 use Rattle.definition.specs.Node.{Row, nil, bool, fixnum, symbol, array, hash, object, string, user, absent, present, words, flat, equal}
@@ -14,14 +15,14 @@ use Rattle.definition.specs.Arena.{range, named}
 use Rattle.definition.specs.Load.{Room, State, Reader, Lists, lists, at-set, nodes-set, references-set, bytes-set, symbols-set, objects-set, read-byte, read-bytes, read-integer, add-node, reserve, add-bytes, add-symbol, add-object, fill, put-reference, entry, set-variables}
 use Rattle.definition.specs.declared.Refusal.{Refusal}
 use Rattle.definition.specs.declared.Refusal.the-variants.{ShortInput, MissingSymbol, MissingObject, NotAnObject, NoSpace}
-use Rattle.reader.specs.Answers.{coded, at-short, at-symbol, at-object, at-variables, at-space}
+use Rattle.reader.specs.Answers.{coded, refusal-at, at-short, at-variables, at-space}
 use Rattle.reader.specs.Integers.{size-of, word-of, size-some, integer-read, integer-short, integer-none, integer-small}
-use Rattle.loader.specs.Holds.{Begins, Holds, Held, Grown, Went, Goes, Leads, Meets, Spans, AllBelow, Plain, Symbolic, Fit, AllFit, AllSymbolic, Names, Free, span, span-of, new-symbol, settle, at-of, nodes-of, references-of, bytes-of, symbols-of, objects-of}
+use Rattle.loader.specs.Holds.{Begins, Holds, Held, Grown, Went, Goes, Leads, Meets, Spans, AllBelow, Plain, Symbolic, Entry, Fit, AllFit, AllSymbolic, Names, Free, span, span-of, new-symbol, settle, at-of, nodes-of, references-of, bytes-of, symbols-of, objects-of}
 use Rattle.loader.proofs.Counts.{Only, is, none}
 use Rattle.loader.proofs.Counts as K
 use Rattle.loader.proofs.Stores.{push, put, put-row, push-row, at-held, sets-first, split}
 use Rattle.loader.proofs.Names.{symbolic-below, symbolic-more, symbolic-set, symbolic-known, symbolic-new, names-bytes, names-more, names-set, names-known, names-new, plain-set, symbol-named, same-length, range-more}
-use Rattle.loader.proofs.Laws.{word, word-0, there, free-plain, denied, given}
+use Rattle.loader.proofs.Laws.{word, word-0, there, free-plain, denied, given, still, met-as, lead-first, lead-after, lead-stop}
 
 -- ---- rows that fit
 
@@ -91,8 +92,8 @@ module _ {input : List ℕ} {room : Room} {s : State} {c c' : List ℕ} {no re b
   symbol-changed : {no' sy' c₁ : List ℕ} (r : Row) → Only 1 c c₁ → Only 4 c₁ c' → Begins (room .nodes * 7) (flat (s .nodes ++ (r ∷ []))) no' → Begins (room .symbols) (s .symbols ++ (length (s .nodes) ∷ [])) sy' → nodes-of c₁ ≡ length (s .nodes ++ (r ∷ [])) → symbols-of c' ≡ length (s .symbols ++ (length (s .nodes) ∷ [])) → length (s .nodes) ≤ length (s .nodes ++ (r ∷ [])) → length (s .nodes ++ (r ∷ [])) ≤ room .nodes → Fit (length (s .bytes)) r → Symbolic r → Holds input room (symbols-set (s .symbols ++ (length (s .nodes) ∷ [])) (nodes-set (s .nodes ++ (r ∷ [])) s)) (lists no' re by sy' ob) c'
   symbol-changed r a o p q e d g h f y = record { small = H .small; counts = o .sized ∙ a .sized ∙ H .counts; nodes = p; references = H .references; bytes = H .bytes; symbols = q; objects = H .objects; count-at = o .others 0 (omega arith) ∙ a .others 0 (omega arith) ∙ H .count-at; inside = H .inside; count-nodes = o .others 1 (omega arith) ∙ e; room-nodes = h; count-references = o .others 2 (omega arith) ∙ a .others 2 (omega arith) ∙ H .count-references; count-bytes = o .others 3 (omega arith) ∙ a .others 3 (omega arith) ∙ H .count-bytes; count-symbols = d; count-objects = o .others 5 (omega arith) ∙ a .others 5 (omega arith) ∙ H .count-objects; below = λ i l. omega (arith, H .below i l); fit = fit-snoc _ r (s .nodes) (H .fit) f; symbolic = symbolic-new (s .nodes) r (s .symbols) y (H .symbolic); names = names-new (s .bytes) (s .nodes) r (s .symbols) (H .symbolic) (H .names) }
 
-pub found-below : {input : List ℕ} {T : Lists} {c : List ℕ} {i : ℕ} → Held input T c → i < objects-of c → getD (T .objects) i 0 < nodes-of c
-found-below {i = i} H l =
+pub object-below : {input : List ℕ} {T : Lists} {c : List ℕ} {i : ℕ} → Held input T c → i < objects-of c → getD (T .objects) i 0 < nodes-of c
+object-below {i = i} H l =
     let lt : i < length (H .state .objects) = omega arith in
     omega (arith, at-held i (H .holds .objects) lt, H .holds .below i lt)
 
@@ -104,6 +105,41 @@ entry-symbolic {s = s} i H l =
 
 pub symbol-below : {input : List ℕ} {T : Lists} {c : List ℕ} {i : ℕ} → Held input T c → i < symbols-of c → getD (T .symbols) i 0 < nodes-of c
 symbol-below {i = i} H l = omega (arith, symbolic-below (H .state .nodes) _ (entry-symbolic i (H .holds) l), H .holds .count-nodes)
+
+-- a list lent of which the first `known` are the state's list
+abbrev pub Listed : List ℕ → ℕ → List ℕ → Type 0
+Listed t known l = (known ≡ length l) × ((i : ℕ) → i < length l → getD t i 0 ≡ getD l i 0)
+
+pub objects-listed : {input : List ℕ} {room : Room} {T : Lists} {c : List ℕ} (s : State) → Holds input room s T c → Listed (T .objects) (objects-of c) (s .objects)
+objects-listed s H = (H .count-objects, λ i l. at-held i (H .objects) l)
+
+pub symbols-listed : {input : List ℕ} {room : Room} {T : Lists} {c : List ℕ} (s : State) → Holds input room s T c → Listed (T .symbols) (symbols-of c) (s .symbols)
+symbols-listed s H = (H .count-symbols, λ i l. at-held i (H .symbols) l)
+
+-- ---- an entry of a list
+
+module _ {t : List ℕ} {known n missing r : ℕ} (e : Entry t known n missing r) (h : 4294967296 ≤ missing) where
+  -- by the number
+  by-number : {A : Type 0} → (4294967296 ≤ n → r ≡ n → A) → (n < 4294967296 → known ≤ n → r ≡ missing + n → A) → (n < 4294967296 → n < known → r ≡ getD t n 0 → r < 4294967296 → A) → A
+  by-number {A} f g k = go (ltb n 4294967296) (ltb n known) refl refl
+    where
+      go : (x y : Bool) → ltb n 4294967296 ≡ x → ltb n known ≡ y → A
+      go false y p q = let l : 4294967296 ≤ n = ltb-false _ _ p in f l (e .handed l)
+      go true false p q = g (ltb-true _ _ p) (ltb-false _ _ q) (e .missed (ltb-true _ _ p) (ltb-false _ _ q))
+      go true true p q = let w = e .there (ltb-true _ _ q) (ltb-true _ _ p) in k (ltb-true _ _ p) (ltb-true _ _ q) (w .0) (w .1)
+
+  -- a value is an entry that is there
+  pub entry-inside : r < 4294967296 → (n < 4294967296) × (n < known) × (r ≡ getD t n 0)
+  entry-inside l = by-number (λ a q. absurd (omega (arith, a, q, l))) (λ a b q. absurd (omega (arith, q, h, l))) (λ a b q m. (a, b, q))
+
+-- an index is read, and the entry that it names
+pub linked : {input : List ℕ} {room : Room} {limit : ℕ} {T : Lists} {c c' : List ℕ} {m : Reader ℕ} {t : List ℕ} {known n missing r : ℕ} (l : State → List ℕ) (q : ℕ → Refusal) → Meets input room limit m T c n T c' → Entry t known n missing r → 4294967296 ≤ missing → ((i : ℕ) → i < 4294967296 → refusal-at limit (missing + i) ≡ q i) → ((s : State) → Holds input room s T c' → Listed t known (l s)) → Meets input room limit (m >>= λ i. look λ s. entry (l s) i (q i)) T c r T c'
+unfolding look entry pick pure
+linked {n = n} {r = r} l q m e h f y =
+    by-number e h
+    (λ a p. met-as p (lead-stop a (lead-first (λ i. look λ s. entry (l s) i (q i)) m)))
+    (λ a b p. lead-after (lead-first (λ i. look λ s. entry (l s) i (q i)) m .goes a) (met-as p (denied (q n) (omega (arith, h)) (f n a) (record { refuses = λ s H. let le : length (l s) ≤ n = omega (arith, y s H .0, b) in simp (le-ltb _ _ le) }))))
+    (λ a b p u. lead-after (lead-first (λ i. look λ s. entry (l s) i (q i)) m .goes a) (given (λ s H. u) (still (λ s H. let lt : n < length (l s) = omega (arith, y s H .0, b) in simp (lt-ltb _ _ lt) (ap (λ (v : ℕ). ok v s) (sym (y s H .1 n lt) ∙ sym p))))))
 
 -- ---- the primitives
 
@@ -269,25 +305,6 @@ module _ {input : List ℕ} {room : Room} {limit : ℕ} {c : List ℕ} {no re by
         let le : room .symbols ≤ length (s .symbols) = omega arith in
         simp (lt-ltb _ _ lt, le-ltb _ _ le);
   })
-
-  pub object-found : (i : ℕ) (q : Refusal) → i < objects-of c → Meets input room limit (look λ s. entry (s .objects) i q) (lists no re by sy ob) c (getD ob i 0) (lists no re by sy ob) c
-  unfolding look entry pick
-  object-found i q l = given (λ s H. omega (arith, found-below (held-at H) l)) (record {
-    goes = λ s H.
-        let lt : i < length (s .objects) = omega arith in
-        went H (simp (lt-ltb _ _ lt, at-held i (H .objects) lt)) (grown-rows refl (omega arith));
-  })
-
-  pub object-missing : (i : ℕ) {T' : Lists} {c' : List ℕ} → i < 4294967296 → objects-of c ≤ i → Meets input room limit (look λ s. entry (s .objects) i (MissingObject i)) (lists no re by sy ob) c (coded 8 i) T' c'
-  unfolding look entry pick
-  object-missing i f l = denied (MissingObject i) (omega arith) (at-object limit i f) (record { refuses = λ s H. let le : length (s .objects) ≤ i = omega arith in simp (le-ltb _ _ le) })
-
-  pub symbol-found : (i : ℕ) (q : Refusal) → i < symbols-of c → Meets input room limit (look λ s. entry (s .symbols) i q) (lists no re by sy ob) c (getD sy i 0) (lists no re by sy ob) c
-  symbol-found i q l = given (λ s H. omega (arith, symbol-below (held-at H) l)) (symbol-listed i q l)
-
-  pub symbol-missing : (i : ℕ) {T' : Lists} {c' : List ℕ} → i < 4294967296 → symbols-of c ≤ i → Meets input room limit (look λ s. entry (s .symbols) i (MissingSymbol i)) (lists no re by sy ob) c (coded 7 i) T' c'
-  unfolding look entry pick
-  symbol-missing i f l = denied (MissingSymbol i) (omega arith) (at-symbol limit i f) (record { refuses = λ s H. let le : length (s .symbols) ≤ i = omega arith in simp (le-ltb _ _ le) })
 
   pub words-short : (n : ℕ) {T' : Lists} {c' : List ℕ} → length re - references-of c < n → Meets input room limit (reserve room n) (lists no re by sy ob) c (coded 12 2) T' c'
   unfolding reserve pick

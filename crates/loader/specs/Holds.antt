@@ -3,10 +3,12 @@ use Prim.Native.Nat.{ℕ, zero, suc, _+_, _-_, _*_, _/_, _%_, _≤_, _<_}
 use mathlib.Core.Path.{_≡_}
 use mathlib.Core.List.{List, [], _∷_}
 use mathlib.Core.Option.{Option, none, some}
+use mathlib.Core.Logic.{_⊎_}
 use lib.Dec.{ltb, eqb}
 use lib.ListN.{length, getD, take, drop}
 use Rattle.definition.specs.Run.{Outcome, refused, pure, pick, look, _>>=_}
-use Rattle.definition.specs.Kind.{INSTANCE-VARIABLES, ARRAY, HASH, HASH-DEFAULT, OBJECT}
+use Rattle.definition.specs.Integer.{form, value}
+use Rattle.definition.specs.Kind.{FIXNUM, SYMBOL-LINK, INSTANCE-VARIABLES, ARRAY, HASH, HASH-DEFAULT, OBJECT}
 use Rattle.definition.specs.Node.{Row, nil, bool, fixnum, symbol, array, hash, object, string, user, flat}
 use Rattle.definition.specs.Arena.{named, find-symbol, lowest, bad-nodes, too-long}
 use Rattle.definition.specs.Load.{Room, State, Reader, Lists, add-node, add-symbol, add-object-node, add-bytes, read-byte-string, put-reference, set-variables}
@@ -183,6 +185,12 @@ Spans input room limit m T c r T' c' = Leads input room limit m (pure (span-of i
 abbrev pub Free : List ℕ → ℕ → Type 0
 Free nodes h = getD nodes (h * 7) 0 ≡ 3 → ⊥
 
+-- entry n of a list of which the first `known` are used, by the number r: handed on where n is a refusal, else missing or there
+pub record Entry (l : List ℕ) (known n missing r : ℕ) : Type 0 where
+  pub handed : 4294967296 ≤ n → r ≡ n
+  pub missed : n < 4294967296 → known ≤ n → r ≡ missing + n
+  pub there : n < known → n < 4294967296 → (r ≡ getD l n 0) × (r < 4294967296)
+
 -- a kind byte of no value that has members
 pub record Leaf (k : ℕ) : Type 0 where
   pub array : k ≡ ARRAY → ⊥
@@ -224,6 +232,25 @@ more-of inner (suc n) = inner
 -- the words of a list, and what comes after them
 abbrev pub members : Reader ℕ → Reader ℕ → ℕ → ℕ → ℕ → ℕ → Reader ℕ
 members name inner names more n to = slots name inner names n to >>= λ _. more-of inner more
+
+-- ---- what a run of integers and symbol links takes
+
+-- a link of the one byte b, to entry n of those known
+abbrev pub Link : ℕ → ℕ → ℕ → Type 0
+Link b known n = (b ≤ 127) × (n ≤ 122) × (form b ≡ value n) × (n < known)
+
+-- an integer or a symbol link comes next, with a level for it
+abbrev pub Next : List ℕ → ℕ → ℕ → Type 0
+Next input at levels = (levels ≡ 0 → ⊥) × (at < length input) × ((getD input at 0 ≡ FIXNUM) ⊎ (getD input at 0 ≡ SYMBOL-LINK))
+
+-- a link of one byte to a known symbol, or an integer for word `to` where no name is wanted and a node has room
+abbrev pub Either : List ℕ → List ℕ → List ℕ → ℕ → ℕ → Type 0
+Either input nodes c names to = ((getD input (at-of c) 0 ≡ SYMBOL-LINK) × ((n : ℕ) × Link (getD input (at-of c + 1) 0) (symbols-of c) n)) ⊎ ((getD input (at-of c) 0 ≡ FIXNUM) × (to % 2 ≡ names → ⊥) × (nodes-of c < length nodes / 7))
+
+-- one of them comes next, and six bytes are there
+pub record Coming (input nodes c : List ℕ) (names to : ℕ) : Type 0 where
+  pub six : at-of c + 6 ≤ length input
+  pub kind : Either input nodes c names to
 
 -- ---- the lengths lent
 

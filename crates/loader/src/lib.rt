@@ -2,6 +2,9 @@
 //
 // What is lent and the counts `c` hold a state of the definition before the call. Below REFUSED the number answered is the
 // value that the definition's reader gives there, and a state is held again; from REFUSED on it is the reader's refusal.
+use arena_check::first_wrong;
+use arena_check::too_long;
+use arena_check::wrong_table;
 use definition::Node;
 use definition::ValueKind;
 use reader::INVALID_KIND;
@@ -33,8 +36,9 @@ ghost use Rattle.definition.specs.Kind.{FIXNUM};
 ghost use Rattle.definition.specs.Node.{Row, words, nil, equal, width};
 ghost use Rattle.definition.specs.Arena.{named, find-symbol};
 ghost use Rattle.definition.specs.Load.{Room, State, Reader, Lists, lists, read-header, read-integer, read-count, read-byte-string, read-fixnum, read-symbol, read-symbol-link, read-object-link, read-symbol-like, read-user-defined, read-value, value-of, head, add-node, add-bytes, add-symbol, add-object, add-object-node, counted, fill};
+ghost use Rattle.reader.specs.Answers.{coded};
 ghost use Rattle.reader.specs.Integers.{size-of, word-of};
-ghost use Rattle.loader.specs.Holds.{Held, Holds, Somewhere, Goes, Leads, Meets, Does, Spans, Plain, Symbolic, Free, Leaf, span, span-of, at-of, nodes-of, references-of, bytes-of, symbols-of, new-symbol, text, settle, slots, wrong, Allowed};
+ghost use Rattle.loader.specs.Holds.{Held, Holds, Somewhere, Goes, Leads, Meets, Does, Spans, Plain, Symbolic, Free, Leaf, Entry, Link, Next, Coming, span, span-of, at-of, nodes-of, references-of, bytes-of, symbols-of, new-symbol, text, settle, slots, wrong, Allowed};
 
 // The places of the six counts: the offset, then how much of each table and list is used.
 pub const AT: usize = 0;
@@ -239,6 +243,20 @@ fn add_symbol_node(
 
 // ---- values without members
 
+// Entry n of a list of which the first `known` are used, else `missing` and n; where n is a refusal, n.
+fn entry_at(list: &[u32], known: usize, n: u64, missing: u64) -> u64
+    requires { ⌜ (n < 4294967296 → known ≤ length (now list)) × (missing ≤ coded 12 0) ⌝ }
+    ensures { λ r. ⌜ Entry (now (list .entry)) known n missing r ⌝ }
+{
+    if REFUSED <= n {
+        return n;
+    }
+    if known <= n as usize {
+        return missing + n;
+    }
+    wide(list[n as usize])
+}
+
 // The entry of the object list that the index read names.
 fn read_object_link(input: &[u8], objects: &[u32], c: &mut [usize; 6]) -> u64
     requires { ⌜ ((no : List ℕ) × (re : List ℕ) × (by : List ℕ) × (sy : List ℕ) × Held (now input) (lists no re by sy (now objects)) (now c)) ⌝ }
@@ -246,13 +264,7 @@ fn read_object_link(input: &[u8], objects: &[u32], c: &mut [usize; 6]) -> u64
     ensures { λ r. ⌜ (r < 4294967296 → r < nodes-of (now (c .exit))) ⌝ }
 {
     let n = read_count(&input[..], c);
-    if REFUSED <= n {
-        return n;
-    }
-    if c[OBJECTS] <= n as usize {
-        return MISSING_OBJECT + n;
-    }
-    wide(objects[n as usize])
+    entry_at(&objects[..], c[OBJECTS], n, MISSING_OBJECT)
 }
 
 // The entry of the symbol list that the index read names.
@@ -262,13 +274,7 @@ fn read_symbol_link(input: &[u8], symbols: &[u32], c: &mut [usize; 6]) -> u64
     ensures { λ r. ⌜ (r < 4294967296 → r < nodes-of (now (c .exit))) ⌝ }
 {
     let n = read_count(&input[..], c);
-    if REFUSED <= n {
-        return n;
-    }
-    if c[SYMBOLS] <= n as usize {
-        return MISSING_SYMBOL + n;
-    }
-    wide(symbols[n as usize])
+    entry_at(&symbols[..], c[SYMBOLS], n, MISSING_SYMBOL)
 }
 
 // A node of the integer read.
@@ -309,7 +315,7 @@ fn read_text(
     add_object_node(nodes, objects, c, kind, start as u32, n as u32, name)
 }
 
-// Are the n bytes from `from` on those from `to` on? From the end: names of one length mostly differ there.
+// Are the n bytes from `from` on those from `to` on?
 fn same_bytes(input: &[u8], from: usize, bytes: &[u8], to: usize, n: usize) -> bool
     requires { ⌜ (from + n ≤ length (now input)) × (to + n ≤ length (now bytes)) ⌝ }
     ensures { λ r. ⌜ r ≡ equal (take n (drop from (now (input .entry)))) (take n (drop to (now (bytes .entry)))) ⌝ }
@@ -324,9 +330,20 @@ fn same_bytes(input: &[u8], from: usize, bytes: &[u8], to: usize, n: usize) -> b
     true
 }
 
-// Do the n bytes before `at` name the symbol h?
-fn is_named(input: &[u8], nodes: &[u32], bytes: &[u8], at: usize, h: u32, n: u32) -> bool
-    requires { ⌜ (n ≤ at) × ((room : Room) × (s : State) × (re : List ℕ) × (sy : List ℕ) × (ob : List ℕ) × (c : List ℕ) × (at-of c ≡ at) × Symbolic (getD (s .nodes) h nil) × Holds (now input) room s (lists (now nodes) re (now bytes) sy ob) c) ⌝ }
+// The last of the n bytes before `at`, or 0 where there are none.
+fn last_byte(input: &[u8], at: usize, n: u32) -> u8
+    requires { ⌜ (n ≤ at) × (at ≤ length (now input)) ⌝ }
+    ensures { λ r. ⌜ r ≡ getD (span (now (input .entry)) at n) (n - 1) 0 ⌝ }
+{
+    if n == 0 {
+        return 0;
+    }
+    input[at - 1]
+}
+
+// Do the n bytes before `at`, of which `last` is the last, name the symbol h? Names of one length mostly differ there.
+fn is_named(input: &[u8], nodes: &[u32], bytes: &[u8], at: usize, h: u32, n: u32, last: u8) -> bool
+    requires { ⌜ (n ≤ at) × (last ≡ getD (span (now input) at n) (n - 1) 0) × ((room : Room) × (s : State) × (re : List ℕ) × (sy : List ℕ) × (ob : List ℕ) × (c : List ℕ) × (at-of c ≡ at) × Symbolic (getD (s .nodes) h nil) × Holds (now input) room s (lists (now nodes) re (now bytes) sy ob) c) ⌝ }
     ensures { λ r. ⌜ ((room : Room) (s : State) (re sy ob c : List ℕ) → Symbolic (getD (s .nodes) h nil) → Holds (now (input .entry)) room s (lists (now (nodes .entry)) re (now (bytes .entry)) sy ob) c → r ≡ named (s .bytes) (span (now (input .entry)) at n) (getD (s .nodes) h nil)) ⌝ }
 {
     let base = (h as usize) * Node::WIDTH;
@@ -334,13 +351,14 @@ fn is_named(input: &[u8], nodes: &[u32], bytes: &[u8], at: usize, h: u32, n: u32
         return false;
     }
     let k = n as usize;
-    same_bytes(
-        &input[..],
-        at - k,
-        &bytes[..],
-        nodes[base + Node::START] as usize,
-        k,
-    )
+    let to = nodes[base + Node::START] as usize;
+    if k == 0 {
+        return true;
+    }
+    if bytes[to + (k - 1)] != last {
+        return false;
+    }
+    same_bytes(&input[..], at - k, &bytes[..], to, k)
 }
 
 // The first of the `count` symbols on the symbol list that the n bytes before `at` name, else REFUSED.
@@ -356,10 +374,11 @@ fn find_symbol(
     requires { ⌜ (n ≤ at) × ((room : Room) × (s : State) × (re : List ℕ) × (ob : List ℕ) × (c : List ℕ) × (at-of c ≡ at) × (symbols-of c ≡ count) × Holds (now input) room s (lists (now nodes) re (now bytes) (now symbols) ob) c) ⌝ }
     ensures { λ r. ⌜ ((room : Room) (s : State) (re ob c : List ℕ) → symbols-of c ≡ count → Holds (now (input .entry)) room s (lists (now (nodes .entry)) re (now (bytes .entry)) (now (symbols .entry)) ob) c → (r < 4294967296 → (find-symbol (s .bytes) (span (now (input .entry)) at n) (s .nodes) 0 ≡ some r) × Symbolic (getD (s .nodes) r nil)) × (4294967296 ≤ r → find-symbol (s .bytes) (span (now (input .entry)) at n) (s .nodes) 0 ≡ none)) ⌝ }
 {
+    let last = last_byte(&input[..], at, n);
     let mut i: usize = 0;
     while i < count {
         let h = symbols[i];
-        if is_named(&input[..], &nodes[..], &bytes[..], at, h, n) {
+        if is_named(&input[..], &nodes[..], &bytes[..], at, h, n, last) {
             return wide(h);
         }
         i = i + 1;
@@ -490,6 +509,7 @@ pub fn read_leaf(
 // The entry that a link of the one byte b names, of `known` ones, else `known`.
 fn link_index(b: u8, known: usize) -> usize
     ensures { λ r. ⌜ (r < known → form b ≡ value r) ⌝ }
+    ensures { λ r. ⌜ ((n : ℕ) → Link b known n → r ≡ n) ⌝ }
 {
     let i = small(b);
     if 122 < i {
@@ -502,6 +522,7 @@ fn link_index(b: u8, known: usize) -> usize
 // is room for node `node`?
 fn takes_integer(k: u8, to: usize, names: usize, node: usize, room: usize) -> bool
     ensures { λ r. ⌜ (r ≡ true → (k ≡ FIXNUM) × (to % 2 ≡ names → ⊥) × (node < room)) ⌝ }
+    ensures { λ r. ⌜ (k ≡ FIXNUM → (to % 2 ≡ names → ⊥) → node < room → r ≡ true) ⌝ }
 {
     if k != ValueKind::FIXNUM {
         return false;
@@ -536,7 +557,7 @@ fn put_integer(input: &[u8], nodes: &mut [u32], at: usize, node: usize) -> usize
 
 // Does an integer or a symbol link come next, with a level for it?
 fn small_next(input: &[u8], at: usize, levels: u32) -> bool
-    ensures { λ r. ⌜ (r ≡ true → levels ≡ 0 → ⊥) ⌝ }
+    ensures { λ r. ⌜ (r ≡ true → Next (now (input .entry)) at levels) × (Next (now (input .entry)) at levels → r ≡ true) ⌝ }
 {
     if levels == 0 {
         return false;
@@ -576,6 +597,7 @@ pub fn read_run(
     requires { ⌜ (start ≤ end) × (end ≤ references-of (now c)) × ((by : List ℕ) × (ob : List ℕ) × Held (now input) (lists (now nodes) (now references) by (now symbols) ob) (now c)) ⌝ }
     ensures { λ r. ⌜ (start ≤ r) × (r ≤ end) ⌝ }
     ensures { λ r. ⌜ ((room : Room) (limit : ℕ) (by ob : List ℕ) → Goes (now (input .entry)) room (slots (read-symbol-like (now (input .entry)) room) (read-value (now (input .entry)) room limit levels) names (end - start) start) (lists (now (nodes .entry)) (now (references .entry)) by (now (symbols .entry)) ob) (now (c .entry)) (slots (read-symbol-like (now (input .entry)) room) (read-value (now (input .entry)) room limit levels) names (end - r) r) (lists (now (nodes .exit)) (now (references .exit)) by (now (symbols .entry)) ob) (now (c .exit))) ⌝ }
+    ensures { λ r. ⌜ ((levels ≡ 0 → ⊥) → r < end → Coming (now (input .entry)) (now (nodes .exit)) (now (c .exit)) names r → ⊥) ⌝ }
 {
     if !small_next(&input[..], c[AT], levels) {
         return start;
@@ -702,32 +724,18 @@ pub fn wrong_slice(
     ensures { λ r. ⌜ r ≡ wrong nodes references bytes symbols objects limit input ⌝ }
     ensures { λ r. ⌜ (r ≡ 0 → Allowed nodes references bytes symbols objects) ⌝ }
 {
-    if 2147483647 < nodes {
-        return 1;
-    }
-    if nodes == 0 {
-        return 1;
-    }
-    if nodes % Node::WIDTH != 0 {
-        return 1;
-    }
-    if 2147483647 < references {
-        return 2;
-    }
-    if 2147483647 < bytes {
-        return 3;
-    }
-    if 2147483647 < symbols {
-        return 4;
-    }
-    if 2147483647 < objects {
-        return 5;
-    }
-    if 128 < limit {
-        return 7;
-    }
-    if 2147483647 < input {
-        return 8;
-    }
-    0
+    wrong_table(
+        nodes,
+        references,
+        bytes,
+        first_wrong(
+            4,
+            too_long(symbols),
+            first_wrong(
+                5,
+                too_long(objects),
+                first_wrong(7, 128 < limit, first_wrong(8, too_long(input), 0)),
+            ),
+        ),
+    )
 }

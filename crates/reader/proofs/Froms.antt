@@ -1,7 +1,7 @@
 -- A reader's answers at an offset, by what the definition's readers do there.
 use Prim.Native.Nat.{ℕ, _+_, _-_, _≤_, _<_}
 use native.Mathlib.Omega.{arith}
-use mathlib.Core.Path.{_≡_, refl, sym, ap, _∙_}
+use mathlib.Core.Path.{_≡_, sym, ap}
 use mathlib.Core.List.{List}
 use lib.ListN.{length, getD, take, drop, length-drop}
 use lib.Seq.{length-take-le}
@@ -9,13 +9,11 @@ use borrow.Author.Tests.{lt-ltb, le-ltb, le-leb, lt-leb}
 use Rattle.definition.specs.Run.{ok, refused, pure, refuse, pick, next, _>>=_}
 use Rattle.definition.specs.Integer.{Form, form}
 use Rattle.definition.specs.Arena.{range}
-use Rattle.definition.specs.Load.{State, read-byte, read-bytes, read-header, read-integer, read-count, read-byte-string, at-set}
+use Rattle.definition.specs.Load.{State, read-byte, read-bytes, read-header, read-integer, read-count, read-byte-string}
 use Rattle.definition.specs.Reader.{starting, taken, passed, spanned, next-byte, next-header, next-integer, next-byte-string}
 use Rattle.definition.specs.declared.Answer.the-variants.{Accepted}
 use Rattle.definition.specs.declared.Refusal.{Refusal}
 use Rattle.definition.specs.declared.Refusal.the-variants.{ShortInput, NegativeCount}
-use Rattle.definition.specs.declared.Taken.{Taken}
-use Rattle.definition.specs.declared.Text.{Text}
 use Rattle.reader.specs.From.{taken-as, not-taken, no-text}
 use Rattle.reader.specs.Integers.{size-of, word-of, integer-read, integer-short, integer-none}
 

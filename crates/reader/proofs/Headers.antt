@@ -7,7 +7,7 @@ use mathlib.Core.List.{List}
 use lib.Dec.{eqb, leb, ltb}
 use lib.ListN.{length, getD}
 use borrow.Author.Tests.{lt-ltb, le-ltb, lt-leb, le-leb, eq-eqb, ne-eqb}
-use Rattle.definition.specs.Run.{ok, refused, pure, refuse, pick, next, _>>=_}
+use Rattle.definition.specs.Run.{refused, pure, refuse, pick, next, _>>=_}
 use Rattle.definition.specs.Load.{State, at-set, read-byte, read-header}
 use Rattle.definition.specs.declared.Refusal.the-variants.{ShortInput, InvalidVersion}
 use Rattle.reader.specs.Answers.{refusal-at, refusal-of, at-parts, Reads}

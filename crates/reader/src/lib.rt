@@ -157,9 +157,12 @@ pub fn integer_at(input: &[u8], at: usize) -> u32
     ones_above(n) + little(&input[..], at + 1, n)
 }
 
-// The number that an integer of the one byte b is, where that is 0 to 122, else 123.
+// The number that the one byte b is as an integer, where b is at most 127 and the number so at most 122; else 123. The byte
+// 251, another 0, is left to integer_at.
 pub fn small(b: u8) -> usize
     ensures { λ r. ⌜ (r < 123 → form b ≡ value r) ⌝ }
+    ensures { λ r. ⌜ ((n : ℕ) → b ≤ 127 → form b ≡ value n → r ≡ n) ⌝ }
+    ensures { λ r. ⌜ (127 < b → r ≡ 123) × (r ≤ 123) ⌝ }
 {
     if b == 0 {
         return 0;

@@ -17,6 +17,7 @@ use Rattle.definition.specs.Graph.{SameGraph}
 use Rattle.definition.specs.declared.Counts.{Counts}
 use Rattle.lists.specs.Lists.{At, at-lt, len-snoc, apart}
 use Rattle.lists.specs.Ranges.{length-range}
+use Rattle.lists.specs.Slices.{tables-right}
 use Rattle.graph.specs.Sums.{total}
 use Rattle.graph.specs.Forest.{Node, leaf, box, Num, fresh, F, node-box, node-sym}
 use Rattle.graph.specs.Forest.{sym as symbol-node}
@@ -30,7 +31,7 @@ use Rattle.dump_forest.specs.Same.{one-graph}
 use Rattle.dump_forest.specs.Writers.{num}
 use Rattle.dump_forest.specs.Alike.{dump-same}
 use Rattle.dump_forest.specs.Call.{call-accepted}
-use Rattle.load_forest.specs.Call.{lowest-none, short, nodes-allowed, take-padded}
+use Rattle.load_forest.specs.Call.{take-padded}
 use Rattle.round_trip.specs.Statement.{DumpAccepted, written}
 use Rattle.round_trip.specs.Space.{taken}
 use Rattle.round_trip.specs.Print.{Bounded, one-forest}
@@ -174,17 +175,12 @@ fixnums T c b i w e = rows-fixnum (c .nodes) (T .nodes) (word-bounded (T .nodes)
 small : (T : Tables) (c : Counts) (scratch output : List ℕ) (limit : ℕ) → dump-wrong T scratch output limit ≡ 0 → fault T c ≡ none → Small (arena T c)
 unfolding dump-wrong
 small T c scratch output limit e nf =
-    let (b₁, e₁) = lowest-none 0 _ _ e in
-    let (b₂, e₂) = lowest-none 1 _ _ e₁ in
-    let (b₃, e₃) = lowest-none 2 _ _ e₂ in
-    let n = nodes-allowed (length (T .nodes)) b₁ .0 in
-    let r = short (length (T .references)) b₂ in
-    let b = short (length (T .bytes)) b₃ in
+    let t = tables-right _ _ _ _ e .0 in
     let f = fault-fit T c nf in
     record {
-      nodes = omega (arith, f .nodes, f .nodes-fit);
-      references = omega (arith, f .references, f .references-fit);
-      bytes = omega (arith, f .bytes, f .bytes-fit);
+      nodes = omega (arith, t .nodes-small, f .nodes, f .nodes-fit);
+      references = omega (arith, t .references-small, f .references, f .references-fit);
+      bytes = omega (arith, t .bytes-small, f .bytes, f .bytes-fit);
     }
 
 -- two accepted dumps of any tables of words, under any limits, with any scratch and outputs

@@ -16,6 +16,7 @@ use Rattle.definition.specs.Load.{State, Room, Lists, room-of, load, load-wrong
 use Rattle.definition.specs.Dump.{Written, dump, dump-wrong, DumpCall}
 use Rattle.definition.specs.declared.Counts.{Counts}
 use Rattle.definition.specs.declared.Loaded.{Loaded}
+use Rattle.lists.specs.Slices.{lowest-none, short, tables-right}
 use Rattle.graph.specs.Forest.{F, Num, fresh, Text, values}
 use Rattle.graph.specs.Describe.{E, Says}
 use Rattle.graph.specs.Build.{Names}
@@ -29,7 +30,7 @@ use Rattle.dump_forest.specs.Alike.{one-text}
 use Rattle.dump_forest.specs.Call.{call-accepted, accepted-call}
 use Rattle.load_forest.specs.Bytes.{load-small}
 use Rattle.load_forest.specs.Names.{load-arena-names}
-use Rattle.load_forest.specs.Call.{lowest-none, short, load-allowed, load-accepted, accepted-load, call-arena, call-well-formed, some-nodes, take-padded}
+use Rattle.load_forest.specs.Call.{load-allowed, load-accepted, accepted-load, call-arena, call-well-formed, some-nodes, take-padded}
 use Rattle.load_text.specs.Leaves.{Small}
 use Rattle.load_text.specs.Back.{RoomFor, Back, load-back}
 use Rattle.round_trip.specs.Statement.{AreBytes, LoadAllowed, NoSmaller, LoadAccepted, used, tables, counts, filled, DumpAllowed, DumpAccepted, written, Again, RoundTrip}
@@ -81,11 +82,7 @@ room-larger T U l = record { nodes = omega (arith, l .nodes); references = l .re
 output-most : (T : Tables) (scratch output : List ℕ) (limit : ℕ) → dump-wrong T scratch output limit ≡ 0 → length output ≤ 2147483647
 unfolding dump-wrong
 output-most T scratch output limit e =
-    let (b₁, e₁) = lowest-none 0 _ _ e in
-    let (b₂, e₂) = lowest-none 1 _ _ e₁ in
-    let (b₃, e₃) = lowest-none 2 _ _ e₂ in
-    let (b₆, e₆) = lowest-none 5 _ _ e₃ in
-    short (length output) b₆
+    short (length output) (lowest-none 5 _ _ (tables-right _ _ _ _ e .1) .0)
 
 not-long : (n : ℕ) → n ≤ 2147483647 → too-long n ≡ false
 unfolding too-long

@@ -1,5 +1,5 @@
 -- The search for a symbol by its name, and the slices that builders take.
-use Prim.Native.Nat.{ℕ, zero, suc, _+_, _*_, _%_, _≤_, _<_}
+use Prim.Native.Nat.{ℕ, zero, suc, _+_, _*_, _/_, _%_, _≤_, _<_}
 use native.Mathlib.Omega.{arith}
 use native.Mathlib.Numerals.{add-one}
 use native.Mathlib.Decide.{decLt}
@@ -10,12 +10,13 @@ use mathlib.Core.Path.{_≡_, refl, sym, ap, _∙_, subst}
 use lib.Dec.{eqb}
 use lib.ListN.{length, getD, take, drop, drop-of-length-le, List·getD-eq-default}
 use lib.Seq.{drop-cons, length-take-le}
-use borrow.Author.Tests.{lt-ltb, le-ltb, eq-eqb, ne-eqb}
+use borrow.Author.Tests.{eq-eqb, ne-eqb}
 use Rattle.definition.specs.Run.{ok, pure, refuse, next, _>>=_, look, pick}
 use Rattle.definition.specs.Node.{Row, nil, symbol, kind, row, row-of, rows, equal}
 use Rattle.definition.specs.Arena.{Arena, node, range, name-of, named, find-symbol, too-long, lowest, allowed, sound, fault}
 use Rattle.definition.specs.Build.{Lent, held, check, wrong, byte-slice, member-slice, pair-slice}
 use Rattle.definition.specs.declared.Fault.{Fault}
+use Rattle.lists.specs.Slices.{no-slice, slice, lowest-none, whole-pairs}
 use Rattle.lists.specs.Words.{equal-true}
 use Rattle.lists.specs.Ranges.{length-range, range-step, range-end}
 use Rattle.lists.specs.Tables.{length-rows, rows-at}
@@ -24,7 +25,7 @@ use Rattle.arena_check.proofs.Rights.{node-words, range-take}
 use Rattle.well_formed.specs.Nodes.{at-node}
 use Rattle.well_formed.specs.Right as R
 use Rattle.value_arena.specs.Calls.{SymbolsIn}
-use Rattle.value_arena.proofs.Tests.{no-refusal, one-right, one-wrong}
+use Rattle.value_arena.proofs.Tests.{no-refusal}
 
 -- ---- the same bytes
 
@@ -160,44 +161,22 @@ symbols-in L ts e i s l q = go (decLt i (length (held L .nodes)))
     go (yes h) = R.fault-right (L .tables) (L .counts) (fault-free L ts e) .rows-right i (symbol s l) (at-node (held L) i h ∙ ap some q)
     go (no h) = let z : _≡_ {A = ℕ} 0 3 = kinds (sym (past (omega arith)) ∙ q) in absurd (omega arith)
 
--- ---- slices
+-- ---- a slice besides the tables
 
-module _ (n : ℕ) (bs : List ℕ) (e : length bs ≡ n) where
-  long : 2147483647 < n → too-long (length bs) ≡ true
-  unfolding too-long
-  long h = rw e (lt-ltb 2147483647 n h)
+abbrev odd : ℕ → Bool
+odd n = too-long n || not (eqb (n % 2) 0)
 
-  short : n ≤ 2147483647 → too-long (length bs) ≡ false
-  unfolding too-long
-  short h = rw e (le-ltb 2147483647 n h)
-
-  pub bytes-long : 2147483647 < n → lowest (byte-slice bs ∷ []) ≡ 8
+module _ (n : ℕ) {r : ℕ} {t : Bool} (q : t ≡ too-long n) where
+  pub bytes-named : r ≡ pick t 8 0 → (bs : List ℕ) → length bs ≡ n → lowest (byte-slice bs ∷ []) ≡ r
   unfolding byte-slice
-  bytes-long h = one-wrong 8 (too-long (length bs)) (long h)
+  bytes-named p bs e = sym (slice 8 [] p (q ∙ ap too-long (sym e)) no-slice)
 
-  pub bytes-right : n ≤ 2147483647 → lowest (byte-slice bs ∷ []) ≡ 0
-  unfolding byte-slice
-  bytes-right h = one-right 8 (too-long (length bs)) (short h)
-
-  pub members-long : 2147483647 < n → lowest (member-slice bs ∷ []) ≡ 9
+  pub members-named : r ≡ pick t 9 0 → (ms : List ℕ) → length ms ≡ n → lowest (member-slice ms ∷ []) ≡ r
   unfolding member-slice
-  members-long h = one-wrong 9 (too-long (length bs)) (long h)
+  members-named p ms e = sym (slice 9 [] p (q ∙ ap too-long (sym e)) no-slice)
 
-  pub members-right : n ≤ 2147483647 → lowest (member-slice bs ∷ []) ≡ 0
-  unfolding member-slice
-  members-right h = one-right 9 (too-long (length bs)) (short h)
-
-  abbrev odd : Bool
-  odd = too-long (length bs) || not (eqb (length bs % 2) 0)
-
-  pub pairs-long : 2147483647 < n → lowest (pair-slice bs ∷ []) ≡ 9
+  pub pairs-named : r ≡ pick (t || not (eqb (n % 2) 0)) 9 0 → ((ps : List ℕ) → length ps ≡ n → lowest (pair-slice ps ∷ []) ≡ r) × (r ≡ 0 → n / 2 * 2 ≡ n)
   unfolding pair-slice
-  pairs-long h = one-wrong 9 odd (ap (λ (b : Bool). b || not (eqb (length bs % 2) 0)) (long h))
-
-  pub pairs-odd : n ≤ 2147483647 → (n % 2 ≡ 0 → ⊥) → lowest (pair-slice bs ∷ []) ≡ 9
-  unfolding pair-slice
-  pairs-odd h k = one-wrong 9 odd (λ i. short h i || not (ne-eqb (length bs % 2) 0 (λ q. k (ap (λ (m : ℕ). m % 2) (sym e) ∙ q)) i))
-
-  pub pairs-right : n ≤ 2147483647 → n % 2 ≡ 0 → lowest (pair-slice bs ∷ []) ≡ 0
-  unfolding pair-slice
-  pairs-right h k = one-right 9 odd (λ i. short h i || not (eq-eqb (length bs % 2) 0 (ap (λ (m : ℕ). m % 2) e ∙ k) i))
+  pairs-named p =
+      let x : r ≡ lowest ((9, odd n) ∷ []) = slice 9 [] p (λ i. q i || not (eqb (n % 2) 0)) no-slice in
+      (λ ps e. ap (λ (k : ℕ). lowest ((9, odd k) ∷ [])) e ∙ sym x, λ z. whole-pairs n (lowest-none 8 _ _ (sym x ∙ z) .0))

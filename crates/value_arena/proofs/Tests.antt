@@ -1,24 +1,22 @@
 -- What each test of a call says: 1, 2, 13 and 14.
-use Prim.Native.Nat.{ℕ, zero, suc, _+_, _-_, _*_, _%_, _≤_, _<_}
+use Prim.Native.Nat.{ℕ, zero, suc, _+_, _-_, _*_, _≤_, _<_}
 use native.Mathlib.Omega.{arith}
 use native.Mathlib.Numerals.{add-one}
-use mathlib.Core.Bool.{Bool, true, false, not, _||_}
+use mathlib.Core.Bool.{Bool, true, false}
 use mathlib.Core.List.{List, [], _∷_, _++_}
 use mathlib.Core.Option.{Option, none, some}
 use mathlib.Core.Path.{_≡_, refl, sym, ap, _∙_, subst}
-use lib.Dec.{ltb, eqb}
 use lib.ListN.{length, getD, drop, drop-of-length-le}
 use lib.Seq.{drop-cons}
 use native.Mathlib.Decide.{decLt}
-use borrow.Author.Tests.{lt-ltb, le-ltb, eq-eqb, ne-eqb}
+use borrow.Author.Tests.{lt-ltb, le-ltb}
 use Rattle.definition.specs.Run.{Outcome, ok, refused, pure, refuse, next, _>>=_, look, pick}
 use Rattle.definition.specs.Node.{rows}
-use Rattle.definition.specs.Arena.{Tables, arena, firsts, is-name, too-long, bad-nodes, lowest, allowed, sound, fault}
+use Rattle.definition.specs.Arena.{arena, firsts, is-name, lowest, allowed, sound, fault}
 use Rattle.definition.specs.Build.{Lent, held, wrong, check, check-handles, check-names, default-handle}
 use Rattle.definition.specs.declared.Fault.{Fault}
 use Rattle.definition.specs.declared.Refusal.{Refusal}
 use Rattle.definition.specs.declared.Refusal.the-variants.{BadTables, BadArena, BadHandle, WrongKind}
-use Rattle.value_arena.specs.Calls.{Small}
 
 -- a refusal is no acceptance
 abbrev Ok : {S A : Type 0} → Outcome S A → Type 0
@@ -30,61 +28,10 @@ no-refusal e = subst Ok (sym e) tt
 
 -- ---- 1
 
-three : ℕ → ℕ → ℕ → ℕ → ℕ
-three n r b more = pick (ltb 2147483647 n || eqb n 0 || not (eqb (n % 7) 0)) 1 (pick (ltb 2147483647 r) 2 (pick (ltb 2147483647 b) 3 more))
-
-wrong-is : (T : Tables) (ts : List (ℕ × Bool)) → wrong T ts ≡ three (length (T .nodes)) (length (T .references)) (length (T .bytes)) (lowest ts)
-unfolding wrong three lowest bad-nodes too-long
-wrong-is T ts = refl
-
-module _ (n r b more : ℕ) where
-  abbrev Is : ℕ → Type 0
-  Is x = (T : Tables) (ts : List (ℕ × Bool)) → length (T .nodes) ≡ n → length (T .references) ≡ r → length (T .bytes) ≡ b → lowest ts ≡ more → x ≡ wrong T ts
-
-  by : (x : ℕ) → x ≡ three n r b more → Is x
-  by x e T ts p q s t = e ∙ sym (wrong-is T ts ∙ λ i. three (p i) (q i) (s i) (t i))
-
-  pub nodes-long : 2147483647 < n → Is 1
-  unfolding three pick
-  nodes-long h = by 1 (sym (rw (lt-ltb 2147483647 n h) refl))
-
-  pub nodes-none : n ≤ 2147483647 → n ≡ 0 → Is 1
-  unfolding three pick
-  nodes-none h e = by 1 (sym (rw (le-ltb 2147483647 n h, eq-eqb n 0 e) refl))
-
-  pub nodes-odd : n ≤ 2147483647 → (n ≡ 0 → ⊥) → (n % 7 ≡ 0 → ⊥) → Is 1
-  unfolding three pick
-  nodes-odd h e f = by 1 (sym (rw (le-ltb 2147483647 n h, ne-eqb n 0 e, ne-eqb (n % 7) 0 f) refl))
-
-  module _ (h : n ≤ 2147483647) (e : n ≡ 0 → ⊥) (f : n % 7 ≡ 0) where
-    pub references-long : 2147483647 < r → Is 2
-    unfolding three pick
-    references-long k = by 2 (sym (rw (le-ltb 2147483647 n h, ne-eqb n 0 e, eq-eqb (n % 7) 0 f, lt-ltb 2147483647 r k) refl))
-
-    pub bytes-long : r ≤ 2147483647 → 2147483647 < b → Is 3
-    unfolding three pick
-    bytes-long k l = by 3 (sym (rw (le-ltb 2147483647 n h, ne-eqb n 0 e, eq-eqb (n % 7) 0 f, le-ltb 2147483647 r k, lt-ltb 2147483647 b l) refl))
-
-    pub tables-right : r ≤ 2147483647 → b ≤ 2147483647 → Is more
-    unfolding three pick
-    tables-right k l = by more (sym (rw (le-ltb 2147483647 n h, ne-eqb n 0 e, eq-eqb (n % 7) 0 f, le-ltb 2147483647 r k, le-ltb 2147483647 b l) refl))
-
-    pub small : r ≤ 2147483647 → b ≤ 2147483647 → Small n r b
-    small k l = record { whole = omega arith; nodes-small = h; references-small = k; bytes-small = l }
-
 -- no slice besides the tables
 pub none-lowest : lowest [] ≡ 0
 unfolding lowest
 none-lowest = refl
-
--- one slice besides, right or wrong
-pub one-right : (k : ℕ) (b : Bool) → b ≡ false → lowest ((k, b) ∷ []) ≡ 0
-unfolding lowest pick
-one-right k b e = rw e refl
-
-pub one-wrong : (k : ℕ) (b : Bool) → b ≡ true → lowest ((k, b) ∷ []) ≡ k
-unfolding lowest pick
-one-wrong k b e = rw e refl
 
 -- ---- 1, then 2
 

@@ -1,11 +1,11 @@
 -- An answer in code beside the definition's outcome, and calls as records.
-use Prim.Native.Nat.{ℕ, _+_, _*_, _/_, _≤_, _<_}
+use Prim.Native.Nat.{ℕ, _+_, _/_, _≤_, _<_}
 use mathlib.Core.Bool.{Bool, true, false}
 use mathlib.Core.Path.{_≡_}
 use mathlib.Core.List.{List}
 use lib.ListN.{length}
 use Rattle.definition.specs.Run.{Run, ok, refused}
-use Rattle.definition.specs.Node.{width, symbol}
+use Rattle.definition.specs.Node.{symbol}
 use Rattle.definition.specs.Arena.{Arena, node}
 use Rattle.definition.specs.Build.{Lent, BuildCall, NewCall}
 use Rattle.definition.specs.declared.Answer.{Answer}
@@ -15,6 +15,7 @@ use Rattle.definition.specs.declared.Counts.{Counts}
 use Rattle.definition.specs.declared.Created.{Created}
 use Rattle.definition.specs.declared.Refusal.{Refusal}
 use mathlib.Core.Option.{Option, none, some}
+use Rattle.lists.specs.Slices.{Small}
 use Rattle.arena_check.specs.Held.{Fits, tables}
 use Rattle.value_arena.specs.declared.Found.{Found}
 use Rattle.value_arena.specs.declared.Found.the-variants.{At, Nowhere}
@@ -23,13 +24,6 @@ use Rattle.value_arena.specs.declared.Found.the-variants.{At, Nowhere}
 abbrev pub Says : Answer → Run Lent (Unit {0}) → Lent → Type 0
 Says Accepted m L = m L ≡ ok tt L
 Says (Refused q) m L = m L ≡ refused q
-
--- lengths of tables that 1 doesn't refuse
-pub record Small (nodes references bytes : ℕ) : Type 0 where
-  pub whole : nodes / width * width ≡ nodes
-  pub nodes-small : nodes ≤ 2147483647
-  pub references-small : references ≤ 2147483647
-  pub bytes-small : bytes ≤ 2147483647
 
 -- tables that 1 doesn't refuse, no other wrong slice, and counts within the tables
 pub record Fit (nodes references bytes more : ℕ) (c : Counts) : Type 0 where

@@ -1,8 +1,11 @@
 // The arena's getters and builder on lent tables: value_arena.rs.
 use arena_check::Checked;
 use arena_check::check;
+use arena_check::first_wrong;
 use arena_check::is_name_at;
 use arena_check::size;
+use arena_check::too_long;
+use arena_check::wrong_table;
 use definition::Answer;
 use definition::Begun;
 use definition::Counts;
@@ -23,36 +26,13 @@ ghost use mathlib.Core.List.{List, [], _∷_};
 ghost use Prim.Native.Nat.{ℕ, _+_, _-_, _*_, _/_, _<_, _≤_};
 ghost use lib.ListN.{length, take, drop};
 ghost use Rattle.definition.specs.Node.{width, Row, bool, words, rows, equal};
-ghost use Rattle.definition.specs.Arena.{Tables, Arena, node, named, firsts, lowest, find-symbol};
-ghost use Rattle.definition.specs.Build.{Lent, lent, build-call, number-done, words-done, name-done, new-call, wrong, check-handles, check-names, get-words, get-kind, get-name, get-root, exchange-root, bits, create-nil, create-bool, create-fixnum, create-new-symbol, create-symbol, create-array, create-hash, create-object, create-string, create-user-defined};
+ghost use Rattle.definition.specs.Arena.{Arena, node, named, firsts, lowest, find-symbol};
+ghost use Rattle.definition.specs.Build.{Lent, lent, build-call, number-done, words-done, name-done, new-call, check-handles, check-names, get-words, get-kind, get-name, get-root, exchange-root, bits, create-nil, create-bool, create-fixnum, create-new-symbol, create-symbol, create-array, create-hash, create-object, create-string, create-user-defined};
 ghost use Rattle.definition.specs.Build as B;
 ghost use Rattle.arena_check.specs.Held.{tables};
-ghost use Rattle.value_arena.specs.Calls.{Says, Small, FitsIf, Below, built, made, refusal, entries, found, SymbolsIn};
+ghost use Rattle.value_arena.specs.Calls.{Says, FitsIf, Below, built, made, refusal, entries, found, SymbolsIn};
 
 // ---- what is tested
-
-// BAD-TABLES: the lowest wrong table, or `more` from the other slices, or 0.
-fn wrong_table(nodes: usize, references: usize, bytes: usize, more: u32) -> u32
-    ensures { λ r. ⌜ ((T : Tables) (ts : List (ℕ × Bool)) → length (T .nodes) ≡ nodes → length (T .references) ≡ references → length (T .bytes) ≡ bytes → lowest ts ≡ more → r ≡ wrong T ts) ⌝ }
-    ensures { λ r. ⌜ (r ≡ 0 → Small nodes references bytes × (more ≡ 0)) ⌝ }
-{
-    if 2147483647 < nodes {
-        return 1;
-    }
-    if nodes == 0 {
-        return 1;
-    }
-    if nodes % Node::WIDTH != 0 {
-        return 1;
-    }
-    if 2147483647 < references {
-        return 2;
-    }
-    if 2147483647 < bytes {
-        return 3;
-    }
-    more
-}
 
 // 1, then 2.
 fn begin(nodes: &[u32], references: &[u32], bytes: &[u8], counts: Counts, more: u32) -> Answer
@@ -444,14 +424,14 @@ fn add_list(
 fn wrong_bytes(n: usize) -> u32
     ensures { λ r. ⌜ ((bs : List ℕ) → length bs ≡ n → lowest (B.byte-slice bs ∷ []) ≡ r) ⌝ }
 {
-    if 2147483647 < n { 8 } else { 0 }
+    first_wrong(8, too_long(n), 0)
 }
 
 // A list of members: slice 9.
 fn wrong_members(n: usize) -> u32
     ensures { λ r. ⌜ ((ms : List ℕ) → length ms ≡ n → lowest (B.member-slice ms ∷ []) ≡ r) ⌝ }
 {
-    if 2147483647 < n { 9 } else { 0 }
+    first_wrong(9, too_long(n), 0)
 }
 
 // A list of pairs: slice 9, which an odd number of words makes wrong too.
@@ -459,13 +439,7 @@ fn wrong_pairs(n: usize) -> u32
     ensures { λ r. ⌜ ((ps : List ℕ) → length ps ≡ n → lowest (B.pair-slice ps ∷ []) ≡ r) ⌝ }
     ensures { λ r. ⌜ (r ≡ 0 → n / 2 * 2 ≡ n) ⌝ }
 {
-    if 2147483647 < n {
-        return 9;
-    }
-    if n % 2 != 0 {
-        return 9;
-    }
-    0
+    first_wrong(9, too_long(n) | (n % 2 != 0), 0)
 }
 
 // ---- symbols by name

@@ -3,8 +3,9 @@ use borrow.Author.Needs.{needs}
 use native.Mathlib.Omega.{arith}
 use Prim.Native.Nat.{_+_, _-_, _*_}
 use mathlib.Core.Path.{refl, _∙_}
-use Rattle.dumper.specs.Laws.{lead-as, head-linked, head-stop, deep-here, ready-as}
-use Rattle.dumper.proofs.Members.{member-below, value-deep, value-row}
+use Rattle.writer.specs.Laws.{lead-as, ready-as}
+use Rattle.writer.proofs.Members.{member-below, value-deep, value-row}
+use Rattle.dumper.specs.Laws.{head-linked, head-stop, deep-here}
 use Rattle.dump.proofs.Loops.{Turning, turning-start, shorts-go, rest-ready, turned, all-turned, element-deep, element-goes, element-stops, down, down-list, down-value, list-ready, list-stops, no-default, zero-default, default-ready, with-default}
 use Prim.Native.Nat.{ℕ, _<_}
 use borrow.Fn.Kinds.{In}
@@ -18,7 +19,7 @@ use Rattle.dump.proofs.+write_elements+write_value.Lts-write_value as w
 use Rattle.arena_check.proofs.size.Reads as size-reads
 use Rattle.dumper.proofs.list_words.Reads as list-words-reads
 use Rattle.dumper.proofs.open_value.Reads as open-value-reads
-use Rattle.dumper.proofs.write_shorts.Reads as write-shorts-reads
+use Rattle.writer.proofs.write_shorts.Reads as write-shorts-reads
 use Rattle.dump.proofs.+write_elements+write_value.{statement}
 use Rattle.dump.proofs.+write_elements+write_value.Tie.{close}
 
@@ -122,7 +123,7 @@ write-elements-returns-2 t c =
     let write-shorts = c .before .before .before .write-shorts in
     let loop-test = c .before .before .before .before .before .before .before .before .loop-test in
     let R = turn .inv in
-    all-turned (turned R _ (λ A room limit L l I. shorts-go (a .start) (a .n) (a .levels) (turn .i) _ _ (if1 .left) refl (write-shorts .ensures .1) A room limit L l I (R .within)) (omega (arith, write-shorts .ensures .0, loop-test .taken)) refl (write-shorts .kept .1 .1 .1 .0)) (c .if2 .taken)
+    all-turned (turned R _ (λ A room limit L l I. shorts-go (a .start) (a .n) (a .levels) (turn .i) _ _ (if1 .left) refl (write-shorts .ensures .1 .0) A room limit L l I (R .within)) (omega (arith, write-shorts .ensures .0, loop-test .taken)) refl (write-shorts .kept .1 .1 .1 .0)) (c .if2 .taken)
 
 write-elements-add-size : (t : ℕ) → write-elements-lts.Need-add-size (write-elements-calls t) (write-elements-at t) write-elements.Post write-elements-Inv-loop write-elements-μ-loop
 write-elements-add-size t c =
@@ -155,7 +156,7 @@ write-elements-write-value-requires t c κs =
     let pre = c .before .before .before .before .before .before .before .before .before .before .before .before .before .before .before .before .before .before .before .before .pre in
     let if2 = c .before .before .before .before .before .if2 in
     let R = turn .inv in
-    let T = turned R _ (λ A room limit L l I. shorts-go (a .start) (a .n) (a .levels) (turn .i) _ _ (if1 .left) refl (write-shorts .ensures .1) A room limit L l I (R .within)) (omega (arith, write-shorts .ensures .0, loop-test .taken)) refl (write-shorts .kept .1 .1 .1 .0) in
+    let T = turned R _ (λ A room limit L l I. shorts-go (a .start) (a .n) (a .levels) (turn .i) _ _ (if1 .left) refl (write-shorts .ensures .1 .0) A room limit L l I (R .within)) (omega (arith, write-shorts .ensures .0, loop-test .taken)) refl (write-shorts .kept .1 .1 .1 .0) in
     (down _ _ (pre .0), ready-as (λ A f. (f .0, f .1, member-below (a .start) (a .n) _ _ (f .1) (f .2) (if2 .left) (c .size .ensures))) (T .held))
 
 write-elements-same-length-5 : (t : ℕ) → write-elements-lts.Need-same-length-5 (write-elements-calls t) (write-elements-at t) write-elements.Post write-elements-Inv-loop write-elements-μ-loop
@@ -182,7 +183,7 @@ write-elements-returns-3 t c =
     let size = c .before .before .before .before .before .before .size in
     let write-value′ = c .before .before .before .before .before .write-value in
     let R = turn .inv in
-    let T = turned R _ (λ A room limit L l I. shorts-go (a .start) (a .n) (a .levels) (turn .i) _ _ (if1 .left) refl (write-shorts .ensures .1) A room limit L l I (R .within)) (omega (arith, write-shorts .ensures .0, loop-test .taken)) refl (write-shorts .kept .1 .1 .1 .0) in
+    let T = turned R _ (λ A room limit L l I. shorts-go (a .start) (a .n) (a .levels) (turn .i) _ _ (if1 .left) refl (write-shorts .ensures .1 .0) A room limit L l I (R .within)) (omega (arith, write-shorts .ensures .0, loop-test .taken)) refl (write-shorts .kept .1 .1 .1 .0) in
     element-stops T _ (if2 .left) (size .ensures) (write-value′ .ensures) (c .if3 .taken)
 
 write-elements-add-i : (t : ℕ) → write-elements-lts.Need-add-i (write-elements-calls t) (write-elements-at t) write-elements.Post write-elements-Inv-loop write-elements-μ-loop
@@ -202,7 +203,7 @@ write-elements-loop-again t c =
     let size = c .before .before .before .before .before .before .size in
     let write-value′ = c .before .before .before .before .before .write-value in
     let R = turn .inv in
-    let T = turned R _ (λ A room limit L l I. shorts-go (a .start) (a .n) (a .levels) (turn .i) _ _ (if1 .left) refl (write-shorts .ensures .1) A room limit L l I (R .within)) (omega (arith, write-shorts .ensures .0, loop-test .taken)) refl (write-shorts .kept .1 .1 .1 .0) in
+    let T = turned R _ (λ A room limit L l I. shorts-go (a .start) (a .n) (a .levels) (turn .i) _ _ (if1 .left) refl (write-shorts .ensures .1 .0) A room limit L l I (R .within)) (omega (arith, write-shorts .ensures .0, loop-test .taken)) refl (write-shorts .kept .1 .1 .1 .0) in
     turned T _ (element-goes T _ (if2 .left) (size .ensures) (write-value′ .ensures) (c .if3 .left)) (omega (arith, if2 .left)) (write-value′ .kept .1 .1 .1 .0) (write-value′ .kept .1 .1 .1 .1 .0)
 
 write-elements-same-length-7 : (t : ℕ) → write-elements-lts.Need-same-length-7 (write-elements-calls t) (write-elements-at t) write-elements.Post write-elements-Inv-loop write-elements-μ-loop

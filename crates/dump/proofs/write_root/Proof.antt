@@ -1,5 +1,5 @@
 -- The proof of write_root.
-use Rattle.dumper.specs.Laws.{ready}
+use Rattle.writer.specs.Laws.{ready}
 use Rattle.dump.proofs.Whole.{no-first, no-second, wholly}
 use borrow.Author.Needs.{needs}
 use Rattle.dump.proofs.write_root.Statement.{statement}

@@ -1,5 +1,6 @@
 -- The proof of open_list.
-use Rattle.dumper.specs.Laws.{lead-first, lead-head, head-as, head-after, head-goes, head-keep}
+use Rattle.writer.specs.Laws.{lead-first}
+use Rattle.dumper.specs.Laws.{lead-head, head-as, head-after, head-goes, head-keep}
 use Rattle.dumper.proofs.Openings.{list-same}
 use borrow.Author.Needs.{needs}
 use Rattle.dumper.proofs.open_list.Statement.{statement}

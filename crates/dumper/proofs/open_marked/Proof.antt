@@ -1,7 +1,8 @@
 -- The proof of open_marked.
 use mathlib.Core.List.{[], _∷_}
 use Rattle.definition.specs.Dump.{write}
-use Rattle.dumper.specs.Laws.{lead-first, lead-head, head-as, head-after, head-goes, head-keep, deep}
+use Rattle.writer.specs.Laws.{lead-first}
+use Rattle.dumper.specs.Laws.{lead-head, head-as, head-after, head-goes, head-keep, deep}
 use Rattle.dumper.proofs.Openings.{no-mark, mark, mark-deep, mark-level}
 use borrow.Author.Needs.{needs}
 use Rattle.dumper.proofs.open_marked.Statement.{statement}

@@ -1,18 +1,20 @@
 -- The proof of open_named.
 use native.Mathlib.Omega.{arith}
 use mathlib.Core.Path.{refl}
-use Rattle.dumper.specs.Laws.{ready-as}
-use Rattle.dumper.proofs.Bodies.{here, variables, first-stops, first-done, next-stops, next-done, reached-ready, variables-answer, object-here, object-first, object-name, object-pairs}
+use Rattle.dumper.proofs.Bodies.{Here, here, variables, pairs-ready, first-stops, name-ready, name-stops, name-done, variables-answer, object-ready, object-pairs, object-name, object-first}
 use borrow.Author.Needs.{needs}
 use Rattle.dumper.proofs.open_named.Statement.{statement}
 use Rattle.dumper.proofs.open_named.Tie as tie
 
+abbrev place : tie.Start → Here
+place s =
+    here (s .args .nodes .now) (s .args .references .now) (s .args .bytes .now) (s .args .v) (s .args .levels)
+
 open-object-requires : tie.Need-open-object-requires
 open-object-requires c κs =
-    let a = c .before .before .before .before .before .before .before .before .args in
-    let h = here (a .nodes .now) (a .references .now) (a .bytes .now) (a .v) (a .levels) in
-    let pre = c .before .before .before .before .before .before .before .before .pre in
-    ready-as (λ A f. object-here h 6 (pre .0) (omega arith) (omega arith) A (f .0) (f .2)) (pre .1)
+    let s = c .before .before .before .before .before .before .before .before in
+    let h = place s in
+    object-ready h 6 (s .pre .0) (omega arith) (omega arith) (s .pre .1)
 
 same-length : tie.Need-same-length
 same-length c = search needs
@@ -22,11 +24,10 @@ same-length-2 c = search needs
 
 returns : tie.Need-returns
 returns c =
-    let a = c .before .before .before .before .before .before .before .before .before .before .before .before .before .before .args in
-    let h = here (a .nodes .now) (a .references .now) (a .bytes .now) (a .v) (a .levels) in
-    let pre = c .before .before .before .before .before .before .before .before .before .before .before .before .before .before .pre in
+    let s = c .before .before .before .before .before .before .before .before .before .before .before .before .before .before in
+    let h = place s in
     let open-object = c .before .before .before .before .before .open-object in
-    first-stops h 6 _ (object-first h _ refl (pre .0) (open-object .ensures)) (c .if1 .taken)
+    first-stops h 6 _ (object-first h (s .pre .0) _ refl (open-object .ensures)) (c .if1 .taken)
 
 mul-size : tie.Need-mul-size
 mul-size c = search needs
@@ -45,13 +46,11 @@ size-requires c κs = search needs
 
 write-symbol-requires : tie.Need-write-symbol-requires
 write-symbol-requires c κs =
-    let a = c .before .before .before .before .before .before .before .before .before .before .before .before .before .before .before .before .before .before .before .args in
-    let h = here (a .nodes .now) (a .references .now) (a .bytes .now) (a .v) (a .levels) in
-    let pre = c .before .before .before .before .before .before .before .before .before .before .before .before .before .before .before .before .before .before .before .pre in
+    let s = c .before .before .before .before .before .before .before .before .before .before .before .before .before .before .before .before .before .before .before in
+    let h = place s in
     let open-object = c .before .before .before .before .before .before .before .before .before .before .open-object in
     let if1 = c .before .before .before .before .before .if1 in
-    let begun = first-done h 6 _ (object-first h _ refl (pre .0) (open-object .ensures)) (if1 .left) in
-    ready-as (λ A f. (f .0, object-name h _ (c .size .ensures) (pre .0) A (f .0) (f .2))) (reached-ready h _ begun (pre .1))
+    name-ready h 6 (variables h) _ (object-first h (s .pre .0) _ (c .size .ensures) (open-object .ensures)) (if1 .left) (object-name h (s .pre .0) _ (c .size .ensures)) (s .pre .1)
 
 same-length-3 : tie.Need-same-length-3
 same-length-3 c = search needs
@@ -61,15 +60,13 @@ same-length-4 c = search needs
 
 returns-2 : tie.Need-returns-2
 returns-2 c =
-    let a = c .before .before .before .before .before .before .before .before .before .before .before .before .before .before .before .before .before .before .before .before .before .before .before .before .before .args in
-    let h = here (a .nodes .now) (a .references .now) (a .bytes .now) (a .v) (a .levels) in
-    let pre = c .before .before .before .before .before .before .before .before .before .before .before .before .before .before .before .before .before .before .before .before .before .before .before .before .before .pre in
+    let s = c .before .before .before .before .before .before .before .before .before .before .before .before .before .before .before .before .before .before .before .before .before .before .before .before .before in
+    let h = place s in
     let open-object = c .before .before .before .before .before .before .before .before .before .before .before .before .before .before .before .before .open-object in
     let if1 = c .before .before .before .before .before .before .before .before .before .before .before .if1 in
     let size = c .before .before .before .before .before .before .size in
     let write-symbol = c .before .before .before .before .before .write-symbol in
-    let begun = first-done h 6 _ (object-first h _ (size .ensures) (pre .0) (open-object .ensures)) (if1 .left) in
-    next-stops h 6 _ (variables h) begun (λ A room limit L l b. write-symbol .ensures A room limit L (object-name h _ (size .ensures) (pre .0) A L b)) (c .if2 .taken)
+    name-stops h 6 (variables h) _ (object-first h (s .pre .0) _ (size .ensures) (open-object .ensures)) (if1 .left) (object-name h (s .pre .0) _ (size .ensures)) (write-symbol .ensures) (c .if2 .taken)
 
 mul-open-variables : tie.Need-mul-open-variables
 mul-open-variables c = search needs
@@ -101,17 +98,15 @@ shared-slice-read-open-variables-2 c =
 
 open-variables-requires : tie.Need-open-variables-requires
 open-variables-requires c κs =
-    let a = c .before .before .before .before .before .before .before .before .before .before .before .before .before .before .before .before .before .before .before .before .before .before .before .before .before .before .before .before .before .before .args in
-    let h = here (a .nodes .now) (a .references .now) (a .bytes .now) (a .v) (a .levels) in
-    let pre = c .before .before .before .before .before .before .before .before .before .before .before .before .before .before .before .before .before .before .before .before .before .before .before .before .before .before .before .before .before .before .pre in
+    let s = c .before .before .before .before .before .before .before .before .before .before .before .before .before .before .before .before .before .before .before .before .before .before .before .before .before .before .before .before .before .before in
+    let h = place s in
     let open-object = c .before .before .before .before .before .before .before .before .before .before .before .before .before .before .before .before .before .before .before .before .before .open-object in
     let if1 = c .before .before .before .before .before .before .before .before .before .before .before .before .before .before .before .before .if1 in
     let size = c .before .before .before .before .before .before .before .before .before .before .before .size in
     let write-symbol = c .before .before .before .before .before .before .before .before .before .before .write-symbol in
     let if2 = c .before .before .before .before .before .if2 in
-    let begun = first-done h 6 _ (object-first h _ (size .ensures) (pre .0) (open-object .ensures)) (if1 .left) in
-    let named = next-done h 6 _ (variables h) begun (λ A room limit L l b. write-symbol .ensures A room limit L (object-name h _ (size .ensures) (pre .0) A L b)) (if2 .left) in
-    ready-as (λ A f. (f .0, f .1, object-pairs h (pre .0) A (f .0) (f .2))) (reached-ready h (variables h) named (pre .1))
+    let named = name-done h 6 (variables h) _ (object-first h (s .pre .0) _ (size .ensures) (open-object .ensures)) (if1 .left) (object-name h (s .pre .0) _ (size .ensures)) (write-symbol .ensures) (if2 .left) in
+    pairs-ready h _ (object-pairs h (s .pre .0)) named (s .pre .1)
 
 same-length-5 : tie.Need-same-length-5
 same-length-5 c = search needs
@@ -121,18 +116,16 @@ same-length-6 c = search needs
 
 returns-3 : tie.Need-returns-3
 returns-3 c =
-    let a = c .before .before .before .before .before .before .before .before .before .before .before .before .before .before .before .before .before .before .before .before .before .before .before .before .before .before .before .before .before .before .before .before .before .before .before .args in
-    let h = here (a .nodes .now) (a .references .now) (a .bytes .now) (a .v) (a .levels) in
-    let pre = c .before .before .before .before .before .before .before .before .before .before .before .before .before .before .before .before .before .before .before .before .before .before .before .before .before .before .before .before .before .before .before .before .before .before .before .pre in
+    let s = c .before .before .before .before .before .before .before .before .before .before .before .before .before .before .before .before .before .before .before .before .before .before .before .before .before .before .before .before .before .before .before .before .before .before .before in
+    let h = place s in
     let open-object = c .before .before .before .before .before .before .before .before .before .before .before .before .before .before .before .before .before .before .before .before .before .before .before .before .before .before .open-object in
     let if1 = c .before .before .before .before .before .before .before .before .before .before .before .before .before .before .before .before .before .before .before .before .before .if1 in
     let size = c .before .before .before .before .before .before .before .before .before .before .before .before .before .before .before .before .size in
     let write-symbol = c .before .before .before .before .before .before .before .before .before .before .before .before .before .before .before .write-symbol in
     let if2 = c .before .before .before .before .before .before .before .before .before .before .if2 in
     let open-variables = c .before .before .before .before .open-variables in
-    let begun = first-done h 6 _ (object-first h _ (size .ensures) (pre .0) (open-object .ensures)) (if1 .left) in
-    let named = next-done h 6 _ (variables h) begun (λ A room limit L l b. write-symbol .ensures A room limit L (object-name h _ (size .ensures) (pre .0) A L b)) (if2 .left) in
-    variables-answer h 6 (pre .0) (omega arith) named (object-pairs h (pre .0)) (open-variables .ensures)
+    let named = name-done h 6 (variables h) _ (object-first h (s .pre .0) _ (size .ensures) (open-object .ensures)) (if1 .left) (object-name h (s .pre .0) _ (size .ensures)) (write-symbol .ensures) (if2 .left) in
+    variables-answer h 6 (s .pre .0) (omega arith) named (object-pairs h (s .pre .0)) (open-variables .ensures)
 
 pub open-named-spec : {M : Type 1} → statement M
 open-named-spec =

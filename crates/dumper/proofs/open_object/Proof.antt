@@ -1,7 +1,9 @@
 -- The proof of open_object.
 use native.Mathlib.Omega.{arith}
-use Rattle.dumper.specs.Laws.{lead-first, lead-goes, lead-stop, lead-head, head-after, linked}
-use Rattle.dumper.proofs.Steps.{object-numbered, object-linked, number-fits}
+use Rattle.writer.specs.Laws.{lead-first, lead-goes, lead-stop}
+use Rattle.writer.proofs.Steps.{number-fits}
+use Rattle.dumper.specs.Laws.{lead-head, head-after, linked}
+use Rattle.dumper.proofs.Objects.{object-numbered, object-linked}
 use borrow.Author.Needs.{needs}
 use Rattle.dumper.proofs.open_object.Statement.{statement}
 use Rattle.dumper.proofs.open_object.Tie as tie

@@ -1,10 +1,13 @@
 -- The proof of open_string.
 use native.Mathlib.Omega.{arith}
-use Rattle.dumper.specs.Laws.{ready-as}
-use Rattle.dumper.proofs.Bodies.{here, rest, first-stops, first-done, next-stops, next-done, reached-ready, whole, some-variables, variables-answer, object-here, string-first, string-inside, string-pairs}
+use Rattle.dumper.proofs.Bodies.{Here, here, pairs-ready, some-variables, first-stops, first-done, text-stops, text-done, whole, variables-answer, object-ready, string-inside, string-pairs, string-first}
 use borrow.Author.Needs.{needs}
 use Rattle.dumper.proofs.open_string.Statement.{statement}
 use Rattle.dumper.proofs.open_string.Tie as tie
+
+abbrev place : tie.Start → Here
+place s =
+    here (s .args .nodes .now) (s .args .references .now) (s .args .bytes .now) (s .args .v) (s .args .levels)
 
 mul-f : tie.Need-mul-f
 mul-f c = search needs
@@ -20,10 +23,9 @@ shared-slice-read-f c = search needs
 
 open-marked-requires : tie.Need-open-marked-requires
 open-marked-requires c κs =
-    let a = c .before .before .before .before .before .before .before .before .before .args in
-    let h = here (a .nodes .now) (a .references .now) (a .bytes .now) (a .v) (a .levels) in
-    let pre = c .before .before .before .before .before .before .before .before .before .pre in
-    ready-as (λ A f. object-here h 7 (pre .0) (omega arith) (omega arith) A (f .0) (f .2)) (pre .1)
+    let s = c .before .before .before .before .before .before .before .before .before in
+    let h = place s in
+    object-ready h 7 (s .pre .0) (omega arith) (omega arith) (s .pre .1)
 
 same-length : tie.Need-same-length
 same-length c = search needs
@@ -33,11 +35,10 @@ same-length-2 c = search needs
 
 returns : tie.Need-returns
 returns c =
-    let a = c .before .before .before .before .before .before .before .before .before .before .before .before .before .before .before .args in
-    let h = here (a .nodes .now) (a .references .now) (a .bytes .now) (a .v) (a .levels) in
-    let pre = c .before .before .before .before .before .before .before .before .before .before .before .before .before .before .before .pre in
+    let s = c .before .before .before .before .before .before .before .before .before .before .before .before .before .before .before in
+    let h = place s in
     let open-marked = c .before .before .before .before .before .open-marked in
-    first-stops h 7 _ (string-first h (pre .0) (open-marked .ensures)) (c .if1 .taken)
+    first-stops h 7 _ (string-first h (s .pre .0) (open-marked .ensures)) (c .if1 .taken)
 
 mul-write-byte-string : tie.Need-mul-write-byte-string
 mul-write-byte-string c = search needs
@@ -65,11 +66,10 @@ shared-slice-read-write-byte-string-2 c = search needs
 
 write-byte-string-requires : tie.Need-write-byte-string-requires
 write-byte-string-requires c κs =
-    let a = c .before .before .before .before .before .before .before .before .before .before .before .before .before .before .before .before .before .before .before .args in
-    let h = here (a .nodes .now) (a .references .now) (a .bytes .now) (a .v) (a .levels) in
-    let pre = c .before .before .before .before .before .before .before .before .before .before .before .before .before .before .before .before .before .before .before .pre in
-    let f = pre .1 .fact in
-    string-inside h (pre .0) (pre .1 .arena) (f .0) (f .2)
+    let s = c .before .before .before .before .before .before .before .before .before .before .before .before .before .before .before .before .before .before .before in
+    let h = place s in
+    let f = s .pre .1 .fact in
+    string-inside h (s .pre .0) (s .pre .1 .arena) (f .0) (f .2)
 
 same-length-3 : tie.Need-same-length-3
 same-length-3 c = search needs
@@ -79,14 +79,13 @@ same-length-4 c = search needs
 
 returns-2 : tie.Need-returns-2
 returns-2 c =
-    let a = c .before .before .before .before .before .before .before .before .before .before .before .before .before .before .before .before .before .before .before .before .before .before .before .args in
-    let h = here (a .nodes .now) (a .references .now) (a .bytes .now) (a .v) (a .levels) in
-    let pre = c .before .before .before .before .before .before .before .before .before .before .before .before .before .before .before .before .before .before .before .before .before .before .before .pre in
+    let s = c .before .before .before .before .before .before .before .before .before .before .before .before .before .before .before .before .before .before .before .before .before .before .before in
+    let h = place s in
     let open-marked = c .before .before .before .before .before .before .before .before .before .before .before .before .before .open-marked in
     let if1 = c .before .before .before .before .before .before .before .before .if1 in
     let write-byte-string = c .before .before .before .write-byte-string in
-    let begun = first-done h 7 _ (string-first h (pre .0) (open-marked .ensures)) (if1 .left) in
-    next-stops h 7 _ (rest h) begun (λ A room limit L l b. write-byte-string .ensures A room limit _) (c .if2 .taken)
+    let begun = first-done h 7 _ (string-first h (s .pre .0) (open-marked .ensures)) (if1 .left) in
+    text-stops h 7 begun (write-byte-string .ensures) (c .if2 .taken)
 
 same-length-5 : tie.Need-same-length-5
 same-length-5 c = search needs
@@ -96,15 +95,14 @@ same-length-6 c = search needs
 
 returns-3 : tie.Need-returns-3
 returns-3 c =
-    let a = c .before .before .before .before .before .before .before .before .before .before .before .before .before .before .before .before .before .before .before .before .before .before .before .before .args in
-    let h = here (a .nodes .now) (a .references .now) (a .bytes .now) (a .v) (a .levels) in
-    let pre = c .before .before .before .before .before .before .before .before .before .before .before .before .before .before .before .before .before .before .before .before .before .before .before .before .pre in
+    let s = c .before .before .before .before .before .before .before .before .before .before .before .before .before .before .before .before .before .before .before .before .before .before .before .before in
+    let h = place s in
     let open-marked = c .before .before .before .before .before .before .before .before .before .before .before .before .before .before .open-marked in
     let if1 = c .before .before .before .before .before .before .before .before .before .if1 in
     let write-byte-string = c .before .before .before .before .write-byte-string in
     let if2 = c .before .if2 in
-    let begun = first-done h 7 _ (string-first h (pre .0) (open-marked .ensures)) (if1 .left) in
-    let written = next-done h 7 _ (rest h) begun (λ A room limit L l b. write-byte-string .ensures A room limit _) (if2 .left) in
+    let begun = first-done h 7 _ (string-first h (s .pre .0) (open-marked .ensures)) (if1 .left) in
+    let written = text-done h 7 begun (write-byte-string .ensures) (if2 .left) in
     whole h 7 (c .if3 .taken) written
 
 mul-open-variables : tie.Need-mul-open-variables
@@ -133,17 +131,16 @@ shared-slice-read-open-variables-2 c = search needs
 
 open-variables-requires : tie.Need-open-variables-requires
 open-variables-requires c κs =
-    let a = c .before .before .before .before .before .before .before .before .before .before .before .before .before .before .before .before .before .before .before .before .before .before .before .before .before .before .before .before .before .args in
-    let h = here (a .nodes .now) (a .references .now) (a .bytes .now) (a .v) (a .levels) in
-    let pre = c .before .before .before .before .before .before .before .before .before .before .before .before .before .before .before .before .before .before .before .before .before .before .before .before .before .before .before .before .before .pre in
+    let s = c .before .before .before .before .before .before .before .before .before .before .before .before .before .before .before .before .before .before .before .before .before .before .before .before .before .before .before .before .before in
+    let h = place s in
     let open-marked = c .before .before .before .before .before .before .before .before .before .before .before .before .before .before .before .before .before .before .before .open-marked in
     let if1 = c .before .before .before .before .before .before .before .before .before .before .before .before .before .before .if1 in
     let write-byte-string = c .before .before .before .before .before .before .before .before .before .write-byte-string in
     let if2 = c .before .before .before .before .before .before .if2 in
     let if3 = c .before .before .before .before .before .if3 in
-    let begun = first-done h 7 _ (string-first h (pre .0) (open-marked .ensures)) (if1 .left) in
-    let written = next-done h 7 _ (rest h) begun (λ A room limit L l b. write-byte-string .ensures A room limit _) (if2 .left) in
-    ready-as (λ A f. (f .0, f .1, string-pairs h (pre .0) (if3 .left) A (f .0) (f .2))) (reached-ready h (rest h) written (pre .1))
+    let begun = first-done h 7 _ (string-first h (s .pre .0) (open-marked .ensures)) (if1 .left) in
+    let written = text-done h 7 begun (write-byte-string .ensures) (if2 .left) in
+    pairs-ready h _ (string-pairs h (s .pre .0) (if3 .left)) written (s .pre .1)
 
 same-length-7 : tie.Need-same-length-7
 same-length-7 c = search needs
@@ -153,18 +150,17 @@ same-length-8 c = search needs
 
 returns-4 : tie.Need-returns-4
 returns-4 c =
-    let a = c .before .before .before .before .before .before .before .before .before .before .before .before .before .before .before .before .before .before .before .before .before .before .before .before .before .before .before .before .before .before .before .before .before .before .args in
-    let h = here (a .nodes .now) (a .references .now) (a .bytes .now) (a .v) (a .levels) in
-    let pre = c .before .before .before .before .before .before .before .before .before .before .before .before .before .before .before .before .before .before .before .before .before .before .before .before .before .before .before .before .before .before .before .before .before .before .pre in
+    let s = c .before .before .before .before .before .before .before .before .before .before .before .before .before .before .before .before .before .before .before .before .before .before .before .before .before .before .before .before .before .before .before .before .before .before in
+    let h = place s in
     let open-marked = c .before .before .before .before .before .before .before .before .before .before .before .before .before .before .before .before .before .before .before .before .before .before .before .before .open-marked in
     let if1 = c .before .before .before .before .before .before .before .before .before .before .before .before .before .before .before .before .before .before .before .if1 in
     let write-byte-string = c .before .before .before .before .before .before .before .before .before .before .before .before .before .before .write-byte-string in
     let if2 = c .before .before .before .before .before .before .before .before .before .before .before .if2 in
     let if3 = c .before .before .before .before .before .before .before .before .before .before .if3 in
     let open-variables = c .before .before .before .before .open-variables in
-    let begun = first-done h 7 _ (string-first h (pre .0) (open-marked .ensures)) (if1 .left) in
-    let written = next-done h 7 _ (rest h) begun (λ A room limit L l b. write-byte-string .ensures A room limit _) (if2 .left) in
-    variables-answer h 7 (pre .0) (omega arith) (some-variables h (if3 .left) written) (string-pairs h (pre .0) (if3 .left)) (open-variables .ensures)
+    let begun = first-done h 7 _ (string-first h (s .pre .0) (open-marked .ensures)) (if1 .left) in
+    let written = text-done h 7 begun (write-byte-string .ensures) (if2 .left) in
+    variables-answer h 7 (s .pre .0) (omega arith) (some-variables h (if3 .left) written) (string-pairs h (s .pre .0) (if3 .left)) (open-variables .ensures)
 
 pub open-string-spec : {M : Type 1} → statement M
 open-string-spec =

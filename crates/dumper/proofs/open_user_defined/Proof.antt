@@ -1,12 +1,14 @@
 -- The proof of open_user_defined.
 use native.Mathlib.Omega.{arith}
-use mathlib.Core.Path.{refl}
-use Rattle.definition.specs.Dump.{_>>_}
-use Rattle.dumper.specs.Laws.{ready-as}
-use Rattle.dumper.proofs.Bodies.{here, text, rest, first-stops, first-done, next-stops, next-done, reached-ready, whole, some-variables, variables-answer, object-here, user-first, user-name, user-inside, user-pairs}
+use mathlib.Core.Path.{refl, _∙_}
+use Rattle.dumper.proofs.Bodies.{Here, here, text-rest, pairs-ready, some-variables, first-stops, name-ready, name-stops, name-done, text-stops, text-done, whole, variables-answer, object-ready, user-inside, user-pairs, user-name, user-first}
 use borrow.Author.Needs.{needs}
 use Rattle.dumper.proofs.open_user_defined.Statement.{statement}
 use Rattle.dumper.proofs.open_user_defined.Tie as tie
+
+abbrev place : tie.Start → Here
+place s =
+    here (s .args .nodes .now) (s .args .references .now) (s .args .bytes .now) (s .args .v) (s .args .levels)
 
 mul-f : tie.Need-mul-f
 mul-f c = search needs
@@ -22,10 +24,9 @@ shared-slice-read-f c = search needs
 
 open-marked-requires : tie.Need-open-marked-requires
 open-marked-requires c κs =
-    let a = c .before .before .before .before .before .before .before .before .before .args in
-    let h = here (a .nodes .now) (a .references .now) (a .bytes .now) (a .v) (a .levels) in
-    let pre = c .before .before .before .before .before .before .before .before .before .pre in
-    ready-as (λ A f. object-here h 8 (pre .0) (omega arith) (omega arith) A (f .0) (f .2)) (pre .1)
+    let s = c .before .before .before .before .before .before .before .before .before in
+    let h = place s in
+    object-ready h 8 (s .pre .0) (omega arith) (omega arith) (s .pre .1)
 
 same-length : tie.Need-same-length
 same-length c = search needs
@@ -35,11 +36,10 @@ same-length-2 c = search needs
 
 returns : tie.Need-returns
 returns c =
-    let a = c .before .before .before .before .before .before .before .before .before .before .before .before .before .before .before .args in
-    let h = here (a .nodes .now) (a .references .now) (a .bytes .now) (a .v) (a .levels) in
-    let pre = c .before .before .before .before .before .before .before .before .before .before .before .before .before .before .before .pre in
+    let s = c .before .before .before .before .before .before .before .before .before .before .before .before .before .before .before in
+    let h = place s in
     let open-marked = c .before .before .before .before .before .open-marked in
-    first-stops h 8 _ (user-first h _ refl (pre .0) (open-marked .ensures)) (c .if1 .taken)
+    first-stops h 8 _ (user-first h (s .pre .0) _ refl (open-marked .ensures)) (c .if1 .taken)
 
 mul-size : tie.Need-mul-size
 mul-size c = search needs
@@ -58,13 +58,11 @@ size-requires c κs = search needs
 
 write-symbol-requires : tie.Need-write-symbol-requires
 write-symbol-requires c κs =
-    let a = c .before .before .before .before .before .before .before .before .before .before .before .before .before .before .before .before .before .before .before .before .args in
-    let h = here (a .nodes .now) (a .references .now) (a .bytes .now) (a .v) (a .levels) in
-    let pre = c .before .before .before .before .before .before .before .before .before .before .before .before .before .before .before .before .before .before .before .before .pre in
+    let s = c .before .before .before .before .before .before .before .before .before .before .before .before .before .before .before .before .before .before .before .before in
+    let h = place s in
     let open-marked = c .before .before .before .before .before .before .before .before .before .before .open-marked in
     let if1 = c .before .before .before .before .before .if1 in
-    let begun = first-done h 8 _ (user-first h _ refl (pre .0) (open-marked .ensures)) (if1 .left) in
-    ready-as (λ A f. (f .0, user-name h _ (c .size .ensures) (pre .0) A (f .0) (f .2))) (reached-ready h _ begun (pre .1))
+    name-ready h 8 (text-rest h) _ (user-first h (s .pre .0) _ (c .size .ensures) (open-marked .ensures)) (if1 .left) (user-name h (s .pre .0) _ (c .size .ensures)) (s .pre .1)
 
 same-length-3 : tie.Need-same-length-3
 same-length-3 c = search needs
@@ -74,15 +72,13 @@ same-length-4 c = search needs
 
 returns-2 : tie.Need-returns-2
 returns-2 c =
-    let a = c .before .before .before .before .before .before .before .before .before .before .before .before .before .before .before .before .before .before .before .before .before .before .before .before .before .before .args in
-    let h = here (a .nodes .now) (a .references .now) (a .bytes .now) (a .v) (a .levels) in
-    let pre = c .before .before .before .before .before .before .before .before .before .before .before .before .before .before .before .before .before .before .before .before .before .before .before .before .before .before .pre in
+    let s = c .before .before .before .before .before .before .before .before .before .before .before .before .before .before .before .before .before .before .before .before .before .before .before .before .before .before in
+    let h = place s in
     let open-marked = c .before .before .before .before .before .before .before .before .before .before .before .before .before .before .before .before .open-marked in
     let if1 = c .before .before .before .before .before .before .before .before .before .before .before .if1 in
     let size = c .before .before .before .before .before .before .size in
     let write-symbol = c .before .before .before .before .before .write-symbol in
-    let begun = first-done h 8 _ (user-first h _ (size .ensures) (pre .0) (open-marked .ensures)) (if1 .left) in
-    next-stops h 8 _ (λ A room limit. text h A room limit >> rest h A room limit) begun (λ A room limit L l b. write-symbol .ensures A room limit L (user-name h _ (size .ensures) (pre .0) A L b)) (c .if2 .taken)
+    name-stops h 8 (text-rest h) _ (user-first h (s .pre .0) _ (size .ensures) (open-marked .ensures)) (if1 .left) (user-name h (s .pre .0) _ (size .ensures)) (write-symbol .ensures) (c .if2 .taken)
 
 mul-write-byte-string : tie.Need-mul-write-byte-string
 mul-write-byte-string c = search needs
@@ -114,44 +110,54 @@ shared-slice-read-write-byte-string-2 c =
 
 write-byte-string-requires : tie.Need-write-byte-string-requires
 write-byte-string-requires c κs =
-    let a = c .before .before .before .before .before .before .before .before .before .before .before .before .before .before .before .before .before .before .before .before .before .before .before .before .before .before .before .before .before .before .args in
-    let h = here (a .nodes .now) (a .references .now) (a .bytes .now) (a .v) (a .levels) in
-    let pre = c .before .before .before .before .before .before .before .before .before .before .before .before .before .before .before .before .before .before .before .before .before .before .before .before .before .before .before .before .before .before .pre in
-    let f = pre .1 .fact in
-    user-inside h (pre .0) (pre .1 .arena) (f .0) (f .2)
+    let s = c .before .before .before .before .before .before .before .before .before .before .before .before .before .before .before .before .before .before .before .before .before .before .before .before .before .before .before .before .before .before in
+    let h = place s in
+    let f = s .pre .1 .fact in
+    user-inside h (s .pre .0) (s .pre .1 .arena) (f .0) (f .2)
 
 same-length-5 : tie.Need-same-length-5
-same-length-5 c = search needs
+same-length-5 c =
+    let write-symbol = c .before .before .before .before .before .before .before .before .before .before .before .before .before .write-symbol in
+    let open-marked = c .before .before .before .before .before .before .before .before .before .before .before .before .before .before .before .before .before .before .before .before .before .before .before .before .open-marked in
+    write-symbol .kept .1 .1 .0 ∙ open-marked .kept .0
 
 same-length-6 : tie.Need-same-length-6
-same-length-6 c = search needs
+same-length-6 c =
+    let write-byte-string = c .before .before .before .write-byte-string in
+    let write-symbol = c .before .before .before .before .before .before .before .before .before .before .before .before .before .write-symbol in
+    let open-marked = c .before .before .before .before .before .before .before .before .before .before .before .before .before .before .before .before .before .before .before .before .before .before .before .before .open-marked in
+    write-byte-string .kept .1 .0 ∙ write-symbol .kept .1 .1 .1 .0 ∙ open-marked .kept .1 .0
 
 returns-3 : tie.Need-returns-3
 returns-3 c =
-    let a = c .before .before .before .before .before .before .before .before .before .before .before .before .before .before .before .before .before .before .before .before .before .before .before .before .before .before .before .before .before .before .before .before .before .before .args in
-    let h = here (a .nodes .now) (a .references .now) (a .bytes .now) (a .v) (a .levels) in
-    let pre = c .before .before .before .before .before .before .before .before .before .before .before .before .before .before .before .before .before .before .before .before .before .before .before .before .before .before .before .before .before .before .before .before .before .before .pre in
+    let s = c .before .before .before .before .before .before .before .before .before .before .before .before .before .before .before .before .before .before .before .before .before .before .before .before .before .before .before .before .before .before .before .before .before .before in
+    let h = place s in
     let open-marked = c .before .before .before .before .before .before .before .before .before .before .before .before .before .before .before .before .before .before .before .before .before .before .before .before .open-marked in
     let if1 = c .before .before .before .before .before .before .before .before .before .before .before .before .before .before .before .before .before .before .before .if1 in
     let size = c .before .before .before .before .before .before .before .before .before .before .before .before .before .before .size in
     let write-symbol = c .before .before .before .before .before .before .before .before .before .before .before .before .before .write-symbol in
     let if2 = c .before .before .before .before .before .before .before .before .if2 in
     let write-byte-string = c .before .before .before .write-byte-string in
-    let begun = first-done h 8 _ (user-first h _ (size .ensures) (pre .0) (open-marked .ensures)) (if1 .left) in
-    let named = next-done h 8 _ (λ A room limit. text h A room limit >> rest h A room limit) begun (λ A room limit L l b. write-symbol .ensures A room limit L (user-name h _ (size .ensures) (pre .0) A L b)) (if2 .left) in
-    next-stops h 8 _ (rest h) named (λ A room limit L l b. write-byte-string .ensures A room limit _) (c .if3 .taken)
+    let named = name-done h 8 (text-rest h) _ (user-first h (s .pre .0) _ (size .ensures) (open-marked .ensures)) (if1 .left) (user-name h (s .pre .0) _ (size .ensures)) (write-symbol .ensures) (if2 .left) in
+    text-stops h 8 named (write-byte-string .ensures) (c .if3 .taken)
 
 same-length-7 : tie.Need-same-length-7
-same-length-7 c = search needs
+same-length-7 c =
+    let write-symbol = c .before .before .before .before .before .before .before .before .before .before .before .before .before .before .write-symbol in
+    let open-marked = c .before .before .before .before .before .before .before .before .before .before .before .before .before .before .before .before .before .before .before .before .before .before .before .before .before .open-marked in
+    write-symbol .kept .1 .1 .0 ∙ open-marked .kept .0
 
 same-length-8 : tie.Need-same-length-8
-same-length-8 c = search needs
+same-length-8 c =
+    let write-byte-string = c .before .before .before .before .write-byte-string in
+    let write-symbol = c .before .before .before .before .before .before .before .before .before .before .before .before .before .before .write-symbol in
+    let open-marked = c .before .before .before .before .before .before .before .before .before .before .before .before .before .before .before .before .before .before .before .before .before .before .before .before .before .open-marked in
+    write-byte-string .kept .1 .0 ∙ write-symbol .kept .1 .1 .1 .0 ∙ open-marked .kept .1 .0
 
 returns-4 : tie.Need-returns-4
 returns-4 c =
-    let a = c .before .before .before .before .before .before .before .before .before .before .before .before .before .before .before .before .before .before .before .before .before .before .before .before .before .before .before .before .before .before .before .before .before .before .before .args in
-    let h = here (a .nodes .now) (a .references .now) (a .bytes .now) (a .v) (a .levels) in
-    let pre = c .before .before .before .before .before .before .before .before .before .before .before .before .before .before .before .before .before .before .before .before .before .before .before .before .before .before .before .before .before .before .before .before .before .before .before .pre in
+    let s = c .before .before .before .before .before .before .before .before .before .before .before .before .before .before .before .before .before .before .before .before .before .before .before .before .before .before .before .before .before .before .before .before .before .before .before in
+    let h = place s in
     let open-marked = c .before .before .before .before .before .before .before .before .before .before .before .before .before .before .before .before .before .before .before .before .before .before .before .before .before .open-marked in
     let if1 = c .before .before .before .before .before .before .before .before .before .before .before .before .before .before .before .before .before .before .before .before .if1 in
     let size = c .before .before .before .before .before .before .before .before .before .before .before .before .before .before .before .size in
@@ -159,9 +165,8 @@ returns-4 c =
     let if2 = c .before .before .before .before .before .before .before .before .before .if2 in
     let write-byte-string = c .before .before .before .before .write-byte-string in
     let if3 = c .before .if3 in
-    let begun = first-done h 8 _ (user-first h _ (size .ensures) (pre .0) (open-marked .ensures)) (if1 .left) in
-    let named = next-done h 8 _ (λ A room limit. text h A room limit >> rest h A room limit) begun (λ A room limit L l b. write-symbol .ensures A room limit L (user-name h _ (size .ensures) (pre .0) A L b)) (if2 .left) in
-    let written = next-done h 8 _ (rest h) named (λ A room limit L l b. write-byte-string .ensures A room limit _) (if3 .left) in
+    let named = name-done h 8 (text-rest h) _ (user-first h (s .pre .0) _ (size .ensures) (open-marked .ensures)) (if1 .left) (user-name h (s .pre .0) _ (size .ensures)) (write-symbol .ensures) (if2 .left) in
+    let written = text-done h 8 named (write-byte-string .ensures) (if3 .left) in
     whole h 8 (c .if4 .taken) written
 
 mul-open-variables : tie.Need-mul-open-variables
@@ -206,9 +211,8 @@ shared-slice-read-open-variables-2 c =
 
 open-variables-requires : tie.Need-open-variables-requires
 open-variables-requires c κs =
-    let a = c .before .before .before .before .before .before .before .before .before .before .before .before .before .before .before .before .before .before .before .before .before .before .before .before .before .before .before .before .before .before .before .before .before .before .before .before .before .before .before .before .args in
-    let h = here (a .nodes .now) (a .references .now) (a .bytes .now) (a .v) (a .levels) in
-    let pre = c .before .before .before .before .before .before .before .before .before .before .before .before .before .before .before .before .before .before .before .before .before .before .before .before .before .before .before .before .before .before .before .before .before .before .before .before .before .before .before .before .pre in
+    let s = c .before .before .before .before .before .before .before .before .before .before .before .before .before .before .before .before .before .before .before .before .before .before .before .before .before .before .before .before .before .before .before .before .before .before .before .before .before .before .before .before in
+    let h = place s in
     let open-marked = c .before .before .before .before .before .before .before .before .before .before .before .before .before .before .before .before .before .before .before .before .before .before .before .before .before .before .before .before .before .before .open-marked in
     let if1 = c .before .before .before .before .before .before .before .before .before .before .before .before .before .before .before .before .before .before .before .before .before .before .before .before .before .if1 in
     let size = c .before .before .before .before .before .before .before .before .before .before .before .before .before .before .before .before .before .before .before .before .size in
@@ -217,22 +221,29 @@ open-variables-requires c κs =
     let write-byte-string = c .before .before .before .before .before .before .before .before .before .write-byte-string in
     let if3 = c .before .before .before .before .before .before .if3 in
     let if4 = c .before .before .before .before .before .if4 in
-    let begun = first-done h 8 _ (user-first h _ (size .ensures) (pre .0) (open-marked .ensures)) (if1 .left) in
-    let named = next-done h 8 _ (λ A room limit. text h A room limit >> rest h A room limit) begun (λ A room limit L l b. write-symbol .ensures A room limit L (user-name h _ (size .ensures) (pre .0) A L b)) (if2 .left) in
-    let written = next-done h 8 _ (rest h) named (λ A room limit L l b. write-byte-string .ensures A room limit _) (if3 .left) in
-    ready-as (λ A f. (f .0, f .1, user-pairs h (pre .0) (if4 .left) A (f .0) (f .2))) (reached-ready h (rest h) written (pre .1))
+    let named = name-done h 8 (text-rest h) _ (user-first h (s .pre .0) _ (size .ensures) (open-marked .ensures)) (if1 .left) (user-name h (s .pre .0) _ (size .ensures)) (write-symbol .ensures) (if2 .left) in
+    let written = text-done h 8 named (write-byte-string .ensures) (if3 .left) in
+    pairs-ready h _ (user-pairs h (s .pre .0) (if4 .left)) written (s .pre .1)
 
 same-length-9 : tie.Need-same-length-9
-same-length-9 c = search needs
+same-length-9 c =
+    let open-variables = c .before .before .before .before .open-variables in
+    let write-symbol = c .before .before .before .before .before .before .before .before .before .before .before .before .before .before .before .before .before .before .before .before .before .before .before .before .write-symbol in
+    let open-marked = c .before .before .before .before .before .before .before .before .before .before .before .before .before .before .before .before .before .before .before .before .before .before .before .before .before .before .before .before .before .before .before .before .before .before .before .open-marked in
+    open-variables .kept .1 .1 .1 .0 ∙ write-symbol .kept .1 .1 .0 ∙ open-marked .kept .0
 
 same-length-10 : tie.Need-same-length-10
-same-length-10 c = search needs
+same-length-10 c =
+    let open-variables = c .before .before .before .before .open-variables in
+    let write-byte-string = c .before .before .before .before .before .before .before .before .before .before .before .before .before .before .write-byte-string in
+    let write-symbol = c .before .before .before .before .before .before .before .before .before .before .before .before .before .before .before .before .before .before .before .before .before .before .before .before .write-symbol in
+    let open-marked = c .before .before .before .before .before .before .before .before .before .before .before .before .before .before .before .before .before .before .before .before .before .before .before .before .before .before .before .before .before .before .before .before .before .before .before .open-marked in
+    open-variables .kept .1 .1 .1 .1 .0 ∙ write-byte-string .kept .1 .0 ∙ write-symbol .kept .1 .1 .1 .0 ∙ open-marked .kept .1 .0
 
 returns-5 : tie.Need-returns-5
 returns-5 c =
-    let a = c .before .before .before .before .before .before .before .before .before .before .before .before .before .before .before .before .before .before .before .before .before .before .before .before .before .before .before .before .before .before .before .before .before .before .before .before .before .before .before .before .before .before .before .before .before .args in
-    let h = here (a .nodes .now) (a .references .now) (a .bytes .now) (a .v) (a .levels) in
-    let pre = c .before .before .before .before .before .before .before .before .before .before .before .before .before .before .before .before .before .before .before .before .before .before .before .before .before .before .before .before .before .before .before .before .before .before .before .before .before .before .before .before .before .before .before .before .before .pre in
+    let s = c .before .before .before .before .before .before .before .before .before .before .before .before .before .before .before .before .before .before .before .before .before .before .before .before .before .before .before .before .before .before .before .before .before .before .before .before .before .before .before .before .before .before .before .before .before in
+    let h = place s in
     let open-marked = c .before .before .before .before .before .before .before .before .before .before .before .before .before .before .before .before .before .before .before .before .before .before .before .before .before .before .before .before .before .before .before .before .before .before .before .open-marked in
     let if1 = c .before .before .before .before .before .before .before .before .before .before .before .before .before .before .before .before .before .before .before .before .before .before .before .before .before .before .before .before .before .before .if1 in
     let size = c .before .before .before .before .before .before .before .before .before .before .before .before .before .before .before .before .before .before .before .before .before .before .before .before .before .size in
@@ -242,10 +253,9 @@ returns-5 c =
     let if3 = c .before .before .before .before .before .before .before .before .before .before .before .if3 in
     let if4 = c .before .before .before .before .before .before .before .before .before .before .if4 in
     let open-variables = c .before .before .before .before .open-variables in
-    let begun = first-done h 8 _ (user-first h _ (size .ensures) (pre .0) (open-marked .ensures)) (if1 .left) in
-    let named = next-done h 8 _ (λ A room limit. text h A room limit >> rest h A room limit) begun (λ A room limit L l b. write-symbol .ensures A room limit L (user-name h _ (size .ensures) (pre .0) A L b)) (if2 .left) in
-    let written = next-done h 8 _ (rest h) named (λ A room limit L l b. write-byte-string .ensures A room limit _) (if3 .left) in
-    variables-answer h 8 (pre .0) (omega arith) (some-variables h (if4 .left) written) (user-pairs h (pre .0) (if4 .left)) (open-variables .ensures)
+    let named = name-done h 8 (text-rest h) _ (user-first h (s .pre .0) _ (size .ensures) (open-marked .ensures)) (if1 .left) (user-name h (s .pre .0) _ (size .ensures)) (write-symbol .ensures) (if2 .left) in
+    let written = text-done h 8 named (write-byte-string .ensures) (if3 .left) in
+    variables-answer h 8 (s .pre .0) (omega arith) (some-variables h (if4 .left) written) (user-pairs h (s .pre .0) (if4 .left)) (open-variables .ensures)
 
 pub open-user-defined-spec : {M : Type 1} → statement M
 open-user-defined-spec =

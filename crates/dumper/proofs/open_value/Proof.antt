@@ -1,12 +1,17 @@
 -- The proof of open_value.
 use native.Mathlib.Omega.{arith}
 use Rattle.definition.specs.Dump.{write-level, write-value}
-use Rattle.dumper.specs.Laws.{lead-goes, lead-stop, lead-head, linked, head-as, ready-as}
+use Rattle.writer.specs.Laws.{lead-goes, lead-stop, ready-as}
+use Rattle.dumper.specs.Laws.{lead-head, linked, head-as}
 use Rattle.dumper.proofs.Heads.{is-object, array-row, hash-row, low-kind, array-open, hash-open, default-byte, in-array, in-hash}
-use Rattle.dumper.proofs.Bodies.{here, answers-as}
+use Rattle.dumper.proofs.Bodies.{Here, here, answers-as}
 use borrow.Author.Needs.{needs}
 use Rattle.dumper.proofs.open_value.Statement.{statement}
 use Rattle.dumper.proofs.open_value.Tie as tie
+
+abbrev place : tie.Start → Here
+place s =
+    here (s .args .nodes .now) (s .args .references .now) (s .args .bytes .now) (s .args .v) (s .args .levels)
 
 mul-match : tie.Need-mul-match
 mul-match c = search needs
@@ -134,10 +139,9 @@ same-length-8 c = search needs
 
 returns-4 : tie.Need-returns-4
 returns-4 c =
-    let a = c .before .before .before .before .before .before .before .before .before .before .before .before .before .before .before .args in
+    let h = place (c .before .before .before .before .before .before .before .before .before .before .before .before .before .before .before) in
     let kinds = c .before .before .before .before .before .before .before .before .match in
     let open-named = c .before .before .before .before .open-named in
-    let h = here (a .nodes .now) (a .references .now) (a .bytes .now) (a .v) (a .levels) in
     (answers-as h _ 6 (kinds .keys3) (open-named .ensures .0), open-named .ensures .1)
 
 same-length-9 : tie.Need-same-length-9
@@ -148,10 +152,9 @@ same-length-10 c = search needs
 
 returns-5 : tie.Need-returns-5
 returns-5 c =
-    let a = c .before .before .before .before .before .before .before .before .before .before .before .before .before .before .before .args in
+    let h = place (c .before .before .before .before .before .before .before .before .before .before .before .before .before .before .before) in
     let kinds = c .before .before .before .before .before .before .before .before .match in
     let open-string = c .before .before .before .before .open-string in
-    let h = here (a .nodes .now) (a .references .now) (a .bytes .now) (a .v) (a .levels) in
     (answers-as h _ 7 (kinds .keys4) (open-string .ensures .0), open-string .ensures .1)
 
 same-length-11 : tie.Need-same-length-11
@@ -162,10 +165,9 @@ same-length-12 c = search needs
 
 returns-6 : tie.Need-returns-6
 returns-6 c =
-    let a = c .before .before .before .before .before .before .before .before .before .before .before .before .before .before .before .args in
+    let h = place (c .before .before .before .before .before .before .before .before .before .before .before .before .before .before .before) in
     let kinds = c .before .before .before .before .before .before .before .before .match in
     let open-user-defined = c .before .before .before .before .open-user-defined in
-    let h = here (a .nodes .now) (a .references .now) (a .bytes .now) (a .v) (a .levels) in
     (answers-as h _ 8 (kinds .keys5) (open-user-defined .ensures .0), open-user-defined .ensures .1)
 
 same-length-13 : tie.Need-same-length-13

@@ -1,9 +1,6 @@
 -- The proof of open_variables.
-use mathlib.Core.Path.{_∙_, ap}
-use lib.ListN.{getD}
-use Prim.Native.Nat.{ℕ}
-use Rattle.dumper.specs.Laws.{lead-as, lead-after, lead-first, lead-goes, lead-stop, went, deep, ready, ready-as}
-use Rattle.dumper.proofs.Members.{variables-counted, variables-elements, variables-none, variables-deep, first-name}
+use Rattle.writer.specs.Laws.{lead-as, lead-first, lead-goes, lead-stop, went, ready, ready-as}
+use Rattle.dumper.proofs.Variables.{variables-counted, variables-elements, variables-none, first-name, name-stops, name-deep}
 use borrow.Author.Needs.{needs}
 use Rattle.dumper.proofs.open_variables.Statement.{statement}
 use Rattle.dumper.proofs.open_variables.Tie as tie
@@ -60,7 +57,7 @@ write-symbol-requires c κs =
     let pre = c .before .before .before .before .before .before .before .before .before .before .before .before .before .before .before .before .before .before .before .pre in
     let if1 = c .before .before .before .before .before .before .before .before .if1 in
     let write-fixnum = c .before .before .before .before .before .before .before .before .before .before .before .write-fixnum in
-    ready-as (λ A f. (f .0, first-name 0 0 0 (a .start) (a .n) (f .2) (f .1) (if3 .left) _ (c .size2 .ensures ∙ ap (λ (j : ℕ). getD (a .references .now) j 0) (size .ensures)))) (ready _ _ (pre) (if1 .left) (λ A room f. write-fixnum .ensures A room 0 _))
+    ready-as (λ A f. (f .0, first-name 0 0 0 (a .start) (a .n) (f .2) (f .1) (if3 .left) _ _ (size .ensures) (c .size2 .ensures))) (ready _ _ (pre) (if1 .left) (λ A room f. write-fixnum .ensures A room 0 _))
 
 same-length-4 : tie.Need-same-length-4
 same-length-4 c = search needs
@@ -78,10 +75,7 @@ returns-4 c =
     let if1 = c .before .before .before .before .before .before .before .before .before .before .before .before .before .before .if1 in
     let write-fixnum = c .before .before .before .before .before .before .before .before .before .before .before .before .before .before .before .before .before .write-fixnum in
     let write-symbol = c .before .before .before .before .before .write-symbol in
-    λ A room limit l li p.
-    let e = size2 .ensures ∙ ap (λ (j : ℕ). getD (a .references .now) j 0) (size .ensures) in
-    let d = variables-deep room limit (a .levels) (a .start) (a .n) p li (if3 .left) _ e (if2 .left) in
-    lead-as (d .1) (lead-after (lead-goes (if1 .left) (lead-first _ (write-fixnum .ensures A room limit _))) (lead-stop (c .if4 .taken) (lead-first _ (write-symbol .ensures A room limit l (first-name room limit (a .levels) (a .start) (a .n) p li (if3 .left) _ e)))))
+    λ A room limit l li p. name-stops room limit (a .levels) (a .start) (a .n) p li (if3 .left) _ _ (size .ensures) (size2 .ensures) (if2 .left) (if1 .left) (write-fixnum .ensures A room limit _) (write-symbol .ensures A room limit l) (c .if4 .taken)
 
 same-length-6 : tie.Need-same-length-6
 same-length-6 c = search needs
@@ -99,10 +93,7 @@ returns-5 c =
     let if1 = c .before .before .before .before .before .before .before .before .before .before .before .before .before .before .if1 in
     let write-fixnum = c .before .before .before .before .before .before .before .before .before .before .before .before .before .before .before .before .before .write-fixnum in
     let write-symbol = c .before .before .before .before .before .write-symbol in
-    λ A room limit l li p.
-    let e = size2 .ensures ∙ ap (λ (j : ℕ). getD (a .references .now) j 0) (size .ensures) in
-    let d = variables-deep room limit (a .levels) (a .start) (a .n) p li (if3 .left) _ e (if2 .left) in
-    lead-as (d .1) (lead-after (lead-goes (if1 .left) (lead-first _ (write-fixnum .ensures A room limit _))) (lead-after (lead-goes (c .if4 .left) (lead-first _ (write-symbol .ensures A room limit l (first-name room limit (a .levels) (a .start) (a .n) p li (if3 .left) _ e)))) (deep _)))
+    λ A room limit l li p. name-deep room limit (a .levels) (a .start) (a .n) p li (if3 .left) _ _ (size .ensures) (size2 .ensures) (if2 .left) (if1 .left) (write-fixnum .ensures A room limit _) (write-symbol .ensures A room limit l) (c .if4 .left)
 
 pub open-variables-spec : {M : Type 1} → statement M
 open-variables-spec =

@@ -3,10 +3,10 @@ use borrow.Author.Needs.{needs}
 use native.Mathlib.Omega.{arith}
 use mathlib.Core.Path.{_∙_}
 use Rattle.definition.specs.Load.{lists, room-of}
+use Rattle.loader.specs.Holds.{Held}
 use Rattle.loader.proofs.Laws.{held}
-use Rattle.load.specs.Call.{whole}
+use Rattle.value_reader.specs.Root.{whole}
 use Rattle.load.proofs.Whole.{held-begin, not-taken, loaded, load-refused, lists-same, emptied}
-use borrow.Author.Needs.{needs}
 use Rattle.load.proofs.load_whole.Statement.{statement}
 use Rattle.load.proofs.load_whole.Tie as tie
 
@@ -107,31 +107,31 @@ returns-2 c =
     (emptied (k .1 .1 .1 .0) (a .symbols .now) (c21 .zero-words .ensures) (n .1 .1 .1 .0))
     (emptied (k .1 .1 .1 .1 .0) (a .objects .now) (c17 .zero-words2 .ensures) (n .1 .1 .1 .1 .0)))
 
+-- what is held after the root value
+held-root : (c : tie.Else2) →
+    let c19 = c .before .before .before .before .before .before .before .before .before .before .before .before .before .before .before .before .before .before .before in
+    let c38 = c19 .before .before .before .before .before .before .before .before .before .before .before .before .before .before .before .before .before .before .before in
+    let k = c19 .read-root .last .1 in
+    Held (c38 .args .input .now) (lists (k .0) (k .1 .0) (k .1 .1 .0) (k .1 .1 .1 .0) (k .1 .1 .1 .1 .0)) (k .1 .1 .1 .1 .1 .0)
+held-root c =
+    let c19 = c .before .before .before .before .before .before .before .before .before .before .before .before .before .before .before .before .before .before .before in
+    let c28 = c19 .before .before .before .before .before .before .before .before .before in
+    let c31 = c28 .before .before .before in
+    let a = c31 .before .before .before .before .before .before .before .args in
+    let T = lists (a .nodes .now) (a .references .now) (a .bytes .now) (a .symbols .now) (a .objects .now) in
+    held {m = λ room. whole (a .input .now) room (a .limit)} {m' = λ room. _} (held-begin (a .input .now) T (c31 .wrong-slice .ensures .1 (c28 .before .before .if1 .left)) (c28 .put-node .ensures)) (c .if2 .left) (λ room. c19 .read-root .ensures .0 room)
+
 array-read-zero-words : tie.Need-array-read-zero-words
 array-read-zero-words c = search needs
 
 mul-zero-words : tie.Need-mul-zero-words
 mul-zero-words c =
-    let c20 = c .before .before .before .before .before .before .before .before .before .before .before .before .before .before .before .before .before .before .before .before in
-    let c29 = c20 .before .before .before .before .before .before .before .before .before in
-    let c32 = c29 .before .before .before in
-    let c39 = c32 .before .before .before .before .before .before .before in
-    let a = c39 .args in
-    let T = lists (a .nodes .now) (a .references .now) (a .bytes .now) (a .symbols .now) (a .objects .now) in
-    let H = held {m = λ room. whole (a .input .now) room (a .limit)} {m' = λ room. _} (held-begin (a .input .now) T (c32 .wrong-slice .ensures .1 (c29 .before .before .if1 .left)) (c29 .put-node .ensures)) (c .before .if2 .left) (λ room. c20 .read-root .ensures .0 room) in
-    let G = H .holds in
+    let G = held-root (c .before) .holds in
     record { fits = omega (arith, G .count-nodes, G .room-nodes, G .small .nodes) }
 
 zero-words-requires-5 : tie.Need-zero-words-requires-5
 zero-words-requires-5 c κs =
-    let c20 = c .before .before .before .before .before .before .before .before .before .before .before .before .before .before .before .before .before .before .before .before in
-    let c29 = c20 .before .before .before .before .before .before .before .before .before in
-    let c32 = c29 .before .before .before in
-    let c39 = c32 .before .before .before .before .before .before .before in
-    let a = c39 .args in
-    let T = lists (a .nodes .now) (a .references .now) (a .bytes .now) (a .symbols .now) (a .objects .now) in
-    let H = held {m = λ room. whole (a .input .now) room (a .limit)} {m' = λ room. _} (held-begin (a .input .now) T (c32 .wrong-slice .ensures .1 (c29 .before .before .if1 .left)) (c29 .put-node .ensures)) (c .before .if2 .left) (λ room. c20 .read-root .ensures .0 room) in
-    let G = H .holds in
+    let G = held-root (c .before) .holds in
     omega (arith, G .count-nodes, G .room-nodes, G .nodes .sized)
 
 array-read-zero-words-2 : tie.Need-array-read-zero-words-2
@@ -139,15 +139,7 @@ array-read-zero-words-2 c = search needs
 
 zero-words-requires-6 : tie.Need-zero-words-requires-6
 zero-words-requires-6 c κs =
-    let c5 = c .before .before .before .before .before in
-    let c24 = c5 .before .before .before .before .before .before .before .before .before .before .before .before .before .before .before .before .before .before .before in
-    let c33 = c24 .before .before .before .before .before .before .before .before .before in
-    let c36 = c33 .before .before .before in
-    let c43 = c36 .before .before .before .before .before .before .before in
-    let a = c43 .args in
-    let T = lists (a .nodes .now) (a .references .now) (a .bytes .now) (a .symbols .now) (a .objects .now) in
-    let H = held {m = λ room. whole (a .input .now) room (a .limit)} {m' = λ room. _} (held-begin (a .input .now) T (c36 .wrong-slice .ensures .1 (c33 .before .before .if1 .left)) (c33 .put-node .ensures)) (c5 .if2 .left) (λ room. c24 .read-root .ensures .0 room) in
-    let G = H .holds in
+    let G = held-root (c .before .before .before .before .before) .holds in
     omega (arith, G .count-references, G .references .fits, G .references .sized)
 
 array-read-zero-bytes : tie.Need-array-read-zero-bytes
@@ -155,15 +147,7 @@ array-read-zero-bytes c = search needs
 
 zero-bytes-requires-2 : tie.Need-zero-bytes-requires-2
 zero-bytes-requires-2 c κs =
-    let c9 = c .before .before .before .before .before .before .before .before .before in
-    let c28 = c9 .before .before .before .before .before .before .before .before .before .before .before .before .before .before .before .before .before .before .before in
-    let c37 = c28 .before .before .before .before .before .before .before .before .before in
-    let c40 = c37 .before .before .before in
-    let c47 = c40 .before .before .before .before .before .before .before in
-    let a = c47 .args in
-    let T = lists (a .nodes .now) (a .references .now) (a .bytes .now) (a .symbols .now) (a .objects .now) in
-    let H = held {m = λ room. whole (a .input .now) room (a .limit)} {m' = λ room. _} (held-begin (a .input .now) T (c40 .wrong-slice .ensures .1 (c37 .before .before .if1 .left)) (c37 .put-node .ensures)) (c9 .if2 .left) (λ room. c28 .read-root .ensures .0 room) in
-    let G = H .holds in
+    let G = held-root (c .before .before .before .before .before .before .before .before .before) .holds in
     omega (arith, G .count-bytes, G .bytes .fits, G .bytes .sized)
 
 array-read-t13 : tie.Need-array-read-t13

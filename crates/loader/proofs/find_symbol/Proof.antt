@@ -15,35 +15,42 @@ use Rattle.loader.proofs.find_symbol.Statement.{statement}
 use Rattle.loader.proofs.find_symbol.Tie as tie
 
 abbrev Inv-loop : tie.InvT-loop
-Inv-loop input nodes bytes symbols at count n i₀ i =
+Inv-loop input nodes bytes symbols at count n last i₀ i =
     (i ≤ count) ×
     ((room : Room) (s : State) (re ob k : List ℕ) → symbols-of k ≡ count → Holds input room s (lists nodes re bytes symbols ob) k →
     find-listed (s .bytes) (span input at n) (s .nodes) (s .symbols) ≡ find-listed (s .bytes) (span input at n) (s .nodes) (drop i (s .symbols)))
 
 abbrev μ-loop : tie.MeasureT-loop
-μ-loop input nodes bytes symbols at count n i₀ i =
+μ-loop input nodes bytes symbols at count n last i₀ i =
     count - i
 
+last-byte-requires : tie.Need-last-byte-requires Inv-loop μ-loop
+last-byte-requires c κs =
+    let c4 = c .before .before .before .before in
+    let p = c4 .pre in
+    let H = p .1 .7 in
+    (p .0, omega (arith, p .1 .5, H .inside, H .count-at))
+
 loop-holds : tie.Need-loop-holds Inv-loop μ-loop
-loop-holds c =
-    (omega arith, λ room s re ob k e H. refl)
+loop-holds c = (omega arith, λ room s re ob k e H. refl)
 
 mul-h : tie.Need-mul-h Inv-loop μ-loop
 mul-h c = search needs
 
 shared-slice-read-h : tie.Need-shared-slice-read-h Inv-loop μ-loop
 shared-slice-read-h c =
-    let c7 = c .before .before .before .before .before .before .before in
-    let p = c7 .pre in
+    let c8 = c .before .before .before .before .before .before .before .before in
+    let p = c8 .pre in
     let H = p .1 .7 in
     omega (arith, c .before .loop-test .taken, p .1 .6, H .count-symbols, H .symbols .fits, H .symbols .sized)
 
 is-named-requires : tie.Need-is-named-requires Inv-loop μ-loop
 is-named-requires c κs =
-    let c7 = c .before .before .before .before .before .before .before in
-    let p = c7 .pre in
+    let c3 = c .before .before .before in
+    let c8 = c3 .before .before .before .before .before in
+    let p = c8 .pre in
     let H = p .1 .7 in
-    (p .0, (p .1 .0, p .1 .1, p .1 .2, _, p .1 .3, p .1 .4, p .1 .5, entry-symbolic (c .before .before .loop .i) H (omega (arith, p .1 .6, c .before .loop-test .taken)), H))
+    (p .0, c3 .last-byte .ensures, (p .1 .0, p .1 .1, p .1 .2, _, p .1 .3, p .1 .4, p .1 .5, entry-symbolic (c .before .before .loop .i) H (omega (arith, p .1 .6, c .before .loop-test .taken)), H))
 
 wide-requires : tie.Need-wide-requires Inv-loop μ-loop
 wide-requires c κs = search needs
@@ -51,10 +58,11 @@ wide-requires c κs = search needs
 returns : tie.Need-returns Inv-loop μ-loop
 returns c =
     let c4 = c .before .before .before .before in
-    let c10 = c4 .before .before .before .before .before .before in
-    let turn = c4 .before .loop in
+    let c5 = c4 .before in
+    let c11 = c5 .before .before .before .before .before .before in
+    let turn = c5 .loop in
     let w = c .wide .ensures in
-    let symbols = c10 .args .symbols .now in
+    let symbols = c11 .args .symbols .now in
     λ room s re ob k e H.
     let lt : turn .i < symbols-of k = omega (arith, e, c4 .loop-test .taken) in
     let y = entry-symbolic (turn .i) H lt in
@@ -70,7 +78,8 @@ loop-less c = search needs
 loop-again : tie.Need-loop-again Inv-loop μ-loop
 loop-again c =
     let c3 = c .before .before .before in
-    let turn = c3 .before .loop in (
+    let c4 = c3 .before in
+    let turn = c4 .loop in (
       omega arith,
       λ room s re ob k e H.
           let lt : turn .i < symbols-of k = omega (arith, e, c3 .loop-test .taken) in
@@ -89,6 +98,7 @@ find-symbol-spec =
     (tie.spec
     Inv-loop
     μ-loop
+    last-byte-requires
     loop-holds
     mul-h
     shared-slice-read-h

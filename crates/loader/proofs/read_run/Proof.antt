@@ -2,12 +2,13 @@
 use borrow.Author.Needs.{needs}
 use native.Mathlib.Omega.{arith}
 use Prim.Native.Nat.{_+_, _-_, _≤_}
-use mathlib.Core.Path.{refl}
+use mathlib.Core.Path.{refl, sym, _∙_}
 use lib.ListN.{length, getD}
-use borrow.Author.Tests.{not-false}
+use borrow.Author.Tests.{not-true, not-false}
 use Rattle.reader.specs.Integers.{size-small}
 use Rattle.loader.proofs.Laws.{still}
-use Rattle.loader.proofs.Run.{Running, running-start, run-over, run-link, run-integer, at-inside}
+use Rattle.loader.proofs.Names.{untrue}
+use Rattle.loader.proofs.Run.{Running, running-start, run-over, run-link, run-integer, at-inside, coming-next, over-short, over-link, over-integer}
 use Rattle.loader.proofs.read_run.Statement.{statement}
 use Rattle.loader.proofs.read_run.Tie as tie
 
@@ -28,7 +29,7 @@ small-next-requires c κs = search needs
 returns : tie.Need-returns Inv-loop μ-loop
 returns c =
     let c7 = c .before .before .before .before .before .before .before in
-    ((omega arith, c7 .pre .0), λ room limit by ob. still (λ s H. refl))
+    ((omega arith, c7 .pre .0), (λ room limit by ob. still (λ s H. refl), λ n l t. untrue (sym (not-true _ (c .if1 .taken)) ∙ c .before .small-next .ensures .1 (coming-next n t))))
 
 element-copy-out-known : tie.Need-element-copy-out-known Inv-loop μ-loop
 element-copy-out-known c = search needs
@@ -43,8 +44,7 @@ loop-holds c =
     running-start (p .0) (p .1) (p .2 .2)
 
 sub-if2 : tie.Need-sub-if2 Inv-loop μ-loop
-sub-if2 c =
-    at-inside (c .before .loop .inv)
+sub-if2 c = at-inside (c .before .loop .inv)
 
 end-run-requires : tie.Need-end-run-requires Inv-loop μ-loop
 end-run-requires c κs = search needs
@@ -64,7 +64,7 @@ returns-2 c =
     let c4 = c .before .before .before .before in
     let R = c4 .loop .inv in
     let e = c .end-run .ensures in
-    ((omega (arith, e .0, R .from), omega (arith, e .0, R .within)), run-over R (e .0) (e .1))
+    ((omega (arith, e .0, R .from), omega (arith, e .0, R .within)), (run-over R (e .0) (e .1), λ n l t. over-short R (e .1) (e .0) t (c .before .before .if2 .taken)))
 
 shared-slice-read-k : tie.Need-shared-slice-read-k Inv-loop μ-loop
 shared-slice-read-k c = search needs
@@ -93,10 +93,12 @@ same-length-4 c =
 
 returns-3 : tie.Need-returns-3 Inv-loop μ-loop
 returns-3 c =
+    let c3 = c .before .before .before in
+    let c5 = c3 .before .before in
     let c9 = c .before .before .before .before .before .before .before .before .before in
     let R = c9 .loop .inv in
     let e = c .end-run2 .ensures in
-    ((omega (arith, e .0, R .from), omega (arith, e .0, R .within)), run-over R (e .0) (e .1))
+    ((omega (arith, e .0, R .from), omega (arith, e .0, R .within)), (run-over R (e .0) (e .1), λ n l t. over-link R (e .1) (e .0) t (c5 .if3 .taken) (c3 .link-index .ensures .1) (c .before .before .if4 .taken)))
 
 mul-references : tie.Need-mul-references Inv-loop μ-loop
 mul-references c = search needs
@@ -136,7 +138,7 @@ loop-again c =
     let c11 = c7 .before .before .before .before in
     let R = c7 .before .loop .inv in
     let inside = at-inside R in
-    run-link R (c-link-index .result) (c11 .before .small-next .ensures (not-false _ (c11 .if1 .left))) (c7 .loop-test .taken) (omega (arith, c4 .before .before .if2 .left, inside)) (c4 .if3 .taken) (c-link-index .ensures (c-if4 .left)) (c-if4 .left)
+    run-link R (c-link-index .result) (c11 .before .small-next .ensures .0 (not-false _ (c11 .if1 .left)) .0) (c7 .loop-test .taken) (omega (arith, c4 .before .before .if2 .left, inside)) (c4 .if3 .taken) (c-link-index .ensures .0 (c-if4 .left)) (c-if4 .left)
 
 element-copy-out-node : tie.Need-element-copy-out-node Inv-loop μ-loop
 element-copy-out-node c = search needs
@@ -159,10 +161,12 @@ same-length-6 c =
 
 returns-4 : tie.Need-returns-4 Inv-loop μ-loop
 returns-4 c =
+    let c3 = c .before .before .before in
+    let c5 = c3 .before .before in
     let c9 = c .before .before .before .before .before .before .before .before .before in
     let R = c9 .loop .inv in
     let e = c .end-run3 .ensures in
-    ((omega (arith, e .0, R .from), omega (arith, e .0, R .within)), run-over R (e .0) (e .1))
+    ((omega (arith, e .0, R .from), omega (arith, e .0, R .within)), (run-over R (e .0) (e .1), λ n l t. over-integer R (e .1) (e .0) t (c5 .if3 .left) (c3 .takes-integer .ensures .1) (not-true _ (c .before .before .if5 .taken))))
 
 add-at-2 : tie.Need-add-at-2 Inv-loop μ-loop
 add-at-2 c = search needs
@@ -178,7 +182,7 @@ put-integer-requires c κs =
     let R = c-loop .inv in
     let inside = at-inside R in
     let a = c18 .args in
-    let t = c .before .before .takes-integer .ensures (not-false _ (c .before .if5 .left)) in
+    let t = c .before .before .takes-integer .ensures .0 (not-false _ (c .before .if5 .left)) in
     (omega (arith, c6 .if2 .left, inside, size-small (getD (a .input .now) (c-loop .at + 1) 0)), omega (arith, t .2))
 
 add-at-3 : tie.Need-add-at-3 Inv-loop μ-loop
@@ -198,7 +202,7 @@ add-c : tie.Need-add-c Inv-loop μ-loop
 add-c c =
     let c4 = c .before .before .before .before in
     let c11 = c4 .before .before .before .before .before .before .before in
-    let t = c4 .before .takes-integer .ensures (not-false _ (c4 .if5 .left)) in
+    let t = c4 .before .takes-integer .ensures .0 (not-false _ (c4 .if5 .left)) in
     let H = c11 .loop .inv .held .2 .holds in
     record { fits = omega (arith, t .2, H .small .nodes, H .nodes .sized) }
 
@@ -209,7 +213,7 @@ cast-references : tie.Need-cast-references Inv-loop μ-loop
 cast-references c =
     let c4 = c .before .before .before .before in
     let c11 = c4 .before .before .before .before .before .before .before in
-    let t = c4 .before .takes-integer .ensures (not-false _ (c4 .if5 .left)) in
+    let t = c4 .before .takes-integer .ensures .0 (not-false _ (c4 .if5 .left)) in
     let H = c11 .loop .inv .held .2 .holds in
     omega (arith, t .2, H .small .nodes, H .nodes .sized)
 
@@ -237,9 +241,9 @@ loop-again-2 c =
     let c14 = c9 .before .before .before .before .before in
     let R = c9 .before .before .loop .inv in
     let inside = at-inside R in
-    let t = c4 .before .takes-integer .ensures (not-false _ (c4 .if5 .left)) in
+    let t = c4 .before .takes-integer .ensures .0 (not-false _ (c4 .if5 .left)) in
     let p = c-put-integer .ensures in
-    run-integer R (c-put-integer .result) (c14 .before .small-next .ensures (not-false _ (c14 .if1 .left))) (c9 .before .loop-test .taken) (omega (arith, c9 .if2 .left, inside)) (t .0) (t .1) (t .2) (p .1 .0) (p .1 .1) (p .0) (c-put-integer .kept .1 .0)
+    run-integer R (c-put-integer .result) (c14 .before .small-next .ensures .0 (not-false _ (c14 .if1 .left)) .0) (c9 .before .loop-test .taken) (omega (arith, c9 .if2 .left, inside)) (t .0) (t .1) (t .2) (p .1 .0) (p .1 .1) (p .0) (c-put-integer .kept .1 .0)
 
 end-run-requires-4 : tie.Need-end-run-requires-4 Inv-loop μ-loop
 end-run-requires-4 c κs = search needs
@@ -259,7 +263,7 @@ returns-5 c =
     let c3 = c .before .before .before in
     let R = c3 .loop .inv in
     let e = c .end-run4 .ensures in
-    ((omega (arith, e .0, R .from), omega (arith, e .0, R .within)), run-over R (e .0) (e .1))
+    ((omega (arith, e .0, R .from), omega (arith, e .0, R .within)), (run-over R (e .0) (e .1), λ n l t. absurd (omega (arith, e .0, l, c .before .before .loop-test .left))))
 
 pub read-run-spec : {M : Type 1} → statement M
 read-run-spec =

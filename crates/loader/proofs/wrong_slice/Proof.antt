@@ -1,166 +1,31 @@
 -- The proof of wrong_slice.
-use native.Mathlib.Omega.{arith}
-use borrow.Author.Tests.{lt-ltb, le-ltb, eq-eqb, ne-eqb}
-use Rattle.definition.specs.Run.{pick}
-use Rattle.definition.specs.Arena.{lowest, too-long, bad-nodes}
-use Rattle.loader.proofs.Readers.{allowed}
+use Prim.Native.Nat.{ℕ}
+use mathlib.Core.Path.{_≡_, refl, sym, _∙_}
+use mathlib.Core.List.{[]}
+use Rattle.lists.specs.Slices.{no-slice, slice, lowest-none, short, tables-right}
+use Rattle.loader.specs.Holds.{wrong, Allowed}
 use Rattle.loader.proofs.wrong_slice.Statement.{statement}
 use Rattle.loader.proofs.wrong_slice.Tie as tie
 
+allowed : (n r b y o l i : ℕ) → wrong n r b y o l i ≡ 0 → Allowed n r b y o
+allowed n r b y o l i e =
+    let (t, e₃) = tables-right n r b _ e in
+    let (b₄, e₄) = lowest-none 3 _ _ e₃ in
+    let (b₅, e₅) = lowest-none 4 _ _ e₄ in
+    record { whole = t .whole; one = t .one; nodes-small = t .nodes-small; references-small = t .references-small; bytes-small = t .bytes-small; symbols-small = short y b₄; objects-small = short o b₅ }
+
 returns : tie.Need-returns
-unfolding lowest pick too-long bad-nodes
 returns c =
-    (simp (lt-ltb _ _ (c .if1 .taken)), λ e. absurd (omega arith))
-
-returns-2 : tie.Need-returns-2
-unfolding lowest pick too-long bad-nodes
-returns-2 c =
-    (simp (le-ltb _ _ (c .before .if1 .left), eq-eqb _ _ (c .if2 .taken)), λ e. absurd (omega arith))
-
-returns-3 : tie.Need-returns-3
-unfolding lowest pick too-long bad-nodes
-returns-3 c = (
-  simp (le-ltb _ _ (c .before .before .if1 .left), ne-eqb _ _ (c .before .if2 .left), ne-eqb _ _ (c .if3 .taken)),
-  λ e. absurd (omega arith),
-)
-
-returns-4 : tie.Need-returns-4
-unfolding lowest pick too-long bad-nodes
-returns-4 c = (
-  simp (
-    le-ltb _ _ (c .before .before .before .if1 .left),
-    ne-eqb _ _ (c .before .before .if2 .left),
-    eq-eqb _ _ (c .before .if3 .left),
-    lt-ltb _ _ (c .if4 .taken),
-  ),
-  λ e. absurd (omega arith),
-)
-
-returns-5 : tie.Need-returns-5
-unfolding lowest pick too-long bad-nodes
-returns-5 c = (
-  simp (
-    le-ltb _ _ (c .before .before .before .before .if1 .left),
-    ne-eqb _ _ (c .before .before .before .if2 .left),
-    eq-eqb _ _ (c .before .before .if3 .left),
-    le-ltb _ _ (c .before .if4 .left),
-    lt-ltb _ _ (c .if5 .taken),
-  ),
-  λ e. absurd (omega arith),
-)
-
-returns-6 : tie.Need-returns-6
-unfolding lowest pick too-long bad-nodes
-returns-6 c =
-    let c5 = c .before .before .before .before .before in
-    let c-if1 = c5 .if1 in (
-      simp (
-        le-ltb _ _ (c-if1 .left),
-        ne-eqb _ _ (c .before .before .before .before .if2 .left),
-        eq-eqb _ _ (c .before .before .before .if3 .left),
-        le-ltb _ _ (c .before .before .if4 .left),
-        le-ltb _ _ (c .before .if5 .left),
-        lt-ltb _ _ (c .if6 .taken),
-      ),
-      λ e. absurd (omega arith),
-    )
-
-returns-7 : tie.Need-returns-7
-unfolding lowest pick too-long bad-nodes
-returns-7 c =
-    let c5 = c .before .before .before .before .before in
-    let c-if2 = c5 .if2 in
-    let c-if1 = c5 .before .if1 in (
-      simp (
-        le-ltb _ _ (c-if1 .left),
-        ne-eqb _ _ (c-if2 .left),
-        eq-eqb _ _ (c .before .before .before .before .if3 .left),
-        le-ltb _ _ (c .before .before .before .if4 .left),
-        le-ltb _ _ (c .before .before .if5 .left),
-        le-ltb _ _ (c .before .if6 .left),
-        lt-ltb _ _ (c .if7 .taken),
-      ),
-      λ e. absurd (omega arith),
-    )
-
-returns-8 : tie.Need-returns-8
-unfolding lowest pick too-long bad-nodes
-returns-8 c =
-    let c5 = c .before .before .before .before .before in
-    let c-if3 = c5 .if3 in
-    let c-if2 = c5 .before .if2 in
-    let c-if1 = c5 .before .before .if1 in (
-      simp (
-        le-ltb _ _ (c-if1 .left),
-        ne-eqb _ _ (c-if2 .left),
-        eq-eqb _ _ (c-if3 .left),
-        le-ltb _ _ (c .before .before .before .before .if4 .left),
-        le-ltb _ _ (c .before .before .before .if5 .left),
-        le-ltb _ _ (c .before .before .if6 .left),
-        le-ltb _ _ (c .before .if7 .left),
-        lt-ltb _ _ (c .if8 .taken),
-      ),
-      λ e. absurd (omega arith),
-    )
-
-returns-9 : tie.Need-returns-9
-unfolding lowest pick too-long bad-nodes
-returns-9 c =
-    let c5 = c .before .before .before .before .before in
-    let c-if4 = c5 .if4 in
-    let c-if3 = c5 .before .if3 in
-    let c-if2 = c5 .before .before .if2 in
-    let c-if1 = c5 .before .before .before .if1 in (
-      simp (
-        le-ltb _ _ (c-if1 .left),
-        ne-eqb _ _ (c-if2 .left),
-        eq-eqb _ _ (c-if3 .left),
-        le-ltb _ _ (c-if4 .left),
-        le-ltb _ _ (c .before .before .before .before .if5 .left),
-        le-ltb _ _ (c .before .before .before .if6 .left),
-        le-ltb _ _ (c .before .before .if7 .left),
-        le-ltb _ _ (c .before .if8 .left),
-        lt-ltb _ _ (c .if9 .taken),
-      ),
-      λ e. absurd (omega arith),
-    )
-
-returns-10 : tie.Need-returns-10
-unfolding lowest pick too-long bad-nodes
-returns-10 c =
-    let c-if7 = c .before .before .if7 in
-    let c-if6 = c .before .before .before .if6 in
-    let c-if5 = c .before .before .before .before .if5 in
-    let c5 = c .before .before .before .before .before in
-    let c-if4 = c5 .if4 in
-    let c-if3 = c5 .before .if3 in
-    let c-if2 = c5 .before .before .if2 in
-    let c-if1 = c5 .before .before .before .if1 in (
-      simp (
-        le-ltb _ _ (c-if1 .left),
-        ne-eqb _ _ (c-if2 .left),
-        eq-eqb _ _ (c-if3 .left),
-        le-ltb _ _ (c-if4 .left),
-        le-ltb _ _ (c-if5 .left),
-        le-ltb _ _ (c-if6 .left),
-        le-ltb _ _ (c-if7 .left),
-        le-ltb _ _ (c .before .if8 .left),
-        le-ltb _ _ (c .if9 .left),
-      ),
-      λ e. allowed (c-if2 .left) (c-if1 .left) (c-if3 .left) (c-if4 .left) (c-if5 .left) (c-if6 .left) (c-if7 .left),
-    )
+    let c4 = c .before .before .before .before in
+    let a = c4 .before .before .before .before .args in
+    let e = c .wrong-table .ensures .0 _
+    (slice 4 _ (c .before .first-wrong4 .ensures) (c4 .before .before .before .too-long .ensures)
+    (slice 5 _ (c .before .before .first-wrong3 .ensures) (c4 .before .before .too-long2 .ensures)
+    (slice 7 _ (c .before .before .before .first-wrong2 .ensures) refl
+    (slice 8 [] (c4 .first-wrong .ensures) (c4 .before .too-long3 .ensures) no-slice)))) in
+    (e, λ z. allowed _ _ _ _ _ (a .limit) (a .input) (sym e ∙ z))
 
 pub wrong-slice-spec : {M : Type 1} → statement M
 wrong-slice-spec =
     tie.close
-    (tie.spec
-    returns
-    returns-2
-    returns-3
-    returns-4
-    returns-5
-    returns-6
-    returns-7
-    returns-8
-    returns-9
-    returns-10)
+    (tie.spec (λ c κs. tt) (λ c κs. tt) (λ c κs. tt) (λ c κs. tt) (λ c κs. tt) (λ c κs. tt) (λ c κs. tt) (λ c κs. tt) returns)

@@ -1,9 +1,8 @@
 -- The proof of byte_from.
 use borrow.Author.Needs.{needs}
-use native.Mathlib.Omega.{arith}
 use Prim.Native.Nat.{_+_}
 use mathlib.Core.Path.{ap, _∙_}
-use Rattle.reader.specs.From.{taken-as, not-taken, no-text}
+use Rattle.reader.specs.From.{taken-as}
 use Rattle.reader.proofs.Froms.{byte-there, byte-none}
 use Rattle.reader.proofs.byte_from.Statement.{statement}
 use Rattle.reader.proofs.byte_from.Tie as tie

@@ -1,8 +1,7 @@
 -- The proof of header_from.
 use borrow.Author.Needs.{needs}
-use native.Mathlib.Omega.{arith}
-use mathlib.Core.Path.{refl, sym, ap, _∙_}
-use Rattle.reader.specs.From.{taken-as, not-taken, no-text}
+use mathlib.Core.Path.{refl, ap, _∙_}
+use Rattle.reader.specs.From.{not-taken}
 use Rattle.reader.proofs.Froms.{header-past, header-refused, header-there}
 use Rattle.reader.proofs.header_from.Statement.{statement}
 use Rattle.reader.proofs.header_from.Tie as tie

@@ -1,8 +1,6 @@
 -- The proof of integer_from.
 use borrow.Author.Needs.{needs}
-use native.Mathlib.Omega.{arith}
-use mathlib.Core.Path.{refl, sym, ap, _∙_}
-use Rattle.reader.specs.From.{taken-as, not-taken, no-text}
+use mathlib.Core.Path.{_∙_}
 use Rattle.reader.proofs.Froms.{integer-gone, integer-cut, integer-whole, integer-refused, integer-there}
 use Rattle.reader.proofs.integer_from.Statement.{statement}
 use Rattle.reader.proofs.integer_from.Tie as tie

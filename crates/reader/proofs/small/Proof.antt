@@ -1,28 +1,46 @@
 -- The proof of small.
+use Prim.Native.Nat.{ℕ, _+_, _-_, _≤_, _<_}
 use borrow.Author.Needs.{needs}
 use native.Mathlib.Omega.{arith}
-use Rattle.reader.specs.Integers.{of-zero, of-plus}
+use mathlib.Core.Path.{_≡_, refl, sym, ap, _∙_}
+use mathlib.Core.List.{[]}
+use Rattle.definition.specs.Integer.{value, form}
+use Rattle.reader.specs.Integers.{size-of, word-of, of-zero, of-plus, size-few}
 use Rattle.reader.proofs.small.Statement.{statement}
 use Rattle.reader.proofs.small.Tie as tie
 
+-- which number n a first byte b can be
+module _ {b : ℕ} (n : ℕ) (e : form b ≡ value n) where
+  is-zero : b ≡ 0 → 0 ≡ n
+  unfolding word-of
+  is-zero z = ap (word-of []) (sym (of-zero b z) ∙ e)
+
+  not-few : b ≤ 4 → b ≡ 0
+  unfolding size-of
+  not-few h = let s : 1 + b ≡ 1 = size-few b h ∙ ap size-of e in omega arith
+
+  is-plus : 4 < b → b ≤ 127 → b - 5 ≡ n
+  unfolding word-of
+  is-plus l h = ap (word-of []) (sym (of-plus b l h) ∙ e)
+
 returns : tie.Need-returns
 returns c =
-    λ l. of-zero _ (c .if1 .taken)
+    (λ l. of-zero _ (c .if1 .taken), (λ n h e. is-zero n e (c .if1 .taken), (λ l. absurd (omega (arith, l)), omega arith)))
 
 returns-2 : tie.Need-returns-2
 returns-2 c =
-    λ l. absurd (omega arith)
+    (λ l. absurd (omega arith), (λ n h e. absurd (omega (arith, not-few n e (omega arith))), (λ l. refl, omega arith)))
 
 returns-3 : tie.Need-returns-3
 returns-3 c =
-    λ l. absurd (omega arith)
+    (λ l. absurd (omega arith), (λ n h e. absurd (omega (arith, h)), (λ l. refl, omega arith)))
 
 sub-result : tie.Need-sub-result
 sub-result c = search needs
 
 returns-4 : tie.Need-returns-4
 returns-4 c =
-    λ l. of-plus _ (omega arith) (omega arith)
+    (λ l. of-plus _ (omega arith) (omega arith), (λ n h e. is-plus n e (omega arith) h, (λ l. absurd (omega (arith, l)), omega arith)))
 
 pub small-spec : {M : Type 1} → statement M
 small-spec = tie.close (tie.spec returns returns-2 returns-3 sub-result returns-4)

@@ -1,9 +1,9 @@
 -- The proof of new.
 use borrow.Author.Needs.{needs}
-use mathlib.Core.Path.{refl}
 use mathlib.Core.List.{[]}
+use Rattle.definition.specs.Build.{wrong}
+use Rattle.lists.specs.Slices.{no-slice}
 use Rattle.arena_check.specs.Held.{tables}
-use Rattle.value_arena.proofs.Tests.{none-lowest}
 use Rattle.value_arena.proofs.Calls.{new-wrong, new-right}
 use Rattle.value_arena.proofs.new.Statement.{statement}
 use Rattle.value_arena.proofs.new.Tie as tie
@@ -12,10 +12,11 @@ wrong-table-requires : tie.Need-wrong-table-requires
 wrong-table-requires c κs = search needs
 
 returns : tie.Need-returns
+unfolding wrong
 returns c =
     let a = c .before .before .before .before .before .args in
     let T = tables (a .nodes .now) (a .references .now) (a .bytes .now) in
-    new-wrong T _ (c .before .wrong-table .ensures .0 T [] refl refl refl none-lowest) (c .if1 .taken)
+    new-wrong T _ (c .before .wrong-table .ensures .0 [] no-slice) (c .if1 .taken)
 
 zero-words-requires : tie.Need-zero-words-requires
 zero-words-requires c κs = search needs
@@ -36,10 +37,11 @@ same-length-3 : tie.Need-same-length-3
 same-length-3 c = search needs
 
 returns-2 : tie.Need-returns-2
+unfolding wrong
 returns-2 c =
     let a = c .before .before .before .before .before .before .before .before .before .before .before .before .before .before .before .before .before .args in
     let T = tables (a .nodes .now) (a .references .now) (a .bytes .now) in
-    new-right T _ (c .before .before .before .before .before .before .before .before .before .before .before .before .before .wrong-table .ensures .0 T [] refl refl refl none-lowest) (c .before .before .before .before .before .before .before .before .before .before .before .before .if1 .left) _ _ _ (c .before .before .before .before .before .before .before .before .before .before .zero-words .ensures) (c .before .before .before .before .before .before .zero-words2 .ensures) (c .before .before .zero-bytes .ensures)
+    new-right T _ (c .before .before .before .before .before .before .before .before .before .before .before .before .before .wrong-table .ensures .0 [] no-slice) (c .before .before .before .before .before .before .before .before .before .before .before .before .if1 .left) _ _ _ (c .before .before .before .before .before .before .before .before .before .before .zero-words .ensures) (c .before .before .before .before .before .before .zero-words2 .ensures) (c .before .before .zero-bytes .ensures)
 
 pub new-spec : {M : Type 1} → statement M
 new-spec =

@@ -1,0 +1,54 @@
+-- What a value's beginning and its members are, and what code that writes the beginning has to meet.
+use Prim.Native.Nat.{ℕ, zero, suc, _+_, _*_, _≤_, _<_}
+use mathlib.Core.List.{List, [], _∷_}
+use lib.Dec.{eqb}
+use lib.ListN.{length, getD}
+use Rattle.definition.specs.Run.{pure, pick}
+use Rattle.definition.specs.Kind.{INSTANCE-VARIABLES}
+use Rattle.definition.specs.Node.{width, kind}
+use Rattle.definition.specs.Arena.{Arena, node, range}
+use Rattle.definition.specs.Dump.{Writer, _>>_, write, write-elements, write-default, write-object-or-link}
+use Rattle.well_formed.specs.Right.{ListIn}
+use Rattle.writer.specs.Held.{Buffers, Goes, Refuses, stopped}
+
+-- node v is of kinds 4 to 8
+pub record IsObject (A : Arena) (v : ℕ) : Type 0 where
+  pub below : v < length (A .nodes)
+  pub kind-above : 3 < kind (node A v)
+
+-- by the answer: as `Leads` has it, but 1 says that m is done: a link, a scalar, or a string or user-defined value without variables
+abbrev pub HeadCase : Arena → ℕ → ℕ → Writer → Writer → Buffers → List ℕ → ℕ → Buffers → List ℕ → Type 0
+HeadCase A room limit m m' B c zero B' c' = Goes A room m B c m' B' c'
+HeadCase A room limit m m' B c (suc zero) B' c' = Goes A room m B c (pure tt) B' c'
+HeadCase A room limit m m' B c (suc (suc k)) B' c' = Refuses A room m B c (stopped limit k)
+
+pub record Heads (A : Arena) (room limit : ℕ) (m m' : Writer) (B : Buffers) (c : List ℕ) (r : ℕ) (B' : Buffers) (c' : List ℕ) : Type 0 where
+  pub heads : HeadCase A room limit m m' B c r B' c'
+
+-- an object's beginning, which m puts before any rest
+abbrev pub Opens : Arena → ℕ → ℕ → (Writer → Writer) → Buffers → List ℕ → ℕ → Buffers → List ℕ → Type 0
+Opens A room limit m B c r B' c' = (rest : Writer) → Heads A room limit (m rest) rest B c r B' c'
+
+-- how many words a list of n elements or pairs has, by the kind; the default, as word 6 has it
+unfoldable pub listed : ℕ → ℕ → ℕ
+listed k n = pick (eqb k 4) n (n * 2)
+
+unfoldable pub default-of : ℕ → ℕ → ℕ
+default-of k f = pick (eqb k 5) f 0
+
+-- what of a value of kinds 4 to 8 comes after its beginning: k, start, n and f are its words 0, 3, 4 and 6
+abbrev pub members-of : ℕ → Arena → (ℕ → Writer) → ℕ → ℕ → ℕ → ℕ → Writer
+members-of room A inner k start n f = write-elements inner (range (A .references) start (listed k n)) >> write-default room A inner (default-of k f)
+
+-- its list is inside the references, its default below the node count
+abbrev pub MembersIn : Arena → List ℕ → ℕ → Type 0
+MembersIn A t v = ListIn A (getD t (v * width + 3) 0) (listed (getD t (v * width) 0) (getD t (v * width + 4) 0)) × (default-of (getD t (v * width) 0) (getD t (v * width + 6) 0) ≤ length (A .nodes))
+
+-- the value after `I` where the mark f says that there is one, and then the rest
+unfoldable pub begun : ℕ → Writer → ℕ → Writer → Writer → Writer
+begun room level zero body rest = body >> rest
+begun room level (suc f) body rest = write room (INSTANCE-VARIABLES ∷ []) >> level >> body >> rest
+
+-- the bytes first given of an object that is not linked, and then the rest
+abbrev pub opened : ℕ → ℕ → List ℕ → Writer → Writer
+opened room v bs rest = write-object-or-link room v (write room bs >> rest)

@@ -1,0 +1,109 @@
+-- The needs of read_inner.
+use borrow.Author.Needs.{needs}
+use native.Mathlib.Omega.{arith}
+use Prim.Native.Nat.{_-_}
+use mathlib.Core.Path.{_≡_, refl, sym, ap}
+use Rattle.definition.specs.Run.{pick}
+use Rattle.definition.specs.Load.{head, value-of, read-byte, read-symbol-like}
+use Rattle.definition.specs.Load as D
+use Rattle.loader.proofs.Laws.{held-goes, lead-after, lead-as, goes-to}
+use Rattle.loader.proofs.Readers.{kind-read}
+use Rattle.loader.proofs.Steps.{byte-goes}
+use Rattle.value_reader.proofs.Members.{after-members, string-leaf, down-2}
+use Prim.Native.Nat.{ℕ}
+use Rattle.value_reader.proofs.read_inner.Reads as read-inner
+use Rattle.value_reader.proofs.+read_array+read_hash+read_inner+read_members+read_object+read_value+read_variables.Lts-read_inner as read-inner-lts
+use Rattle.value_reader.proofs.+read_array+read_hash+read_inner+read_members+read_object+read_value+read_variables.Proof.Common.{read-inner-at, read-inner-calls}
+
+pub element-copy-out-at : (t : ℕ) → read-inner-lts.Need-element-copy-out-at (read-inner-calls t) (read-inner-at t) read-inner.Post
+element-copy-out-at t c = search needs
+
+pub shared-slice-read-if3 : (t : ℕ) → read-inner-lts.Need-shared-slice-read-if3 (read-inner-calls t) (read-inner-at t) read-inner.Post
+shared-slice-read-if3 t c = search needs
+
+pub add-c : (t : ℕ) → read-inner-lts.Need-add-c (read-inner-calls t) (read-inner-at t) read-inner.Post
+add-c t c = search needs
+
+pub element-write-c : (t : ℕ) → read-inner-lts.Need-element-write-c (read-inner-calls t) (read-inner-at t) read-inner.Post
+element-write-c t c = search needs
+
+pub read-leaf-requires : (t : ℕ) → read-inner-lts.Need-read-leaf-requires (read-inner-calls t) (read-inner-at t) read-inner.Post
+read-leaf-requires t c κs =
+    let c7 = c .before .before .before .before .before .before .before in
+    let c16 = c7 .before .before .before .before .before .before .before .before .before in
+    (_, held-goes {m = λ room. read-byte _} {m' = λ room. _} (c16 .pre .1) (λ room. byte-goes (c7 .if2 .taken)))
+
+pub same-length : (t : ℕ) → read-inner-lts.Need-same-length (read-inner-calls t) (read-inner-at t) read-inner.Post
+same-length t c =
+    let c8 = c .before .before .before .before .before .before .before .before in
+    c8 .read-leaf .kept .1 .0
+
+pub same-length-2 : (t : ℕ) → read-inner-lts.Need-same-length-2 (read-inner-calls t) (read-inner-at t) read-inner.Post
+same-length-2 t c =
+    let c8 = c .before .before .before .before .before .before .before .before in
+    c8 .read-leaf .kept .1 .1 .0
+
+pub same-length-3 : (t : ℕ) → read-inner-lts.Need-same-length-3 (read-inner-calls t) (read-inner-at t) read-inner.Post
+same-length-3 t c =
+    let c8 = c .before .before .before .before .before .before .before .before in
+    c8 .read-leaf .kept .1 .1 .1 .0
+
+pub same-length-4 : (t : ℕ) → read-inner-lts.Need-same-length-4 (read-inner-calls t) (read-inner-at t) read-inner.Post
+same-length-4 t c =
+    let c8 = c .before .before .before .before .before .before .before .before in
+    c8 .read-leaf .kept .1 .1 .1 .1 .0
+
+pub returns : (t : ℕ) → read-inner-lts.Need-returns (read-inner-calls t) (read-inner-at t) read-inner.Post
+unfolding head pick
+returns t c =
+    let c8 = c .before .before .before .before .before .before .before .before in
+    let c-read-leaf = c8 .read-leaf in
+    let c14 = c8 .before .before .before .before .before .before in
+    let c17 = c14 .before .before .before in
+    let c25 = c17 .before .before .before .before .before .before .before .before in
+    let c-args = c25 .args in
+    let some : c-args .levels ≡ 0 → ⊥ = omega (arith, c17 .if1 .taken) in (
+      λ room limit.
+          lead-after (goes-to (ap (λ (x : ℕ). value-of (c-args .input .now) room (D.read-value (c-args .input .now) room limit (c-args .levels - 1)) x (head x)) (c14 .if3 .taken)) (kind-read limit (c-args .levels) some (c14 .before .before .if2 .taken)))
+          (c-read-leaf .ensures .0 room limit (D.read-value (c-args .input .now) room limit (c-args .levels - 1)) _ string-leaf),
+      c-read-leaf .ensures .1,
+    )
+
+pub read-members-requires : (t : ℕ) → read-inner-lts.Need-read-members-requires (read-inner-calls t) (read-inner-at t) read-inner.Post
+read-members-requires t c κs =
+    let c14 = c .before .before .before .before .before .before .before .before .before .before .before .before .before .before in
+    let c-pre = c14 .pre in
+    (down-2 _ t (c-pre .0), (omega arith, omega arith, omega arith, λ e. refl, c-pre .1))
+
+pub same-length-5 : (t : ℕ) → read-inner-lts.Need-same-length-5 (read-inner-calls t) (read-inner-at t) read-inner.Post
+same-length-5 t c =
+    let c10 = c .before .before .before .before .before .before .before .before .before .before in
+    c10 .read-members .kept .1 .0
+
+pub same-length-6 : (t : ℕ) → read-inner-lts.Need-same-length-6 (read-inner-calls t) (read-inner-at t) read-inner.Post
+same-length-6 t c =
+    let c10 = c .before .before .before .before .before .before .before .before .before .before in
+    c10 .read-members .kept .1 .1 .0
+
+pub same-length-7 : (t : ℕ) → read-inner-lts.Need-same-length-7 (read-inner-calls t) (read-inner-at t) read-inner.Post
+same-length-7 t c =
+    let c10 = c .before .before .before .before .before .before .before .before .before .before in
+    c10 .read-members .kept .1 .1 .1 .0
+
+pub same-length-8 : (t : ℕ) → read-inner-lts.Need-same-length-8 (read-inner-calls t) (read-inner-at t) read-inner.Post
+same-length-8 t c =
+    let c10 = c .before .before .before .before .before .before .before .before .before .before in
+    c10 .read-members .kept .1 .1 .1 .1 .0
+
+pub same-length-9 : (t : ℕ) → read-inner-lts.Need-same-length-9 (read-inner-calls t) (read-inner-at t) read-inner.Post
+same-length-9 t c =
+    let c10 = c .before .before .before .before .before .before .before .before .before .before in
+    c10 .read-members .kept .1 .1 .1 .1 .1 .0
+
+pub returns-2 : (t : ℕ) → read-inner-lts.Need-returns-2 (read-inner-calls t) (read-inner-at t) read-inner.Post
+returns-2 t c =
+    let c10 = c .before .before .before .before .before .before .before .before .before .before in
+    let c25 = c10 .before .before .before .before .before .before .before .before .before .before .before .before .before .before .before in
+    let c-args = c25 .args in
+    let k = c10 .read-members .ensures in
+    (λ room limit. lead-as (sym (after-members (read-symbol-like (c-args .input .now) room) (D.read-value (c-args .input .now) room limit (c-args .levels)) 2 0)) (k .0 room limit), λ l. k .1 l .1 refl)

@@ -1,0 +1,2 @@
+-- Laws for the proofs of the readers of values.
+mod Members

@@ -1,0 +1,2 @@
+-- What the readers of values read.
+pub mod Root

@@ -1,0 +1,115 @@
+-- The bytes of an integer: data bytes, and how many they are.
+use Prim.Native.Nat.{ℕ, zero, suc, _+_, _-_, _/_, _%_, _≤_, _<_}
+use native.Mathlib.Omega.{arith}
+use native.Mathlib.Numerals.{add-one}
+use native.Mathlib.Nat.{add-zero, sub-zero}
+use mathlib.Core.Bool.{Bool, true, false}
+use mathlib.Core.Path.{_≡_, refl, sym, ap, _∙_}
+use mathlib.Core.List.{List, [], _∷_}
+use lib.Count.{leading-top}
+use lib.Dec.{leb, ltb}
+use lib.ListN.{length, set}
+use lib.Seq.{sets}
+use borrow.Author.Tests.{lt-ltb, le-ltb, le-leb, lt-leb, eq-eqb, ne-eqb, leb-true, leb-false, ltb-true, ltb-false}
+use Rattle.definition.specs.Run.{pick}
+use Rattle.definition.specs.Integer.{integer-bytes, low-bytes, fewest}
+use Rattle.lists.specs.Words.{length-low}
+
+-- ---- storing the low bytes
+
+pub low-start : (out : List ℕ) (at n v : ℕ) → sets out at (low-bytes n v) ≡ sets out (at + 0) (low-bytes (n - 0) v)
+low-start out at n v = rw (add-zero, sub-zero) refl
+
+pub low-on : (out : List ℕ) (at n i w : ℕ) → i < n → sets out (at + i) (low-bytes (n - i) w) ≡ sets (set out (at + i) (w % 256)) (at + (i + 1)) (low-bytes (n - (i + 1)) (w / 256))
+unfolding low-bytes
+low-on out at n i w h =
+    let a : n - i ≡ suc (n - (i + 1)) = omega arith in
+    let b : at + (i + 1) ≡ suc (at + i) = omega arith in
+    rw (a, b) refl
+
+pub low-end : (out : List ℕ) (at n i w : ℕ) → n ≤ i → sets out (at + i) (low-bytes (n - i) w) ≡ out
+unfolding low-bytes
+low-end out at n i w h =
+    let a : n - i ≡ 0 = omega arith in
+    rw a refl
+
+-- ---- how many data bytes
+
+pub fewest-most : (v : ℕ) → fewest v ≤ 4
+unfolding fewest
+fewest-most v = omega arith
+
+pub fewest-some : (v : ℕ) → 0 < v → v < 4294967296 → 1 ≤ fewest v
+unfolding fewest
+fewest-some v h l =
+    let (j, e, lo, hi) = leading-top 32 v h l in
+    omega (arith, e)
+
+-- ---- the five forms
+
+module _ (w : ℕ) where
+  pub bytes-zero : w ≡ 0 → integer-bytes w ≡ 0 ∷ []
+  unfolding integer-bytes pick
+  bytes-zero e = rw (eq-eqb w 0 e) refl
+
+  pub bytes-small : (w ≡ 0 → ⊥) → w ≤ 122 → integer-bytes w ≡ (w + 5) ∷ []
+  unfolding integer-bytes pick
+  bytes-small n h = rw (ne-eqb w 0 n, le-leb w 122 h) refl
+
+  bytes-large : 122 < w → w < 2147483648 → integer-bytes w ≡ fewest w ∷ low-bytes (fewest w) w
+  unfolding integer-bytes pick
+  bytes-large h l = rw (ne-eqb w 0 (omega arith), lt-leb w 122 h, lt-ltb w 2147483648 l) refl
+
+  bytes-negative : 2147483648 ≤ w → w < 4294967173 → integer-bytes w ≡ (256 - fewest (4294967295 - w)) ∷ low-bytes (fewest (4294967295 - w)) w
+  unfolding integer-bytes pick
+  bytes-negative h l = rw (ne-eqb w 0 (omega arith), lt-leb w 122 (omega arith), le-ltb w 2147483648 h, lt-ltb w 4294967173 l) refl
+
+  pub bytes-last : 4294967173 ≤ w → integer-bytes w ≡ ((w - 5) % 256) ∷ []
+  unfolding integer-bytes pick
+  bytes-last h = rw (ne-eqb w 0 (omega arith), lt-leb w 122 (omega arith), le-ltb w 2147483648 (omega arith), le-ltb w 4294967173 h) refl
+
+-- the same with a size byte and a number of bytes that were found
+pub large-as : (w k n : ℕ) → 122 < w → w < 2147483648 → k ≡ fewest w → n ≡ k → integer-bytes w ≡ k ∷ low-bytes n w
+large-as w k n h l e f = bytes-large w h l ∙ λ i. sym e i ∷ low-bytes (sym (f ∙ e) i) w
+
+pub negative-as : (w k n : ℕ) → 2147483648 ≤ w → w < 4294967173 → k ≡ fewest (4294967295 - w) → n ≡ k → integer-bytes w ≡ (256 - k) ∷ low-bytes n w
+negative-as w k n h l e f = bytes-negative w h l ∙ λ i. (256 - sym e i) ∷ low-bytes (sym (f ∙ e) i) w
+
+-- ---- how many bytes
+
+pub size-small : (w : ℕ) → w ≤ 122 → 1 ≡ length (integer-bytes w)
+size-small zero h = sym (ap length (bytes-zero 0 refl))
+size-small (suc w) h = sym (ap length (bytes-small (suc w) (omega arith) h))
+
+pub size-last : (w : ℕ) → 4294967173 ≤ w → 1 ≡ length (integer-bytes w)
+size-last w h = sym (ap length (bytes-last w h))
+
+pub size-large : (w k n : ℕ) → 122 < w → w < 2147483648 → k ≡ fewest w → n ≡ k → n + 1 ≡ length (integer-bytes w)
+size-large w k n h l e f = sym (ap length (large-as w k n h l e f) ∙ omega (arith, length-low n w))
+
+pub size-negative : (w k n : ℕ) → 2147483648 ≤ w → w < 4294967173 → k ≡ fewest (4294967295 - w) → n ≡ k → n + 1 ≡ length (integer-bytes w)
+size-negative w k n h l e f = sym (ap length (negative-as w k n h l e f) ∙ omega (arith, length-low n w))
+
+-- an integer takes five bytes at most
+pub size-most : (w : ℕ) → length (integer-bytes w) ≤ 5
+size-most w = small (leb w 122) refl
+  where
+    last : (b : Bool) → ltb w 4294967173 ≡ b → 2147483648 ≤ w → length (integer-bytes w) ≤ 5
+    last true e h = omega (arith, size-negative w _ _ h (ltb-true w 4294967173 e) refl refl, fewest-most (4294967295 - w))
+    last false e h = omega (arith, size-last w (ltb-false w 4294967173 e))
+
+    large : (b : Bool) → ltb w 2147483648 ≡ b → 122 < w → length (integer-bytes w) ≤ 5
+    large true e h = omega (arith, size-large w _ _ h (ltb-true w 2147483648 e) refl refl, fewest-most w)
+    large false e h = last (ltb w 4294967173) refl (ltb-false w 2147483648 e)
+
+    small : (b : Bool) → leb w 122 ≡ b → length (integer-bytes w) ≤ 5
+    small true e = omega (arith, size-small w (leb-true w 122 e))
+    small false e = large (ltb w 2147483648) refl (leb-false w 122 e)
+
+-- a byte stored, and others after it
+pub stored-after : (out : List ℕ) {out' : List ℕ} (at k : ℕ) (bs : List ℕ) → out' ≡ sets (set out at k) (at + 1) bs → out' ≡ sets out at (k ∷ bs)
+stored-after out at k bs e = e ∙ ap (λ (i : ℕ). sets (set out at k) i bs) (add-one at)
+
+-- one byte stored where that is the integer
+pub stored-as : {x : ℕ} {out' : List ℕ} (w : ℕ) (out : List ℕ) (at : ℕ) → integer-bytes w ≡ x ∷ [] → out' ≡ set out at x → (out' ≡ sets out at (integer-bytes w)) × (1 ≡ length (integer-bytes w))
+stored-as w out at e p = (p ∙ ap (sets out at) (sym e), sym (ap length e))

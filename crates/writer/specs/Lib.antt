@@ -1,0 +1,3 @@
+-- What the writers' contracts say, and how writers compose.
+pub mod Held
+pub mod Laws
