@@ -506,7 +506,7 @@ pub fn read_leaf(
 
 // ---- runs of integers and symbol links
 
-// The entry that a link of the one byte b names, of `known` ones, else `known`.
+// The entry that a link of the one byte b names, of `known` ones; where it names none of them, a number from `known` on.
 fn link_index(b: u8, known: usize) -> usize
     ensures { λ r. ⌜ (r < known → form b ≡ value r) ⌝ }
     ensures { λ r. ⌜ ((n : ℕ) → Link b known n → r ≡ n) ⌝ }

@@ -124,10 +124,11 @@ ShortCase A room m sc out c (suc p) out' = Goes A room m (buffers sc out) c (pur
 pub record Shorts (A : Arena) (room : ℕ) (m : Writer) (sc out c : List ℕ) (p : ℕ) (out' : List ℕ) : Type 0 where
   pub shorts : ShortCase A room m sc out c p out'
 
--- node v is an integer, or a symbol with a number, and six bytes are free from `at` on in an output of that length
+-- node v is an integer, or a symbol with a number
 abbrev pub ShortKind : List ℕ → List ℕ → ℕ → Type 0
 ShortKind nodes scratch v = (getD nodes (v * width) 0 ≡ 2) ⊎ ((getD nodes (v * width) 0 ≡ 3) × (getD scratch v 0 ≡ 0 → ⊥))
 
+-- and six bytes are free from `at` on, in an output of `size` bytes: it is written by `write_short`
 pub record Short (nodes scratch : List ℕ) (size at v : ℕ) : Type 0 where
   pub free : at + 6 ≤ size
   pub kind : ShortKind nodes scratch v
