@@ -112,8 +112,8 @@ enum ruby_marshal_answer {
 enum ruby_marshal_word {
     RUBY_MARSHAL_WORD_KIND = 0,
     RUBY_MARSHAL_WORD_VALUE = 1,     /* bool: 0 or 1; fixnum: 32 bits in two's complement */
-    RUBY_MARSHAL_WORD_START = 1,     /* symbol, string, user-defined: where its bytes start, */
-    RUBY_MARSHAL_WORD_LENGTH = 2,    /*                               and how many they are */
+    RUBY_MARSHAL_WORD_START = 1,     /* symbol, string, user-defined, float: where its bytes start, */
+    RUBY_MARSHAL_WORD_LENGTH = 2,    /*                                      and how many they are */
     RUBY_MARSHAL_WORD_LIST = 3,      /* where its list starts among the references, */
     RUBY_MARSHAL_WORD_COUNT = 4,     /* and its number of elements (array) or pairs (hash, object, variables) */
     RUBY_MARSHAL_WORD_NAME = 5,      /* object, user-defined: the node of its class's name */
@@ -131,7 +131,8 @@ enum ruby_marshal_kind {
     RUBY_MARSHAL_HASH = 5,
     RUBY_MARSHAL_OBJECT = 6,
     RUBY_MARSHAL_STRING = 7,
-    RUBY_MARSHAL_USER_DEFINED = 8
+    RUBY_MARSHAL_USER_DEFINED = 8,
+    RUBY_MARSHAL_FLOAT = 9
 };
 
 /* ---- load and dump ---- */
@@ -333,6 +334,15 @@ uint32_t ruby_marshal_create_user_defined(
     uint8_t *bytes, size_t bytes_length,
     size_t node_count, size_t reference_count, size_t byte_count, uint32_t root,
     uint32_t name,
+    const uint8_t *value, size_t value_length,
+    uint64_t *answer, size_t answer_length);
+
+/* A float; value is its text, which is kept and not read: any bytes, also none. */
+uint32_t ruby_marshal_create_float(
+    uint32_t *nodes, size_t nodes_length,
+    const uint32_t *references, size_t references_length,
+    uint8_t *bytes, size_t bytes_length,
+    size_t node_count, size_t reference_count, size_t byte_count, uint32_t root,
     const uint8_t *value, size_t value_length,
     uint64_t *answer, size_t answer_length);
 

@@ -139,7 +139,7 @@ static bool untouched(void)
 
 enum call {
     LOAD, DUMP, ROOT, KIND, GET, GET_SYMBOL, NEW, REPLACE_ROOT, CREATE_NIL, CREATE_BOOL, CREATE_FIXNUM, CREATE_SYMBOL,
-    CREATE_NEW_SYMBOL, CREATE_ARRAY, CREATE_HASH, CREATE_OBJECT, CREATE_STRING, CREATE_USER_DEFINED, CALLS
+    CREATE_NEW_SYMBOL, CREATE_ARRAY, CREATE_HASH, CREATE_OBJECT, CREATE_STRING, CREATE_USER_DEFINED, CREATE_FLOAT, CALLS
 };
 
 static const size_t answer_words[CALLS] = {
@@ -147,7 +147,7 @@ static const size_t answer_words[CALLS] = {
     RUBY_MARSHAL_GET_SYMBOL_WORDS, RUBY_MARSHAL_NEW_WORDS, RUBY_MARSHAL_CREATE_WORDS, RUBY_MARSHAL_CREATE_WORDS,
     RUBY_MARSHAL_CREATE_WORDS, RUBY_MARSHAL_CREATE_WORDS, RUBY_MARSHAL_CREATE_WORDS, RUBY_MARSHAL_CREATE_WORDS,
     RUBY_MARSHAL_CREATE_WORDS, RUBY_MARSHAL_CREATE_WORDS, RUBY_MARSHAL_CREATE_WORDS, RUBY_MARSHAL_CREATE_WORDS,
-    RUBY_MARSHAL_CREATE_WORDS
+    RUBY_MARSHAL_CREATE_WORDS, RUBY_MARSHAL_CREATE_WORDS
 };
 
 /* What the functions take besides: a limit or handle, a number, words, bytes. */
@@ -190,6 +190,7 @@ static uint32_t call(enum call which, const struct lent *l, struct given g)
     case CREATE_STRING: return ruby_marshal_create_string(TABLES, COUNTS, g.string, g.string_length, ANSWER);
     case CREATE_USER_DEFINED:
         return ruby_marshal_create_user_defined(TABLES, COUNTS, g.number, g.string, g.string_length, ANSWER);
+    case CREATE_FLOAT: return ruby_marshal_create_float(TABLES, COUNTS, g.string, g.string_length, ANSWER);
     case CALLS: break;
     }
     return 99;
@@ -285,8 +286,8 @@ static bool zero(const void *from, size_t size)
 /* Every kind is built, looked at, dumped, loaded, and dumped again. */
 static void build_dump_load(void)
 {
-    struct lent l = lend(200, 12 * 7, 8, 16, 12, 12, 200);
-    uint32_t nil, yes, number, name, other, list[3], pairs[2], array, hash, object, string, user;
+    struct lent l = lend(200, 13 * 7, 8, 16, 13, 13, 200);
+    uint32_t nil, yes, number, name, other, list[4], pairs[2], array, hash, object, string, user, real;
     size_t written;
 
     accepted(NEW, &l, give(0));
@@ -299,8 +300,9 @@ static void build_dump_load(void)
     accepted(CREATE_SYMBOL, &l, give_string(0, "sand"));
     EXPECT(l.answer[RUBY_MARSHAL_HANDLE] == name && l.counts.nodes == name + 1);
     other = made(CREATE_NEW_SYMBOL, &l, give_string(0, "sand"));
-    list[0] = nil, list[1] = yes, list[2] = number;
-    array = made(CREATE_ARRAY, &l, give_list(0, list, 3));
+    real = made(CREATE_FLOAT, &l, give_string(0, "1.25"));
+    list[0] = nil, list[1] = yes, list[2] = number, list[3] = real;
+    array = made(CREATE_ARRAY, &l, give_list(0, list, 4));
     pairs[0] = name, pairs[1] = array;
     hash = made(CREATE_HASH, &l, give_list(nil + 1, pairs, 2));
     string = made(CREATE_STRING, &l, give_string(0, "dry"));
@@ -316,6 +318,12 @@ static void build_dump_load(void)
     EXPECT(l.answer[RUBY_MARSHAL_VALUE] == RUBY_MARSHAL_USER_DEFINED);
     accepted(KIND, &l, give(string));
     EXPECT(l.answer[RUBY_MARSHAL_VALUE] == RUBY_MARSHAL_STRING);
+    accepted(KIND, &l, give(real));
+    EXPECT(l.answer[RUBY_MARSHAL_VALUE] == RUBY_MARSHAL_FLOAT);
+    accepted(GET, &l, give(real));
+    EXPECT(l.answer[RUBY_MARSHAL_WORDS + RUBY_MARSHAL_WORD_LENGTH] == 4);
+    EXPECT(memcmp(l.bytes.at + l.answer[RUBY_MARSHAL_WORDS + RUBY_MARSHAL_WORD_START], "1.25", 4) == 0);
+    EXPECT(zero(l.answer + RUBY_MARSHAL_WORDS + RUBY_MARSHAL_WORD_LIST, 4 * 8));
     accepted(GET, &l, give(number));
     EXPECT(l.answer[RUBY_MARSHAL_WORDS + RUBY_MARSHAL_WORD_KIND] == RUBY_MARSHAL_FIXNUM);
     EXPECT(ruby_marshal_fixnum((uint32_t)l.answer[RUBY_MARSHAL_WORDS + RUBY_MARSHAL_WORD_VALUE]) == INT32_MIN);
@@ -325,20 +333,23 @@ static void build_dump_load(void)
     accepted(GET_SYMBOL, &l, give(other));
     EXPECT(l.answer[RUBY_MARSHAL_LENGTH] == 4 && memcmp(l.bytes.at + l.answer[RUBY_MARSHAL_START], "sand", 4) == 0);
 
-    refused(GET, &l, give(12), RUBY_MARSHAL_BAD_HANDLE, 12, 0);
+    refused(GET, &l, give(13), RUBY_MARSHAL_BAD_HANDLE, 13, 0);
     EXPECT(zero(l.answer + RUBY_MARSHAL_WORDS, 7 * 8));
     refused(KIND, &l, give(UINT32_MAX), RUBY_MARSHAL_BAD_HANDLE, UINT32_MAX, 0);
     refused(GET_SYMBOL, &l, give(string), RUBY_MARSHAL_WRONG_KIND, string, 0);
-    refused(REPLACE_ROOT, &l, give(12), RUBY_MARSHAL_BAD_HANDLE, 12, 0);
+    refused(GET_SYMBOL, &l, give(real), RUBY_MARSHAL_WRONG_KIND, real, 0);
+    refused(REPLACE_ROOT, &l, give(13), RUBY_MARSHAL_BAD_HANDLE, 13, 0);
     EXPECT(ruby_marshal_counts_of(l.answer).root == object && l.answer[RUBY_MARSHAL_HANDLE] == 0);
     refused(CREATE_OBJECT, &l, give(string), RUBY_MARSHAL_WRONG_KIND, string, 0);
     refused(CREATE_USER_DEFINED, &l, give_string(nil, ""), RUBY_MARSHAL_WRONG_KIND, nil, 0);
     refused(CREATE_HASH, &l, give_list(0, pairs, 1), RUBY_MARSHAL_BAD_TABLES, RUBY_MARSHAL_SLICE_LIST, 0);
     refused(CREATE_HASH, &l, give(UINT32_MAX), RUBY_MARSHAL_BAD_HANDLE, (int64_t)UINT32_MAX - 1, 0);
     refused(CREATE_STRING, &l, give_string(0, "0123456789abcdef"), RUBY_MARSHAL_NO_SPACE, RUBY_MARSHAL_SLICE_BYTES, 0);
+    refused(CREATE_FLOAT, &l, give_string(0, "1"), RUBY_MARSHAL_NO_SPACE, RUBY_MARSHAL_SLICE_BYTES, 0);
     refused(CREATE_ARRAY, &l, give_list(0, list, 3), RUBY_MARSHAL_NO_SPACE, RUBY_MARSHAL_SLICE_REFERENCES, 0);
     accepted(CREATE_NIL, &l, give(0));
     refused(CREATE_NIL, &l, give(0), RUBY_MARSHAL_NO_SPACE, RUBY_MARSHAL_SLICE_NODES, 0);
+    refused(CREATE_FLOAT, &l, give(0), RUBY_MARSHAL_NO_SPACE, RUBY_MARSHAL_SLICE_NODES, 0);
 
     accepted(DUMP, &l, give(RUBY_MARSHAL_LIMIT));
     written = (size_t)l.answer[RUBY_MARSHAL_WRITTEN];
@@ -402,7 +413,7 @@ static void refusals(void)
         memset(l.nodes.at, 0, l.nodes.length * 4);
         refused(ROOT, &l, give(0), RUBY_MARSHAL_BAD_ARENA, -1, 0);
         l.counts.nodes = 2;
-        l.nodes.at[7] = 9;
+        l.nodes.at[7] = 99;
         refused(DUMP, &l, give(1), RUBY_MARSHAL_BAD_ARENA, 1, 0);
     }
 }

@@ -1,7 +1,8 @@
 /*
  * Prints the ingredients of a recipe file, or why it is refused: the refusal's number, name and details.
  *
- * An ingredient is a name with an amount: a pair of a symbol and an integer in a hash, or an array of the two, as a step has.
+ * An ingredient is a name with an amount: a pair of a symbol and an integer or float in a hash, or an array of the two, as a step
+ * has. A float is printed by its text.
  *
  * usage: ingredients FILE
  */
@@ -28,15 +29,34 @@ static const uint32_t *node(uint32_t handle)
     return nodes + (size_t)handle * RUBY_MARSHAL_NODE_WORDS;
 }
 
+/* The bytes of a node that has some. */
+static void text(const uint32_t *n)
+{
+    fwrite(bytes + n[RUBY_MARSHAL_WORD_START], 1, n[RUBY_MARSHAL_WORD_LENGTH], stdout);
+}
+
 static void ingredient(uint32_t name, uint32_t amount)
 {
     const uint32_t *n = node(name);
     const uint32_t *a = node(amount);
-    if (n[RUBY_MARSHAL_WORD_KIND] == RUBY_MARSHAL_SYMBOL && a[RUBY_MARSHAL_WORD_KIND] == RUBY_MARSHAL_FIXNUM) {
-        printf("%11" PRId32 " ", ruby_marshal_fixnum(a[RUBY_MARSHAL_WORD_VALUE]));
-        fwrite(bytes + n[RUBY_MARSHAL_WORD_START], 1, n[RUBY_MARSHAL_WORD_LENGTH], stdout);
-        putchar('\n');
+    uint32_t i;
+    if (n[RUBY_MARSHAL_WORD_KIND] != RUBY_MARSHAL_SYMBOL)
+        return;
+    switch (a[RUBY_MARSHAL_WORD_KIND]) {
+    case RUBY_MARSHAL_FIXNUM:
+        printf("%11" PRId32, ruby_marshal_fixnum(a[RUBY_MARSHAL_WORD_VALUE]));
+        break;
+    case RUBY_MARSHAL_FLOAT:
+        for (i = a[RUBY_MARSHAL_WORD_LENGTH]; i < 11; i++)
+            putchar(' ');
+        text(a);
+        break;
+    default:
+        return;
     }
+    putchar(' ');
+    text(n);
+    putchar('\n');
 }
 
 int main(int argc, char **argv)

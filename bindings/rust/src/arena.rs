@@ -9,7 +9,7 @@ pub struct Tables<'t> {
     pub nodes: &'t mut [u32],
     /// Lists of nodes.
     pub references: &'t mut [u32],
-    /// Names and strings.
+    /// Names, strings and the texts of floats.
     pub bytes: &'t mut [u8],
 }
 
@@ -20,7 +20,8 @@ impl Tables<'_> {
     }
 }
 
-/// Two lists that a load works with: an entry for each symbol, and for each array, hash, object, string and user-defined value.
+/// Two lists that a load works with: an entry for each symbol, and for each array, hash, object, string, user-defined value and
+/// float.
 pub struct Lists<'l> {
     /// Symbols, repeated ones too.
     pub symbols: &'l mut [u32],

@@ -137,6 +137,13 @@ impl<'t> Builder<'t> {
         let created = calls::create_user_defined(t.nodes, t.references, t.bytes, self.counts, name.number(), value);
         self.created(created)
     }
+
+    /// A float with that text, which is kept and not read.
+    pub fn create_float(&mut self, value: &[u8]) -> Result<Handle, Refusal> {
+        let t = &mut self.tables;
+        let created = calls::create_float(t.nodes, t.references, t.bytes, self.counts, value);
+        self.created(created)
+    }
 }
 
 impl fmt::Debug for Builder<'_> {

@@ -187,3 +187,8 @@ pub fn create_user_defined(
 ) -> Created {
     created(sys::create_user_defined(nodes, references, bytes, counts, name, value))
 }
+
+/// A float with that text.
+pub fn create_float(nodes: &mut [u32], references: &[u32], bytes: &mut [u8], counts: Counts, value: &[u8]) -> Created {
+    created(sys::create_float(nodes, references, bytes, counts, value))
+}

@@ -51,7 +51,7 @@ pub use builder::Builder;
 #[cfg(feature = "alloc")]
 pub use owned::OwnedTables;
 pub use refusal::{Fault, Refusal, Slice};
-pub use value::{Array, Hash, Kind, Members, Node, Nodes, Object, Pairs, Text, UserDefined, Value, Variables};
+pub use value::{Array, Float, Hash, Kind, Members, Node, Nodes, Object, Pairs, Text, UserDefined, Value, Variables};
 
 /// The greatest limit: levels of nesting.
 pub const MAX_LIMIT: u32 = 128;

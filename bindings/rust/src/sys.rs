@@ -176,6 +176,15 @@ mod archive {
             value: *const u8, value_length: usize,
             answer: *mut u64, answer_length: usize,
         ) -> u32;
+
+        pub fn ruby_marshal_create_float(
+            nodes: *mut u32, nodes_length: usize,
+            references: *const u32, references_length: usize,
+            bytes: *mut u8, bytes_length: usize,
+            node_count: usize, reference_count: usize, byte_count: usize, root: u32,
+            value: *const u8, value_length: usize,
+            answer: *mut u64, answer_length: usize,
+        ) -> u32;
     }
 }
 
@@ -512,6 +521,22 @@ pub fn create_user_defined(
             bytes.as_mut_ptr(), bytes.len(),
             counts.nodes, counts.references, counts.bytes, counts.root,
             name,
+            value.as_ptr(), value.len(),
+            words.as_mut_ptr(), words.len(),
+        )
+    };
+    Told { number, words }
+}
+
+pub fn create_float(nodes: &mut [u32], references: &[u32], bytes: &mut [u8], counts: Counts, value: &[u8]) -> Told<7> {
+    let mut words = [0; 7];
+    // SAFETY: each pointer and length are those of one live reference; `nodes`, `bytes` are `&mut`, `words` is a local.
+    let number = unsafe {
+        archive::ruby_marshal_create_float(
+            nodes.as_mut_ptr(), nodes.len(),
+            references.as_ptr(), references.len(),
+            bytes.as_mut_ptr(), bytes.len(),
+            counts.nodes, counts.references, counts.bytes, counts.root,
             value.as_ptr(), value.len(),
             words.as_mut_ptr(), words.len(),
         )

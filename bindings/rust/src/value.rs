@@ -36,6 +36,8 @@ pub enum Kind {
     String,
     /// A value of a class with a dump method of its own: the class's name and the bytes that it wrote.
     UserDefined,
+    /// A float: its text.
+    Float,
 }
 
 /// A node's value.
@@ -59,6 +61,8 @@ pub enum Value<'a> {
     String(Text<'a>),
     /// A user-defined value.
     UserDefined(UserDefined<'a>),
+    /// A float.
+    Float(Float<'a>),
 }
 
 /// A node of an arena.
@@ -68,7 +72,7 @@ pub struct Node<'a> {
     handle: u32,
 }
 
-// A node with its words: what the views of kinds 4 to 8 are.
+// A node with its words: what the views of kinds 4 to 9 are.
 #[derive(Clone, Copy)]
 struct Row<'a> {
     node: Node<'a>,
@@ -111,6 +115,7 @@ impl<'a> Node<'a> {
             6 => Kind::Object,
             7 => Kind::String,
             8 => Kind::UserDefined,
+            9 => Kind::Float,
             kind => unreachable!("kind {kind} in a well formed arena"),
         }
     }
@@ -129,6 +134,7 @@ impl<'a> Node<'a> {
             Kind::Object => Value::Object(Object(row)),
             Kind::String => Value::String(Text(row)),
             Kind::UserDefined => Value::UserDefined(UserDefined(row)),
+            Kind::Float => Value::Float(Float(row)),
         }
     }
 
@@ -171,6 +177,8 @@ as_kind! {
     as_string String Text<'a>;
     /// The user-defined value, if it is one.
     as_user_defined UserDefined UserDefined<'a>;
+    /// The float, if it is one.
+    as_float Float Float<'a>;
 }
 
 impl fmt::Debug for Node<'_> {
@@ -224,7 +232,7 @@ impl<'a> Row<'a> {
     }
 }
 
-// What every view of kinds 4 to 8 has.
+// What every view of kinds 4 to 9 has.
 macro_rules! view {
     ($(#[$doc:meta] $name:ident,)*) => {$(
         #[$doc]
@@ -264,6 +272,8 @@ view! {
     Text,
     /// A user-defined value's class, bytes and instance variables.
     UserDefined,
+    /// A float's text.
+    Float,
 }
 
 impl<'a> Array<'a> {
@@ -404,6 +414,14 @@ impl<'a> UserDefined<'a> {
     #[inline]
     pub fn variables(self) -> Option<Variables<'a>> {
         self.0.variable_list()
+    }
+}
+
+impl<'a> Float<'a> {
+    /// The float's text, as it was written: the archive keeps any bytes.
+    #[inline]
+    pub fn bytes(self) -> &'a [u8] {
+        self.0.bytes()
     }
 }
 

@@ -1,10 +1,10 @@
-//! The corpus of document 01's answers, through the calls on slices and through tables, arenas and builders.
+//! The corpora of the documents' answers, through the calls on slices and through tables, arenas and builders.
 //!
-//! RUBY_MARSHAL_CORPUS names its folder. Each test says how many cases it ran.
+//! RUBY_MARSHAL_CORPUS names their folders. Each test says how many cases it ran.
 #![cfg(feature = "alloc")]
 mod common;
 
-use common::{corpus, junk, junk_bytes, numbers, padded, Case, Json};
+use common::{corpus, junk, junk_bytes, numbers, padded, Case, Json, LATER};
 use ruby_marshal_tables::{
     calls, load_prefix, Arena, Builder, Counts, Handle, Lists, Node, OwnedTables, Refusal, Slice, Tables, Value, MAX_LIMIT,
 };
@@ -100,6 +100,7 @@ fn said(node: Node) -> Said {
             let variables = user.variables().map(|v| v.pairs().flat_map(flat).collect());
             (8, 0, Some(user.bytes().into()), variables, number(user.name_node()), 0)
         }
+        Value::Float(float) => (9, 0, Some(float.bytes().into()), None, 0, 0),
     }
 }
 
@@ -115,7 +116,8 @@ fn words_say(words: &[u32], references: &[u32], bytes: &[u8]) -> Said {
         5 => (5, 0, None, list(2), 0, words[6]),
         6 => (6, 0, None, list(2), words[5], 0),
         7 => (7, 0, bytes(), variables(), 0, 0),
-        _ => (8, 0, bytes(), variables(), words[5], 0),
+        8 => (8, 0, bytes(), variables(), words[5], 0),
+        _ => (9, 0, bytes(), None, 0, 0),
     }
 }
 
@@ -187,6 +189,11 @@ fn load_list() {
 #[test]
 fn saved() {
     load_file("saved");
+}
+
+#[test]
+fn load_later() {
+    load_file(LATER);
 }
 
 // ---- dump
@@ -281,6 +288,7 @@ fn call(case: &Case, n: &mut [u32], r: &mut [u32], b: &mut [u8]) -> Told {
         "create_object" => created(calls::create_object(n, r, b, c, word(0), &args[1].words())),
         "create_string" => created(calls::create_string(n, r, b, c, &args[0].bytes())),
         "create_user_defined" => created(calls::create_user_defined(n, r, b, c, word(0), &args[1].bytes())),
+        "create_float" => created(calls::create_float(n, r, b, c, &args[0].bytes())),
         other => panic!("function {other}"),
     }
 }
@@ -326,6 +334,7 @@ fn build(case: &Case, builder: &mut Builder) -> Option<Result<Vec<u32>, Refusal>
         "create_object" => builder.create_object(handle(0), &pairs(&args[1])?),
         "create_string" => builder.create_string(&args[0].bytes()),
         "create_user_defined" => builder.create_user_defined(handle(0), &args[1].bytes()),
+        "create_float" => builder.create_float(&args[0].bytes()),
         other => panic!("function {other}"),
     };
     Some(made.map(|handle| vec![handle.number()]))

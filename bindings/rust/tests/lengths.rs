@@ -148,6 +148,7 @@ fn getters_and_builders_over_every_length() {
         assert_eq!(calls::create_symbol(&mut n.clone(), &r, &mut b, c, b"").answer, room);
         assert_eq!(calls::create_new_symbol(&mut n.clone(), &r, &mut b, c, b"").answer, room);
         assert_eq!(calls::create_string(&mut n.clone(), &r, &mut b, c, b"ab").answer, room);
+        assert_eq!(calls::create_float(&mut n.clone(), &r, &mut b, c, b"1.").answer, room);
         assert_eq!(calls::create_array(&mut n.clone(), &mut r, &b, c, &[0, 0]).answer, room);
         for pairs in 0..=3 {
             let list = vec![0; pairs];
@@ -179,7 +180,7 @@ fn getters_and_builders_over_every_length() {
         }
         let begun = Builder::new(Tables { nodes: &mut n, references: &mut r, bytes: &mut b }).map(|_| ());
         assert_eq!(begun, if wrong { Err(Refusal::BadTables(Slice::Nodes)) } else { Ok(()) });
-        calls_made += 14;
+        calls_made += 15;
     }
     println!("getters and builders: {calls_made} calls");
 }

@@ -10,9 +10,10 @@ use ruby_marshal_tables::{
 use std::error::Error;
 
 // One node of each kind in an array, with a shared string, a default, and variables on a string and a user-defined value.
-const EVERY_KIND: &[u8] = b"\x04\x08[\x11\
+const EVERY_KIND: &[u8] = b"\x04\x08[\x12\
     0TFi\x02\x6c\x02i\xfa:\x09sand[\x07i\x06i\x07{\x06:\x08key\"\x08abc}\x06;\x06i\x08T\
-    o:\x0bRecipe\x07:\x0c@number;\x06:\x0a@done0I\"\x08xyz\x06:\x06ETIu:\x0aStamp\x07\x01\x02\x06;\x0aF";
+    o:\x0bRecipe\x07:\x0c@number;\x06:\x0a@done0I\"\x08xyz\x06:\x06ETIu:\x0aStamp\x07\x01\x02\x06;\x0aF\
+    f\x091.25";
 
 fn value_text(node: Node) -> String {
     let bytes = |b: &[u8]| String::from_utf8_lossy(b).into_owned();
@@ -40,6 +41,7 @@ fn value_text(node: Node) -> String {
                 user.variables().map(|v| v.map(|(n, v)| format!("{}={}", bytes(n), value_text(v))).collect::<Vec<_>>());
             format!("{} {:?} {variables:?}", bytes(user.name()), user.bytes())
         }
+        Value::Float(float) => bytes(float.bytes()),
     }
 }
 
@@ -64,14 +66,16 @@ fn views_of_every_kind() {
         "#<Recipe @number=:key,@done=nil>",
         r#""xyz" Some(["E=true"])"#,
         r#"Stamp [1, 2] Some(["E=false"])"#,
+        "1.25",
     ];
     assert_eq!(texts, expected);
 
     let kinds: Vec<Kind> = root.members().map(Node::kind).collect();
     assert_eq!(kinds[..6], [Kind::Nil, Kind::Bool, Kind::Bool, Kind::Fixnum, Kind::Fixnum, Kind::Symbol]);
-    assert_eq!(kinds[6..], [Kind::Array, Kind::Hash, Kind::Hash, Kind::Object, Kind::String, Kind::UserDefined]);
+    assert_eq!(kinds[6..12], [Kind::Array, Kind::Hash, Kind::Hash, Kind::Object, Kind::String, Kind::UserDefined]);
+    assert_eq!(kinds[12..], [Kind::Float]);
     let at = |i: usize| root.get(i).unwrap();
-    assert!(at(0).is_nil() && !at(1).is_nil() && root.get(12).is_none());
+    assert!(at(0).is_nil() && !at(1).is_nil() && root.get(13).is_none());
     assert_eq!((at(1).as_bool(), at(2).as_bool(), at(3).as_bool()), (Some(true), Some(false), None));
     assert_eq!((at(3).as_fixnum(), at(5).as_fixnum()), (Some(620), None));
     assert_eq!((at(5).as_symbol(), at(3).as_symbol()), (Some(&b"sand"[..]), None));
@@ -80,6 +84,8 @@ fn views_of_every_kind() {
     assert!(at(9).as_object().is_some() && at(8).as_object().is_none());
     assert!(at(10).as_string().is_some() && at(11).as_string().is_none());
     assert!(at(11).as_user_defined().is_some() && at(10).as_user_defined().is_none());
+    assert!(at(12).as_float().is_some_and(|f| f.bytes() == b"1.25" && f.handle() == at(12).handle()));
+    assert!(at(10).as_float().is_none() && at(12).as_string().is_none());
     assert_eq!(at(9).as_object().unwrap().get(b"@done").map(|v| v.is_nil()), Some(true));
     assert!(at(9).as_object().unwrap().get(b"@none").is_none());
     let key = at(8).as_hash().unwrap().get(b"key").unwrap();
@@ -87,7 +93,7 @@ fn views_of_every_kind() {
     assert!(at(8).as_hash().unwrap().get(b"other").is_none());
 
     // From both ends, and sizes.
-    assert_eq!(root.members().len(), 12);
+    assert_eq!(root.members().len(), 13);
     assert_eq!(root.members().rev().map(|n| n.handle()).collect::<Vec<_>>(), {
         let mut handles: Vec<Handle> = root.members().map(|n| n.handle()).collect();
         handles.reverse();
@@ -148,7 +154,8 @@ fn a_recipe_that_is_built() {
     let other = builder.create_new_symbol(b"sand").unwrap();
     assert_ne!(name, other);
     let text = builder.create_string(b"dry").unwrap();
-    let list = builder.create_array(&[nil, yes, number]).unwrap();
+    let float = builder.create_float(b"1.25").unwrap();
+    let list = builder.create_array(&[nil, yes, number, float]).unwrap();
     let hash = builder.create_hash(&[[name, list], [other, text]], Some(nil)).unwrap();
     let user = builder.create_user_defined(name, b"\x01").unwrap();
     let object = builder.create_object(name, &[[other, hash], [name, user]]).unwrap();
@@ -161,6 +168,7 @@ fn a_recipe_that_is_built() {
     assert_eq!(builder.create_hash(&[], Some(Handle::new(77))), Err(Refusal::BadHandle(77)));
     assert_eq!(builder.create_object(text, &[]), Err(Refusal::WrongKind(text.number())));
     assert_eq!(builder.create_string(&[7; 65]), Err(Refusal::NoSpace(Slice::Bytes)));
+    assert_eq!(builder.create_float(&[7; 65]), Err(Refusal::NoSpace(Slice::Bytes)));
     assert_eq!(builder.create_array(&[nil; 21]), Err(Refusal::NoSpace(Slice::References)));
     assert_eq!(builder.replace_root(Handle::new(counts.nodes as u32)), Err(Refusal::BadHandle(counts.nodes as u32)));
     assert_eq!(builder.counts(), counts);
@@ -173,6 +181,7 @@ fn a_recipe_that_is_built() {
     assert_eq!((n.len(), r.len(), b.len(), arena.scratch_words()), (20 * NODE_WORDS, 20, 64, 20));
     assert_eq!(calls::root(n, r, b, counts), Ok(object.number()));
     assert_eq!(calls::kind(n, r, b, counts, hash.number()), Ok(5));
+    assert_eq!(calls::kind(n, r, b, counts, float.number()), Ok(9));
     assert_eq!(calls::get(n, r, b, counts, number.number()), Ok([2, (-2_000_000_000_i32) as u32, 0, 0, 0, 0, 0]));
     let (start, length) = calls::get_symbol(n, r, b, counts, other.number()).unwrap();
     assert_eq!(&b[start as usize..][..length as usize], b"sand");
@@ -197,7 +206,7 @@ fn a_recipe_that_is_built() {
 // The functions of `calls` that make nodes.
 #[test]
 fn the_calls_that_create() {
-    let (mut n, mut r, mut b) = ([9; 7 * 12], [9; 8], [9; 16]);
+    let (mut n, mut r, mut b) = ([9; 7 * 13], [9; 8], [9; 16]);
     let begun = calls::new(&mut n, &mut r, &mut b);
     assert_eq!((begun.answer, begun.counts), (Ok(()), Counts { nodes: 1, ..Counts::default() }));
     assert!(n.iter().chain(&r).all(|&word| word == 0) && b == [0; 16]);
@@ -216,13 +225,16 @@ fn the_calls_that_create() {
     c = made(calls::create_object(&mut n, &mut r, &b, c, symbol.handle, &[symbol.handle, 3])).counts;
     c = made(calls::create_string(&mut n, &r, &mut b, c, b"xyz")).counts;
     let user = made(calls::create_user_defined(&mut n, &r, &mut b, c, symbol.handle, b""));
-    c = made(calls::replace_root(&n, &r, &b, user.counts, 7)).counts;
-    assert_eq!((c.nodes, c.references, c.bytes, c.root), (11, 7, 7, 7));
+    let float = made(calls::create_float(&mut n, &r, &mut b, user.counts, b"-0.5"));
+    c = made(calls::replace_root(&n, &r, &b, float.counts, 7)).counts;
+    assert_eq!((c.nodes, c.references, c.bytes, c.root), (12, 7, 11, 7));
+    assert_eq!(calls::get(&n, &r, &b, c, float.handle), Ok([9, 7, 4, 0, 0, 0, 0]));
     let refused = calls::create_object(&mut n, &mut r, &b, c, 0, &[0]);
     assert_eq!((numbers(&refused.answer), refused.handle, refused.counts), ((1, 9, 0), 0, c));
     let arena = Arena::check(&n, &r, &b, c).unwrap();
     assert_eq!(arena.root().as_hash().unwrap().default_value().unwrap().as_fixnum(), Some(i32::MIN));
-    assert_eq!(arena.nodes().next_back().unwrap().as_user_defined().map(|user| user.name()), Some(&b"ab"[..]));
+    assert_eq!(arena.nodes().nth_back(1).unwrap().as_user_defined().map(|user| user.name()), Some(&b"ab"[..]));
+    assert_eq!(arena.nodes().next_back().unwrap().as_float().map(|float| float.bytes()), Some(&b"-0.5"[..]));
 }
 
 #[test]
@@ -292,5 +304,9 @@ fn refusals() {
     let check = |nodes: &[u32], counts| Arena::check(nodes, &[], &[], counts).map(|arena| arena.counts());
     assert_eq!(check(&[0; 14], counts), Ok(counts));
     assert_eq!(check(&[0; 7], counts), Err(Refusal::BadArena(Fault::Counts)));
-    assert_eq!(check(&[0, 0, 0, 0, 0, 0, 0, 9, 0, 0, 0, 0, 0, 0], counts), Err(Refusal::BadArena(Fault::Node(1))));
+    assert_eq!(check(&[0, 0, 0, 0, 0, 0, 0, 99, 0, 0, 0, 0, 0, 0], counts), Err(Refusal::BadArena(Fault::Node(1))));
+    // A Float has bytes within the count, and nothing else.
+    assert_eq!(check(&[0, 0, 0, 0, 0, 0, 0, 9, 0, 0, 0, 0, 0, 0], counts), Ok(counts));
+    assert_eq!(check(&[0, 0, 0, 0, 0, 0, 0, 9, 0, 1, 0, 0, 0, 0], counts), Err(Refusal::BadArena(Fault::Node(1))));
+    assert_eq!(check(&[0, 0, 0, 0, 0, 0, 0, 9, 0, 0, 0, 0, 0, 1], counts), Err(Refusal::BadArena(Fault::Node(1))));
 }

@@ -8,12 +8,14 @@ use mathlib.Core.Path.{_≡_, refl, sym, ap, _∙_}
 use lib.Dec.{eqb}
 use lib.ListN.{length, getD, take, drop, List·getD-eq-default}
 use lib.Seq.{getD-take, getD-drop}
-use borrow.Author.Tests.{lt-ltb, le-ltb, ne-eqb}
+use borrow.Author.Tests.{lt-ltb, le-ltb, eq-eqb, eqb-true}
 use Rattle.definition.specs.Run.{pick}
 use Rattle.definition.specs.Node.{Row, nil, kind, row, row-of, rows, width}
 use Rattle.definition.specs.Arena.{Arena, node, range, firsts, all-below, all-names, is-name}
 use Rattle.lists.specs.Ranges.{range-step, range-end}
+use Rattle.lists.specs.Rows.{kind-of, kind-is}
 use Rattle.lists.specs.Tables.{length-rows, rows-at}
+use Rattle.arena_check.proofs.Rows.{same-test}
 
 -- ---- members below a count
 
@@ -35,20 +37,10 @@ module _ (l : List ℕ) (start n count i : ℕ) (h : start + n ≤ length l) whe
 
 -- a row is a symbol exactly where word 0 is 3
 pub kind-three : (k a b s n c f : ℕ) → eqb (kind (row-of k a b s n c f)) 3 ≡ eqb k 3
-unfolding row-of pick kind
-kind-three zero a b s n c f = refl
-kind-three (suc zero) a b s n c f = refl
-kind-three (suc (suc zero)) a b s n c f = refl
-kind-three (suc (suc (suc zero))) a b s n c f = refl
-kind-three (suc (suc (suc (suc zero)))) a b s n c f = refl
-kind-three (suc (suc (suc (suc (suc zero))))) a b s n c f = refl
-kind-three (suc (suc (suc (suc (suc (suc zero)))))) a b s n c f = refl
-kind-three (suc (suc (suc (suc (suc (suc (suc zero))))))) a b s n c f = refl
-kind-three (suc (suc (suc (suc (suc (suc (suc (suc zero)))))))) a b s n c f = refl
-kind-three (suc (suc (suc (suc (suc (suc (suc (suc (suc j))))))))) a b s n c f = go (suc (suc (suc (suc (suc (suc (suc (suc (suc j))))))))) (omega arith)
-  where
-    go : (k : ℕ) → 8 < k → eqb (kind (row-of k a b s n c f)) 3 ≡ eqb k 3
-    go k l = simp (ne-eqb k 1 (omega arith), ne-eqb k 2 (omega arith), ne-eqb k 3 (omega arith), ne-eqb k 4 (omega arith), ne-eqb k 5 (omega arith), ne-eqb k 6 (omega arith), ne-eqb k 7 (omega arith), ne-eqb k 8 (omega arith))
+kind-three k a b s n c f =
+    same-test _ _
+    (λ e. eq-eqb k 3 (kind-is k a b s n c f 3 (eqb-true (kind (row-of k a b s n c f)) 3 e) (omega arith)))
+    (λ e. let q = eqb-true k 3 e in eq-eqb _ 3 (kind-of k a b s n c f (omega (arith, q)) ∙ q))
 
 first-word : (t : List ℕ) (i : ℕ) → getD (take width (drop (i * width) t)) 0 0 ≡ getD t (i * 7) 0
 first-word t i = getD-take 7 (drop (i * 7) t) 0 0 (omega arith) ∙ getD-drop (i * 7) t 0 0 ∙ ap (λ (k : ℕ). getD t k 0) (omega arith)

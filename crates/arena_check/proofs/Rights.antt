@@ -6,6 +6,7 @@ use mathlib.Core.Bool.{Bool, true, false, _&&_, and-true, and-false}
 use mathlib.Core.List.{List, [], _∷_}
 use mathlib.Core.Option.{Option, none, some}
 use mathlib.Core.Path.{_≡_, refl, sym, ap, _∙_, subst}
+use mathlib.Core.Logic.{_⊎_, inl, inr}
 use lib.Dec.{leb, ltb, eqb, T}
 use lib.ListN.{length, getD, take, drop, length-drop}
 use lib.Seq.{getD-drop, length-take-le, drop-drop, take-take}
@@ -81,9 +82,11 @@ module _ (A : Arena) (a b s n c f : ℕ) where
   abbrev right : ℕ → Bool
   right k = row-right A (row-of k a b s n c f)
 
-  pub right-3 : (k : ℕ) → k ≡ 3 → bytes-right A a b ≡ right k
+  -- a byte string alone
+  pub right-text : (k : ℕ) → (k ≡ 3) ⊎ (k ≡ 9) → bytes-right A a b ≡ right k
   unfolding row-right row-of pick
-  right-3 k e = ap right (sym e)
+  right-text k (inl e) = ap right (sym e)
+  right-text k (inr e) = ap right (sym e)
 
   pub right-4 : (k : ℕ) → k ≡ 4 → list-right A s n ≡ right k
   unfolding row-right row-of pick
@@ -106,9 +109,9 @@ module _ (A : Arena) (a b s n c f : ℕ) where
   right-8 k e = ap right (sym e)
 
   -- the kinds that have neither ranges nor names
-  pub right-else : (k : ℕ) → (k ≡ 3 → ⊥) → (k ≡ 4 → ⊥) → (k ≡ 5 → ⊥) → (k ≡ 6 → ⊥) → (k ≡ 7 → ⊥) → (k ≡ 8 → ⊥) → true ≡ right k
+  pub right-else : (k : ℕ) → (k ≡ 3 → ⊥) → (k ≡ 4 → ⊥) → (k ≡ 5 → ⊥) → (k ≡ 6 → ⊥) → (k ≡ 7 → ⊥) → (k ≡ 8 → ⊥) → (k ≡ 9 → ⊥) → true ≡ right k
   unfolding row-right row-of pick
-  right-else k n3 n4 n5 n6 n7 n8 = rw (ne-eqb k 3 n3, ne-eqb k 4 n4, ne-eqb k 5 n5, ne-eqb k 6 n6, ne-eqb k 7 n7, ne-eqb k 8 n8) (go (eqb k 1) (eqb k 2))
+  right-else k n3 n4 n5 n6 n7 n8 n9 = rw (ne-eqb k 3 n3, ne-eqb k 4 n4, ne-eqb k 5 n5, ne-eqb k 6 n6, ne-eqb k 7 n7, ne-eqb k 8 n8, ne-eqb k 9 n9) (go (eqb k 1) (eqb k 2))
     where
       go : (x y : Bool) → true ≡ row-right A (pick x (Row.bool (eqb a 1)) (pick y (Row.fixnum a) Row.nil))
       go true y = refl

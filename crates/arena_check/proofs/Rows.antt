@@ -4,6 +4,7 @@ use native.Mathlib.Omega.{arith}
 use mathlib.Core.Bool.{Bool, true, false}
 use mathlib.Core.List.{List, [], _∷_}
 use mathlib.Core.Path.{_≡_, refl, sym, ap, _∙_, subst}
+use mathlib.Core.Logic.{_⊎_, inl, inr}
 use lib.Dec.{eqb, T}
 use lib.ListN.{getD}
 use borrow.Author.Tests.{eq-eqb, ne-eqb, eqb-true}
@@ -55,9 +56,17 @@ module _ (a b s n c f : ℕ) where
   unfolding words row row-of pick vars
   row-2 = row-test (ws 2) _ (λ e. let z = zeros 0 b s n c f e in λ i. 2 ∷ a ∷ z .1 i ∷ z .2 i ∷ z .3 i ∷ z .4 i ∷ z .5 i ∷ []) (λ e. sum 0 b s n c f (omega (arith, word 2 e, word 3 e, word 4 e, word 5 e, word 6 e)))
 
-  pub row-3 : eqb (0 + 0 + s + n + c + f) 0 ≡ is-row (ws 3)
-  unfolding words row row-of pick vars
-  row-3 = row-test (ws 3) _ (λ e. let z = zeros 0 0 s n c f e in λ i. 3 ∷ a ∷ b ∷ z .2 i ∷ z .3 i ∷ z .4 i ∷ z .5 i ∷ []) (λ e. sum 0 0 s n c f (omega (arith, word 3 e, word 4 e, word 5 e, word 6 e)))
+  -- a byte string alone
+  text-row : (m : ℕ) → words (row (ws m)) ≡ m ∷ a ∷ b ∷ 0 ∷ 0 ∷ 0 ∷ 0 ∷ [] → eqb (0 + 0 + s + n + c + f) 0 ≡ is-row (ws m)
+  text-row m w =
+      row-test (ws m) _
+      (λ e. let z = zeros 0 0 s n c f e in (λ i. m ∷ a ∷ b ∷ z .2 i ∷ z .3 i ∷ z .4 i ∷ z .5 i ∷ []) ∙ sym w)
+      (λ e. let q = e ∙ w in sum 0 0 s n c f (omega (arith, word 3 q, word 4 q, word 5 q, word 6 q)))
+
+  pub row-text : {k : ℕ} → (k ≡ 3) ⊎ (k ≡ 9) → eqb (0 + 0 + s + n + c + f) 0 ≡ is-row (ws k)
+  unfolding words row row-of pick
+  row-text (inl e) = of-kind _ e (text-row 3 refl)
+  row-text (inr e) = of-kind _ e (text-row 9 refl)
 
   pub row-4 : eqb (a + b + 0 + 0 + c + f) 0 ≡ is-row (ws 4)
   unfolding words row row-of pick vars
@@ -120,8 +129,8 @@ module _ (a b s n c : ℕ) where
   row-8-present (suc f) g = row-test (8 ∷ a ∷ b ∷ s ∷ n ∷ c ∷ suc f ∷ []) _ (λ e. λ i. 8 ∷ a ∷ b ∷ s ∷ n ∷ c ∷ eqb-true (suc f) 1 e i ∷ []) (λ e. eq-eqb (suc f) 1 (word 6 e))
 
 -- an unknown kind
-pub row-not : (k a b s n c f : ℕ) → (k ≡ 0 → ⊥) → (k ≡ 1 → ⊥) → (k ≡ 2 → ⊥) → (k ≡ 3 → ⊥) → (k ≡ 4 → ⊥) → (k ≡ 5 → ⊥) → (k ≡ 6 → ⊥) → (k ≡ 7 → ⊥) → (k ≡ 8 → ⊥) → false ≡ is-row (k ∷ a ∷ b ∷ s ∷ n ∷ c ∷ f ∷ [])
+pub row-not : (k a b s n c f : ℕ) → (k ≡ 0 → ⊥) → (k ≡ 1 → ⊥) → (k ≡ 2 → ⊥) → (k ≡ 3 → ⊥) → (k ≡ 4 → ⊥) → (k ≡ 5 → ⊥) → (k ≡ 6 → ⊥) → (k ≡ 7 → ⊥) → (k ≡ 8 → ⊥) → (k ≡ 9 → ⊥) → false ≡ is-row (k ∷ a ∷ b ∷ s ∷ n ∷ c ∷ f ∷ [])
 unfolding words row row-of pick
-row-not k a b s n c f n0 n1 n2 n3 n4 n5 n6 n7 n8 =
+row-not k a b s n c f n0 n1 n2 n3 n4 n5 n6 n7 n8 n9 =
     not-test (k ∷ a ∷ b ∷ s ∷ n ∷ c ∷ f ∷ [])
-    (λ e. n0 (word 0 e ∙ simp (ne-eqb k 1 n1, ne-eqb k 2 n2, ne-eqb k 3 n3, ne-eqb k 4 n4, ne-eqb k 5 n5, ne-eqb k 6 n6, ne-eqb k 7 n7, ne-eqb k 8 n8)))
+    (λ e. n0 (word 0 e ∙ simp (ne-eqb k 1 n1, ne-eqb k 2 n2, ne-eqb k 3 n3, ne-eqb k 4 n4, ne-eqb k 5 n5, ne-eqb k 6 n6, ne-eqb k 7 n7, ne-eqb k 8 n8, ne-eqb k 9 n9)))

@@ -23,6 +23,7 @@ use replay::word;
 use value_arena::create_array;
 use value_arena::create_bool;
 use value_arena::create_fixnum;
+use value_arena::create_float;
 use value_arena::create_hash;
 use value_arena::create_new_symbol;
 use value_arena::create_nil;
@@ -198,6 +199,11 @@ fn creator_agrees(
             }
             false
         }
+        17 => created_agrees(
+            &data[..],
+            at,
+            create_float(nodes, references, bytes, counts, &text[..]),
+        ),
         _ => false,
     }
 }

@@ -9,9 +9,9 @@ use lib.IntN.{ℤ}
 use lib.ListN.{length}
 use native.Mathlib.Omega.{arith}
 use Rattle.definition.specs.Run.{Run, Outcome, ok, refused, pure, next, _>>=_, look, pick}
-use Rattle.definition.specs.Node.{Row, nil, bool, fixnum, symbol, array, hash, object, string, user, absent}
-use Rattle.definition.specs.Arena.{Tables, Arena, firsts, is-name, all-below, all-names, fault, row-right, vars-right, find-symbol}
-use Rattle.definition.specs.Build.{Lent, held, wrong, check, check-handles, byte-slice, member-slice, pair-slice, handle-checked, set-root, exchange-root, add, bits, create-nil, create-bool, create-fixnum, add-symbol, create-new-symbol, known-or-new, create-symbol, create-array, default-handle, create-hash, create-object, create-string, create-user-defined}
+use Rattle.definition.specs.Node.{Row, nil, bool, fixnum, symbol, array, hash, object, string, user, float, absent}
+use Rattle.definition.specs.Arena.{Tables, Arena, firsts, is-name, all-below, all-names, fault, bytes-right, row-right, vars-right, find-symbol}
+use Rattle.definition.specs.Build.{Lent, held, wrong, check, check-handles, byte-slice, member-slice, pair-slice, handle-checked, set-root, exchange-root, add, bits, create-nil, create-bool, create-fixnum, add-symbol, create-new-symbol, known-or-new, create-symbol, create-array, default-handle, create-hash, create-object, create-string, create-user-defined, create-float}
 use Rattle.lists.specs.Joined.{yes-and, pick-true}
 use Rattle.lists.specs.Slices.{lowest-none, whole-pairs, tables-right}
 use Rattle.well_formed.specs.Right.{Fit, below-of, fault-fit}
@@ -32,6 +32,7 @@ pub data Builder : Type 0 where
   make-object : ℕ → List ℕ → Builder
   make-string : List ℕ → Builder
   make-user-defined : ℕ → List ℕ → Builder
+  make-float : List ℕ → Builder
   move-root : ℕ → Builder
 
 abbrev pub run : Builder → Run Lent ℕ
@@ -45,6 +46,7 @@ run (make-hash ps d) = create-hash ps d
 run (make-object c ps) = create-object c ps
 run (make-string bs) = create-string bs
 run (make-user-defined c bs) = create-user-defined c bs
+run (make-float bs) = create-float bs
 run (move-root h) = exchange-root h
 
 -- a call that makes a node
@@ -59,6 +61,7 @@ Makes (make-hash ps d) = Unit {0}
 Makes (make-object c ps) = Unit {0}
 Makes (make-string bs) = Unit {0}
 Makes (make-user-defined c bs) = Unit {0}
+Makes (make-float bs) = Unit {0}
 Makes (move-root h) = ⊥
 
 -- its byte string, its list, and its row where these start at b and r
@@ -73,6 +76,7 @@ made-bytes (make-hash ps d) = []
 made-bytes (make-object c ps) = []
 made-bytes (make-string bs) = bs
 made-bytes (make-user-defined c bs) = bs
+made-bytes (make-float bs) = bs
 made-bytes (move-root h) = []
 
 abbrev pub made-list : Builder → List ℕ
@@ -86,6 +90,7 @@ made-list (make-hash ps d) = ps
 made-list (make-object c ps) = ps
 made-list (make-string bs) = []
 made-list (make-user-defined c bs) = []
+made-list (make-float bs) = []
 made-list (move-root h) = []
 
 abbrev pub made-row : Builder → ℕ → ℕ → Row
@@ -99,6 +104,7 @@ made-row (make-hash ps d) b r = hash r (length ps / 2) d
 made-row (make-object c ps) b r = object r (length ps / 2) c
 made-row (make-string bs) b r = string b (length bs) absent
 made-row (make-user-defined c bs) b r = user b (length bs) c absent
+made-row (make-float bs) b r = float b (length bs)
 made-row (move-root h) b r = nil
 
 -- a list of pairs has a whole number of them
@@ -113,6 +119,7 @@ Even (make-hash ps d) = length ps ≡ length ps / 2 * 2
 Even (make-object c ps) = length ps ≡ length ps / 2 * 2
 Even (make-string bs) = Unit {0}
 Even (make-user-defined c bs) = Unit {0}
+Even (make-float bs) = Unit {0}
 Even (move-root h) = Unit {0}
 
 -- ---- a node added
@@ -206,9 +213,16 @@ module _ (L M : Lent) (h : ℕ) where
       let (w, s, e₁) = after-check [] _ L M h e in
       (s, added tt tt (add-done [] [] (λ b r. fixnum (bits z)) s (λ f. refl) e₁))
 
+  -- a row that is right where its bytes are
+  text-added : (bs : List ℕ) (row : ℕ → ℕ → Row) → ((A : Arena) (b : ℕ) → bytes-right A b (length bs) ≡ true → row-right A (row b (length bs)) ≡ true) → Sound
+      → add bs [] (λ b r. row b (length bs)) L ≡ ok h M → Added L bs [] (row (L .counts .bytes) (length bs)) h M
+  text-added bs row y s e =
+      let r = row (L .counts .bytes) (length bs) in
+      add-done bs [] (λ b r. row b (length bs)) s (λ f. y (grown (held L) bs [] r) (L .counts .bytes) (bytes-added (held L) bs [] r (L .counts .bytes) (f .bytes))) e
+
   symbol-added : (name : List ℕ) → Sound → add-symbol name L ≡ ok h M → Added L name [] (symbol (L .counts .bytes) (length name)) h M
   unfolding add-symbol row-right
-  symbol-added name s e = add-done name [] (λ b r. symbol b (length name)) s (λ f. bytes-added (held L) name [] (symbol (L .counts .bytes) (length name)) (L .counts .bytes) (f .bytes)) e
+  symbol-added name s e = text-added name symbol (λ A b y. y) s e
 
   did-new-symbol : (name : List ℕ) → create-new-symbol name L ≡ ok h M → Result (make-new-symbol name)
   unfolding create-new-symbol
@@ -267,8 +281,7 @@ module _ (L M : Lent) (h : ℕ) where
   unfolding create-string row-right vars-right
   did-string bs e =
       let (w, s, e₁) = after-check (byte-slice bs ∷ []) _ L M h e in
-      let r = string (L .counts .bytes) (length bs) absent in
-      (s, added tt tt (add-done bs [] (λ b r. string b (length bs) absent) s (λ f. yes-and _ _ (bytes-added (held L) bs [] r (L .counts .bytes) (f .bytes)) refl) e₁))
+      (s, added tt tt (text-added bs (λ b n. string b n absent) (λ A b y. yes-and _ _ y refl) s e₁))
 
   did-user : (c : ℕ) (bs : List ℕ) → create-user-defined c bs L ≡ ok h M → Result (make-user-defined c bs)
   unfolding create-user-defined row-right vars-right
@@ -282,6 +295,12 @@ module _ (L M : Lent) (h : ℕ) where
         added tt tt (add-done bs [] (λ b r. user b (length bs) c absent) s
             (λ f. yes-and _ _ (yes-and _ _ (bytes-added (held L) bs [] r (L .counts .bytes) (f .bytes)) (name-grown (held L) bs [] r c m₁)) refl) e₃),
       )
+
+  did-float : (bs : List ℕ) → create-float bs L ≡ ok h M → Result (make-float bs)
+  unfolding create-float row-right
+  did-float bs e =
+      let (w, s, e₁) = after-check (byte-slice bs ∷ []) _ L M h e in
+      (s, added tt tt (text-added bs float (λ A b y. y) s e₁))
 
   did-root : (n : ℕ) → exchange-root n L ≡ ok h M → Result (move-root n)
   unfolding exchange-root handle-checked set-root
@@ -302,4 +321,5 @@ module _ (L M : Lent) (h : ℕ) where
   did (make-object c ps) e = did-object c ps e
   did (make-string bs) e = did-string bs e
   did (make-user-defined c bs) e = did-user c bs e
+  did (make-float bs) e = did-float bs e
   did (move-root n) e = did-root n e

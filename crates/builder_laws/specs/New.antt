@@ -16,7 +16,7 @@ use Rattle.well_formed.specs.Right.{fault-fit}
 use Rattle.builder_laws.specs.Grown.{grown, range-added, node-added}
 use Rattle.builder_laws.specs.Append.{held-appended}
 use Rattle.builder_laws.specs.Checks.{after-check}
-use Rattle.builder_laws.specs.Calls.{Builder, make-nil, make-bool, make-fixnum, make-new-symbol, make-symbol, make-array, make-hash, make-object, make-string, make-user-defined, move-root, run, Makes, Even, made-bytes, made-list, made-row, AddedBy, Did, added, known, moved, did}
+use Rattle.builder_laws.specs.Calls.{Builder, make-nil, make-bool, make-fixnum, make-new-symbol, make-symbol, make-array, make-hash, make-object, make-string, make-user-defined, make-float, move-root, run, Makes, Even, made-bytes, made-list, made-row, AddedBy, Did, added, known, moved, did}
 use Rattle.builder_laws.specs.Built.{known-row}
 
 -- what is asked for
@@ -32,6 +32,7 @@ made-header (make-hash ps d) = header-of 5 0 [] (length ps / 2) (default-present
 made-header (make-object c ps) = header-of 6 0 [] (length ps / 2) false
 made-header (make-string bs) = header-of 7 0 bs 0 false
 made-header (make-user-defined c bs) = header-of 8 0 bs 0 false
+made-header (make-float bs) = header-of 9 0 bs 0 false
 made-header (move-root h) = header-of 0 0 [] 0 false
 
 abbrev pub made-links : Builder → List ℕ
@@ -45,6 +46,7 @@ made-links (make-hash ps d) = ps ++ default-link d
 made-links (make-object c ps) = c ∷ ps
 made-links (make-string bs) = []
 made-links (make-user-defined c bs) = c ∷ []
+made-links (make-float bs) = []
 made-links (move-root h) = []
 
 -- ---- the row made, in the arena that holds its bytes and its list
@@ -72,6 +74,7 @@ module _ (A : Arena) (b r : ℕ) (p : length (A .bytes) ≡ b) (q : length (A .r
   made-header-is (make-object c ps) m = refl
   made-header-is (make-string bs) m = ap (λ (x : List ℕ). header-of 7 0 x 0 false) (bytes-are bs)
   made-header-is (make-user-defined c bs) m = ap (λ (x : List ℕ). header-of 8 0 x 0 false) (bytes-are bs)
+  made-header-is (make-float bs) m = ap (λ (x : List ℕ). header-of 9 0 x 0 false) (bytes-are bs)
   made-header-is (move-root n) m = absurd m
 
   made-links-are : (c : Builder) → Makes c → Even c → links (G c) (made-row c b r) ≡ made-links c
@@ -86,6 +89,7 @@ module _ (A : Arena) (b r : ℕ) (p : length (A .bytes) ≡ b) (q : length (A .r
   made-links-are (make-object c ps) m e = ap (λ (l : List ℕ). c ∷ l) (list-is ps (length ps / 2 * 2) e)
   made-links-are (make-string bs) m e = refl
   made-links-are (make-user-defined c bs) m e = refl
+  made-links-are (make-float bs) m e = refl
   made-links-are (move-root n) m e = absurd m
 
 -- ---- the laws
@@ -116,6 +120,7 @@ Adds (make-hash ps d) L = Unit {0}
 Adds (make-object c ps) L = Unit {0}
 Adds (make-string bs) L = Unit {0}
 Adds (make-user-defined c bs) L = Unit {0}
+Adds (make-float bs) L = Unit {0}
 Adds (move-root n) L = ⊥
 
 module _ (L M : Lent) (h : ℕ) where

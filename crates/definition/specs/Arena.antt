@@ -1,4 +1,4 @@
--- The arena: lent tables and counts, what they hold, and when they are well formed (01, "The arena").
+-- The arena: lent tables and counts, what they hold, and when they are well formed (01, "The arena"; 02, 2.1).
 use Prim.Native.Nat.{ℕ, zero, suc, _+_, _-_, _*_, _/_, _%_}
 use mathlib.Core.Bool.{Bool, true, false, not, _&&_, _||_}
 use mathlib.Core.List.{List, [], _∷_, _++_}
@@ -6,7 +6,7 @@ use mathlib.Core.Option.{Option, none, some}
 use lib.Dec.{ltb, leb, eqb}
 use lib.ListN.{length, getD, take, drop, replicate}
 use Rattle.definition.specs.Run.{Run, pure, refuse, pick}
-use Rattle.definition.specs.Node.{Row, Vars, nil, bool, fixnum, symbol, array, hash, object, string, user, absent, present, width, kind, row, rows, is-row, equal}
+use Rattle.definition.specs.Node.{Row, Vars, nil, bool, fixnum, symbol, array, hash, object, string, user, float, absent, present, width, kind, row, rows, is-row, equal}
 use Rattle.definition.specs.declared.Counts.{Counts}
 use Rattle.definition.specs.declared.Fault.{Fault}
 use Rattle.definition.specs.declared.Fault.the-variants.{Counts as Bad-counts, Node}
@@ -78,6 +78,7 @@ name-of bytes (hash s n d) = []
 name-of bytes (object s n c) = []
 name-of bytes (string s l v) = []
 name-of bytes (user s l c v) = []
+name-of bytes (float s l) = []
 
 -- the first of each pair
 unfoldable pub firsts : List ℕ → List ℕ
@@ -129,6 +130,7 @@ row-right A (hash s n d) = list-right A s (n * 2) && leb d (length (A .nodes))
 row-right A (object s n c) = is-name A c && pairs-right A s n
 row-right A (string s l v) = bytes-right A s l && vars-right A v
 row-right A (user s l c v) = bytes-right A s l && is-name A c && vars-right A v
+row-right A (float s l) = bytes-right A s l
 
 -- "each word as above", ranges, members and names
 unfoldable pub node-right : Arena → List ℕ → Bool

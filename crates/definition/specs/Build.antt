@@ -1,4 +1,4 @@
--- The getters and the builder: the answer and all that is lent, as each call leaves it (01, "Builder and listing").
+-- The getters and the builder: the answer and all that is lent, as each call leaves it (01, "Builder and listing"; 02, 2.1).
 use Prim.Native.Nat.{ℕ, zero, suc, _+_, _-_, _*_, _/_, _%_}
 use mathlib.Core.Bool.{Bool, true, false, not, _||_}
 use mathlib.Core.List.{List, [], _∷_, _++_}
@@ -8,7 +8,7 @@ use lib.IntN.{ℤ, pos, negsuc}
 use lib.ListN.{length, getD, take, drop, replicate}
 use lib.Seq.{sets}
 use Rattle.definition.specs.Run.{Run, Outcome, ok, refused, pure, refuse, next, _>>=_, look, pick}
-use Rattle.definition.specs.Node.{Row, Vars, nil, bool, fixnum, symbol, array, hash, object, string, user, absent, present, width, words}
+use Rattle.definition.specs.Node.{Row, Vars, nil, bool, fixnum, symbol, array, hash, object, string, user, float, absent, present, width, words}
 use Rattle.definition.specs.Arena.{Tables, Arena, arena, node, firsts, is-name, too-long, bad-nodes, lowest, allowed, fault, sound, zeroed, find-symbol}
 use Rattle.definition.specs.declared.Answer.{Answer}
 use Rattle.definition.specs.declared.Answer.the-variants.{Accepted, Refused}
@@ -181,6 +181,10 @@ create-string bs = check (byte-slice bs ∷ []) >>= λ _. add bs [] λ b r. stri
 -- `create_user_defined`: the name, then the bytes; no variable list
 unfoldable pub create-user-defined : ℕ → List ℕ → Run Lent ℕ
 create-user-defined c bs = check (byte-slice bs ∷ []) >>= λ _. check-handles (c ∷ []) >>= λ _. check-names (c ∷ []) >>= λ _. add bs [] λ b r. user b (length bs) c absent
+
+-- `create_float`, in the manner of `create_string`
+unfoldable pub create-float : List ℕ → Run Lent ℕ
+create-float bs = check (byte-slice bs ∷ []) >>= λ _. add bs [] λ b r. float b (length bs)
 
 -- ---- the calls
 

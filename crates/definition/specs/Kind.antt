@@ -1,4 +1,4 @@
--- The fourteen kind bytes, as the kind type's associated constants name them (01, "Value").
+-- The kind bytes, as the kind type's associated constants name them (01, "Value"; 02, 2.1).
 use Prim.Native.Nat.{ℕ}
 
 -- `0` `T` `F` `i`
@@ -27,7 +27,7 @@ OBJECT-LINK = 0x40
 abbrev pub INSTANCE-VARIABLES : ℕ
 INSTANCE-VARIABLES = 0x49
 
--- `[` `{` `}` `o` `"` `u`
+-- `[` `{` `}` `o` `"` `u` `f`
 abbrev pub ARRAY : ℕ
 ARRAY = 0x5B
 
@@ -45,3 +45,6 @@ STRING = 0x22
 
 abbrev pub USER-DEFINED : ℕ
 USER-DEFINED = 0x75
+
+abbrev pub FLOAT : ℕ
+FLOAT = 0x66

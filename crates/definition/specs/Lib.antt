@@ -11,3 +11,4 @@ pub mod Dump
 pub mod Build
 pub mod Graph
 pub mod Starred
+pub mod Floats

@@ -1,4 +1,4 @@
--- What load answers and what it leaves in the tables: a reader over growing lists (01, "load").
+-- What load answers and what it leaves in the tables: a reader over growing lists (01, "load"; 02, 2.1).
 use Prim.Native.Nat.{ℕ, zero, suc, _+_, _-_, _*_, _/_}
 use mathlib.Core.Bool.{Bool, true, false, _&&_}
 use mathlib.Core.List.{List, [], _∷_, _++_}
@@ -7,8 +7,8 @@ use lib.Dec.{ltb, leb, eqb}
 use lib.ListN.{length, getD, set, replicate}
 use Rattle.definition.specs.Run.{Run, Outcome, ok, refused, pure, refuse, next, _>>=_, look, pick}
 use Rattle.definition.specs.Integer.{Form, value as form-value, data-bytes, form, little}
-use Rattle.definition.specs.Kind.{NIL, TRUE, FALSE, FIXNUM, SYMBOL, SYMBOL-LINK, OBJECT-LINK, INSTANCE-VARIABLES, ARRAY, HASH, HASH-DEFAULT, OBJECT, STRING, USER-DEFINED}
-use Rattle.definition.specs.Node.{Row, Vars, nil, bool, fixnum, symbol, array, hash, object, string, user, present, width, flat}
+use Rattle.definition.specs.Kind.{NIL, TRUE, FALSE, FIXNUM, SYMBOL, SYMBOL-LINK, OBJECT-LINK, INSTANCE-VARIABLES, ARRAY, HASH, HASH-DEFAULT, OBJECT, STRING, USER-DEFINED, FLOAT}
+use Rattle.definition.specs.Node.{Row, Vars, nil, bool, fixnum, symbol, array, hash, object, string, user, float, absent, present, width, flat}
 use Rattle.definition.specs.Arena.{Tables, range, too-long, bad-nodes, lowest, padded, zeroed, find-symbol}
 use Rattle.definition.specs.declared.Answer.the-variants.{Accepted, Refused}
 use Rattle.definition.specs.declared.Counts.{Counts}
@@ -150,9 +150,9 @@ read-object-link input = read-count input >>= λ i. look λ s. entry (s .objects
 
 -- ---- values
 
--- "The fourteen kind bytes": `0` `T` `F` `i` `:` `;` `@` `I` `[` `{` `}` `o` `"` `u`
+-- the kind bytes: `0` `T` `F` `i` `:` `;` `@` `I` `[` `{` `}` `o` `"` `u` `f`
 pub data Head : Type 0 where
-  Nil True False Fixnum Symbol SymbolLink ObjectLink InstanceVariables Array Hash HashDefault Object String UserDefined Unknown : Head
+  Nil True False Fixnum Symbol SymbolLink ObjectLink InstanceVariables Array Hash HashDefault Object String UserDefined Float Unknown : Head
 
 -- a kind byte's head
 unfoldable pub head : ℕ → Head
@@ -170,7 +170,8 @@ head k =
     (pick (eqb k HASH-DEFAULT) HashDefault
     (pick (eqb k OBJECT) Object
     (pick (eqb k STRING) String
-    (pick (eqb k USER-DEFINED) UserDefined Unknown)))))))))))))
+    (pick (eqb k USER-DEFINED) UserDefined
+    (pick (eqb k FLOAT) Float Unknown))))))))))))))
 
 -- "Symbol-like": `:` or `;`; "Another kind is 9"
 unfoldable pub read-symbol-like : List ℕ → Room → Reader ℕ
@@ -215,15 +216,23 @@ read-hash default? input room inner = add-object-node room nil >>= λ h. counted
 unfoldable pub read-object : List ℕ → Room → Reader ℕ → Reader ℕ
 read-object input room inner = add-object-node room nil >>= λ h. read-symbol-like input room >>= λ c. read-instance-variables input room inner λ start n. fill h (object start n c)
 
--- `"`: "byte string, node, object list"
+-- "byte string, node, object list": the row knows where its bytes start and how many they are
+unfoldable pub read-text : List ℕ → Room → (ℕ → ℕ → Row) → Reader ℕ
+read-text input room row = read-byte-string input >>= λ bs. add-bytes room bs >>= λ start. add-object-node room (row start (length bs))
+
+-- `"`
 unfoldable pub read-string : List ℕ → Room → Reader ℕ
-read-string input room = read-byte-string input >>= λ bs. add-bytes room bs >>= λ start. add-object-node room (string start (length bs) Vars.absent)
+read-string input room = read-text input room λ start n. string start n absent
 
 -- `u`: "symbol-like name, byte string, node, object list"
 unfoldable pub read-user-defined : List ℕ → Room → Reader ℕ
-read-user-defined input room = read-symbol-like input room >>= λ c. read-byte-string input >>= λ bs. add-bytes room bs >>= λ start. add-object-node room (user start (length bs) c Vars.absent)
+read-user-defined input room = read-symbol-like input room >>= λ c. read-text input room λ start n. user start n c absent
 
--- "10 unless the value is string or user-defined. It replaces earlier variables"
+-- `f`: "Like a string, it takes the next object number once its bytes are read"
+unfoldable pub read-float : List ℕ → Room → Reader ℕ
+read-float input room = read-text input room float
+
+-- "10 unless the value is string or user-defined. It replaces earlier variables"; "`I` on a Float is still NOT-AN-OBJECT"
 unfoldable pub set-variables : ℕ → ℕ → ℕ → Row → Reader ℕ
 set-variables h start n (string s l v) = fill h (string s l (present start n))
 set-variables h start n (user s l c v) = fill h (user s l c (present start n))
@@ -234,6 +243,7 @@ set-variables h start n (symbol s l) = refuse NotAnObject
 set-variables h start n (array s m) = refuse NotAnObject
 set-variables h start n (hash s m d) = refuse NotAnObject
 set-variables h start n (object s m c) = refuse NotAnObject
+set-variables h start n (float s l) = refuse NotAnObject
 
 -- `I`: "a value, then a count, its reference words reserved, pairs of symbol-like name and value, then 10 unless .."
 unfoldable pub read-variables : List ℕ → Room → Reader ℕ → Reader ℕ
@@ -255,6 +265,7 @@ value-of input room inner k HashDefault = read-hash true input room inner
 value-of input room inner k Object = read-object input room inner
 value-of input room inner k String = read-string input room
 value-of input room inner k UserDefined = read-user-defined input room
+value-of input room inner k Float = read-float input room
 value-of input room inner k Unknown = refuse (InvalidKind k)
 
 -- "A value reads its members and each member is again a value", by the levels still allowed; "The level is tested before the kind byte"

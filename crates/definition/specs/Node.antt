@@ -1,4 +1,4 @@
--- A node: its row, and the row as seven words (01, "The arena").
+-- A node: its row, and the row as seven words (01, "The arena"; 02, 2.1).
 use Prim.Native.Nat.{ℕ, zero, suc, _+_, _*_}
 use mathlib.Core.Bool.{Bool, true, false}
 use mathlib.Core.List.{List, [], _∷_, _++_}
@@ -15,7 +15,7 @@ pub data Vars : Type 0 where
   absent : Vars
   present : ℕ → ℕ → Vars
 
--- a row for each kind: array start count, hash start pairs default, object start pairs name, string start length variables, user-defined start length name variables; a default is 0 for none, else node + 1
+-- a row for each kind: array start count, hash start pairs default, object start pairs name, string start length variables, user-defined start length name variables, float start length; a default is 0 for none, else node + 1
 pub data Row : Type 0 where
   nil : Row
   bool : Bool → Row
@@ -26,8 +26,9 @@ pub data Row : Type 0 where
   object : ℕ → ℕ → ℕ → Row
   string : ℕ → ℕ → Vars → Row
   user : ℕ → ℕ → ℕ → Vars → Row
+  float : ℕ → ℕ → Row
 
--- "kind: 0 nil, 1 bool, 2 fixnum, 3 symbol, 4 array, 5 hash, 6 object, 7 string, 8 user-defined"
+-- "kind: 0 nil, 1 bool, 2 fixnum, 3 symbol, 4 array, 5 hash, 6 object, 7 string, 8 user-defined"; "a new node kind 9"
 unfoldable pub kind : Row → ℕ
 kind nil = 0
 kind (bool b) = 1
@@ -38,6 +39,7 @@ kind (hash s n d) = 5
 kind (object s n c) = 6
 kind (string s l v) = 7
 kind (user s l c v) = 8
+kind (float s l) = 9
 
 -- the seven words; "unused words are zero"
 unfoldable pub words : Row → List ℕ
@@ -53,6 +55,7 @@ words (string s l absent) = 7 ∷ s ∷ l ∷ 0 ∷ 0 ∷ 0 ∷ 0 ∷ []
 words (string s l (present p n)) = 7 ∷ s ∷ l ∷ p ∷ n ∷ 0 ∷ 1 ∷ []
 words (user s l c absent) = 8 ∷ s ∷ l ∷ 0 ∷ 0 ∷ c ∷ 0 ∷ []
 words (user s l c (present p n)) = 8 ∷ s ∷ l ∷ p ∷ n ∷ c ∷ 1 ∷ []
+words (float s l) = 9 ∷ s ∷ l ∷ 0 ∷ 0 ∷ 0 ∷ 0 ∷ []
 
 -- the rows' words, one row after the other
 unfoldable pub flat : List Row → List ℕ
@@ -76,7 +79,8 @@ row-of k a b s n c f =
     (pick (eqb k 5) (hash s n f)
     (pick (eqb k 6) (object s n c)
     (pick (eqb k 7) (string a b (vars f s n))
-    (pick (eqb k 8) (user a b c (vars f s n)) nil)))))))
+    (pick (eqb k 8) (user a b c (vars f s n))
+    (pick (eqb k 9) (float a b) nil))))))))
 
 -- a node's words as a row
 unfoldable pub row : List ℕ → Row

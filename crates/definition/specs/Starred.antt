@@ -43,7 +43,7 @@ integers =
 -- ---- loads and dumps
 
 -- what loading bytes and dumping the arena come to: the used node words, reference words and bytes, the bytes of input used, and the bytes written; or the refusal's three numbers
-data Result : Type 0 where
+pub data Result : Type 0 where
   dumped : List ℕ → List ℕ → List ℕ → ℕ → List ℕ → Result
   not-loaded : ℕ × ℤ × ℤ → Result
 
@@ -60,10 +60,10 @@ result c Accepted = dumped (take (c .answer .counts .nodes * N.width) (c .lent .
 result c (Refused r) = not-loaded (numbers r)
 
 call : List ℕ → L.LoadCall
-unfolding lent L.load-call L.load-if L.load-done L.load-wrong L.room-of L.load L.read-header L.read-value L.value-of L.read-variables L.set-variables L.read-user-defined L.read-string L.read-object L.read-hash L.read-default L.read-array L.read-fixnum L.read-instance-variables L.read-pairs L.read-elements L.counted L.read-symbol-like L.head L.read-object-link L.read-symbol-link L.entry L.read-symbol L.intern L.intern-as L.put-reference L.fill L.add-object-node L.add-object L.add-symbol L.add-bytes L.reserve L.add-node L.read-byte-string L.read-count L.read-integer L.read-form L.read-bytes L.read-byte A.find-symbol A.named A.name-of A.lowest A.bad-nodes A.too-long A.range A.zeroed A.padded N.equal N.flat N.words N.kind form little pure refuse next _>>=_ look pick
+unfolding lent L.load-call L.load-if L.load-done L.load-wrong L.room-of L.load L.read-header L.read-value L.value-of L.read-variables L.set-variables L.read-float L.read-user-defined L.read-string L.read-text L.read-object L.read-hash L.read-default L.read-array L.read-fixnum L.read-instance-variables L.read-pairs L.read-elements L.counted L.read-symbol-like L.head L.read-object-link L.read-symbol-link L.entry L.read-symbol L.intern L.intern-as L.put-reference L.fill L.add-object-node L.add-object L.add-symbol L.add-bytes L.reserve L.add-node L.read-byte-string L.read-count L.read-integer L.read-form L.read-bytes L.read-byte A.find-symbol A.named A.name-of A.lowest A.bad-nodes A.too-long A.range A.zeroed A.padded N.equal N.flat N.words N.kind form little pure refuse next _>>=_ look pick
 call input = L.load-call input lent 64
 
-load-and-dump : List ℕ → Result
+unfoldable pub load-and-dump : List ℕ → Result
 unfolding result call
 load-and-dump input = result (call input) (call input .answer .answer)
 
@@ -82,7 +82,7 @@ outcomes =
     ∷ []
 
 -- each case comes to what stands beside it
-holds : {A B : Type 0} → (A → B) → List (A × B) → Type 0
+unfoldable pub holds : {A B : Type 0} → (A → B) → List (A × B) → Type 0
 holds f cases = map (λ c. f (c .0)) cases ≡ map (λ c. c .1) cases
 
 starred : holds read integers × holds load-and-dump outcomes

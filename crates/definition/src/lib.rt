@@ -11,9 +11,10 @@ pub enum ValueKind {
     Object,
     String,
     UserDefined,
+    Float,
 }
 
-// The fourteen kind bytes, named once for loader and dumper.
+// The kind bytes, named once for loader and dumper.
 impl ValueKind {
     pub const NIL: u8 = b'0';
 
@@ -42,6 +43,8 @@ impl ValueKind {
     pub const STRING: u8 = b'"';
 
     pub const USER_DEFINED: u8 = b'u';
+
+    pub const FLOAT: u8 = b'f';
 }
 
 // A node's words: how many there are, their places, and the kinds' numbers in word 0, where a node begins. A word that a kind
@@ -89,6 +92,8 @@ impl Node {
     pub const STRING: u32 = 7;
 
     pub const USER_DEFINED: u32 = 8;
+
+    pub const FLOAT: u32 = 9;
 }
 
 // What is not well formed: the counts, or this node.

@@ -11,7 +11,7 @@ use native.Mathlib.Decide.{ℕ-discrete}
 use borrow.Author.Tests.{eq-eqb, ne-eqb}
 use Rattle.definition.specs.Run.{Outcome, ok, refused, pure, refuse, next, _>>=_, look, pick}
 use Rattle.definition.specs.Integer.{integer-bytes}
-use Rattle.definition.specs.Kind.{SYMBOL, SYMBOL-LINK, OBJECT-LINK, STRING, USER-DEFINED}
+use Rattle.definition.specs.Kind.{SYMBOL, SYMBOL-LINK, OBJECT-LINK, STRING, USER-DEFINED, FLOAT}
 use Rattle.definition.specs.Node.{Row, nil, bool, fixnum, symbol, array, hash, object, string, user, absent, present}
 use Rattle.definition.specs.Arena.{Arena, node, range, name-of, firsts}
 use Rattle.definition.specs.Graph.{header-of, SameGraph}
@@ -19,13 +19,13 @@ use Rattle.definition.specs.Dump.{Written, Writer, _>>_, write, number-symbol, 
 use Rattle.definition.specs.declared.Refusal.{Refusal}
 use Rattle.definition.specs.declared.Refusal.the-variants.{NoSpace, TooDeep}
 use Rattle.lists.specs.Lists.{At, PW, pw-snoc}
-use Rattle.graph.specs.Forest.{Node, leaf, sym, box}
+use Rattle.graph.specs.Forest.{Node, leaf, sym, box, Texted, text-string, text-float}
 use Rattle.graph.specs.Describe.{Like, Key}
 use Rattle.graph.specs.Describe as Describe
-use Rattle.graph.specs.View.{see, seen, see-at, at-see}
+use Rattle.graph.specs.View.{see, text-row, seen, see-at, at-see}
 use Rattle.well_formed.specs.Nodes.{at-node, Name}
 use Rattle.well_formed.specs.Right.{Right, RowRight, Names}
-use Rattle.dump_forest.specs.Shown.{Shown, nil-shown, false-shown, true-shown, fixnum-shown, symbol-shown, array-shown, hash-shown, default-shown, object-shown, string-shown, string-vars-shown, user-shown, user-vars-shown, shown-at, name-shown}
+use Rattle.dump_forest.specs.Shown.{Shown, nil-shown, false-shown, true-shown, fixnum-shown, symbol-shown, array-shown, hash-shown, default-shown, object-shown, string-shown, string-vars-shown, user-shown, user-vars-shown, float-shown, shown-at, name-shown}
 use Rattle.dump_forest.specs.Same.{graph-of, same-pairing}
 
 pw-snoc-inv : (R : ℕ → ℕ → Type 0) (l m : List ℕ) (x y : ℕ) → PW R (l ++ (x ∷ [])) (m ++ (y ∷ [])) → PW R l m × R x y
@@ -91,7 +91,7 @@ module _ (size : ℕ) (P Q : Arena) (R : ℕ → ℕ → Type 0) (π : Describe.
 
   -- ---- numbers
 
-  -- paired nodes, both of kinds 3 to 8
+  -- paired nodes, both of kinds 3 to 9
   record Keys (v w : ℕ) : Type 0 where
     paired : R v w
     left-node : Node
@@ -240,20 +240,25 @@ module _ (size : ℕ) (P Q : Arena) (R : ℕ → ℕ → Type 0) (π : Describe.
       twin-bytes : (x y : List ℕ) → x ≡ y → Twin (write size x) (write size y)
       twin-bytes x y e = subst (λ (z : List ℕ). Twin (write size x) (write size z)) e (twin-write x)
 
+      -- a kind byte and the same byte string
+      twin-byte-string : (k : ℕ) {b c : List ℕ} → b ≡ c → Twin (write size (k ∷ byte-string-bytes b)) (write size (k ∷ byte-string-bytes c))
+      twin-byte-string k e = twin-bytes _ _ (ap (λ (x : List ℕ). k ∷ byte-string-bytes x) e)
+
       twin-variables : {body body′ : Writer} (n s s′ : ℕ) → Twin body body′ → PW R (range (P .references) s (n * 2)) (range (Q .references) s′ (n * 2)) → Names P (range (P .references) s (n * 2))
           → Twin (write-variables size P level f body (present s n)) (write-variables size Q level g body′ (present s′ n))
       unfolding write-variables
       twin-variables n s s′ x p h = twin-then (twin-then (twin-then (twin-write _) test) x) (twin-instance-variables n s s′ p h)
 
-      twin-string : (s l : ℕ) (b ns : List ℕ) {q : Row} → range (P .bytes) s l ≡ b → Shown Q q (box (header-of 7 0 b 0 false) ns) → Keys v w → Rows (string s l absent) q
+      twin-text : {k i : ℕ} (t : Texted k i) (s l : ℕ) (b ns : List ℕ) {q : Row} → range (P .bytes) s l ≡ b → Shown Q q (box (header-of i 0 b 0 false) ns) → Keys v w → Rows (text-row t s l) q
       unfolding write-row write-variables
-      twin-string s l b ns e string-shown k = twin-object-or-link v w k (twin-bytes _ _ (ap (λ (x : List ℕ). STRING ∷ byte-string-bytes x) e))
+      twin-text text-string s l b ns e string-shown k = twin-object-or-link v w k (twin-byte-string STRING e)
+      twin-text text-float s l b ns e float-shown k = twin-object-or-link v w k (twin-byte-string FLOAT e)
 
       twin-string-vars : (s l p n : ℕ) (b ns : List ℕ) {q : Row} → range (P .bytes) s l ≡ b → PW R (range (P .references) p (n * 2)) ns → Shown Q q (box (header-of 7 0 b n true) ns)
           → Names P (range (P .references) p (n * 2)) → Keys v w → Rows (string s l (present p n)) q
       unfolding write-row
       twin-string-vars s l p n b ns e x (string-vars-shown {p = p′}) h k =
-          twin-object-or-link v w k (twin-variables n p p′ (twin-bytes _ _ (ap (λ (x : List ℕ). STRING ∷ byte-string-bytes x) e)) x h)
+          twin-object-or-link v w k (twin-variables n p p′ (twin-byte-string STRING e) x h)
 
       twin-class : (c c′ : ℕ) (b b′ : List ℕ) → R c c′ → Name P c → b ≡ b′
           → Twin (write size (USER-DEFINED ∷ []) >> write-name size P c >> write size (byte-string-bytes b)) (write size (USER-DEFINED ∷ []) >> write-name size Q c′ >> write size (byte-string-bytes b′))
@@ -281,10 +286,11 @@ module _ (size : ℕ) (P Q : Arena) (R : ℕ → ℕ → Type 0) (π : Describe.
       twin-row {q = q} (hash-shown {s = s} {n = n}) b (ns, e, p) h r x y = twin-hash s n ns p (subst (Shown Q q) e b) (box-keys _ _ ns r x (y ∙ ap some e))
       twin-row {q = q} (default-shown {s = s} {n = n} {d = d}) b (ns, e, p) h r x y = twin-default s n d ns p (subst (Shown Q q) e b) (box-keys _ _ ns r x (y ∙ ap some e))
       twin-row {q = q} (object-shown {s = s} {n = n} {c = c}) b (ns, e, p) h r x y = twin-object s n c ns p (subst (Shown Q q) e b) (h .0) (h .1 .names) (box-keys _ _ ns r x (y ∙ ap some e))
-      twin-row {q = q} (string-shown {s = s} {l = l}) b (ns, e, p) h r x y = twin-string s l _ ns refl (subst (Shown Q q) e b) (box-keys _ _ ns r x (y ∙ ap some e))
+      twin-row {q = q} (string-shown {s = s} {l = l}) b (ns, e, p) h r x y = twin-text text-string s l _ ns refl (subst (Shown Q q) e b) (box-keys _ _ ns r x (y ∙ ap some e))
       twin-row {q = q} (string-vars-shown {s = s} {l = l} {p = p₀} {n = n}) b (ns, e, p) h r x y = twin-string-vars s l p₀ n _ ns refl p (subst (Shown Q q) e b) (h .1 .names) (box-keys _ _ ns r x (y ∙ ap some e))
       twin-row {q = q} (user-shown {s = s} {l = l} {c = c}) b (ns, e, p) h r x y = twin-user s l c _ ns refl p (subst (Shown Q q) e b) (h .1) (box-keys _ _ ns r x (y ∙ ap some e))
       twin-row {q = q} (user-vars-shown {s = s} {l = l} {c = c} {p = p₀} {n = n}) b (ns, e, p) h r x y = twin-user-vars s l c p₀ n _ ns refl p (subst (Shown Q q) e b) (h .1) (h .2 .names) (box-keys _ _ ns r x (y ∙ ap some e))
+      twin-row {q = q} (float-shown {s = s} {l = l}) b (ns, e, p) h r x y = twin-text text-float s l _ ns refl (subst (Shown Q q) e b) (box-keys _ _ ns r x (y ∙ ap some e))
 
   -- ---- values
 

@@ -15,11 +15,11 @@ use Rattle.definition.specs.Arena.{Arena, node, range, name-of}
 use Rattle.definition.specs.Graph.{Header, header-of, default-link}
 use Rattle.definition.specs.Dump.{Writer, _>>_, write, number-symbol, number-object, link-or, byte-string-bytes, write-symbol, write-object-or-link, write-elements, write-pairs, write-name, write-instance-variables, write-variables, write-default, hash-byte, write-row, write-level, write-value, dump}
 use Rattle.lists.specs.Lists.{At, NotIn, Distinct, distinct-snoc}
-use Rattle.graph.specs.Forest.{leaf, sym, box, Num, addO, addS, fresh, F, Mode, values, pairs, value-pairs, name, name-pairs, after, IsValue, Text, tEnd, tEndPairs, tName, tNameLink, tOneName, tOneLink, tClass, tClassLink, tNil, tFalse, tTrue, tFixnum, tSymbol, tSymbolLink, tObjectLink, tArray, tHash, tHashDefault, tObject, tString, tStringVars, tUser, tUserVars}
+use Rattle.graph.specs.Forest.{leaf, sym, box, Num, addO, addS, fresh, F, Mode, values, pairs, value-pairs, name, name-pairs, after, IsValue, Text, tEnd, tEndPairs, tName, tNameLink, tOneName, tOneLink, tClass, tClassLink, tNil, tFalse, tTrue, tFixnum, tSymbol, tSymbolLink, tObjectLink, tArray, tHash, tHashDefault, tObject, Texted, text-string, text-float, tText, tStringVars, tUser, tUserVars}
 use Rattle.graph.specs.Describe.{Dist, no-dist, E, eEnd, eLeaf, eBox, eRef, eSym, eSymref, e-dist}
 use Rattle.graph.specs.View.{seen}
 use Rattle.dump_forest.specs.Writers.{written, un-then, then-ok, write-ok, at-number, notin-number, part-default}
-use Rattle.dump_forest.specs.Shown.{Shown, shown-at, name-shown, nil-shown, false-shown, true-shown, fixnum-shown, symbol-shown, array-shown, hash-shown, default-shown, object-shown, string-shown, string-vars-shown, user-shown, user-vars-shown}
+use Rattle.dump_forest.specs.Shown.{Shown, shown-at, name-shown, nil-shown, false-shown, true-shown, fixnum-shown, symbol-shown, array-shown, hash-shown, default-shown, object-shown, string-shown, string-vars-shown, user-shown, user-vars-shown, float-shown}
 
 -- the writer writes x where there is room for it, and numbers what σ′ has more than σ
 pub record Writes (size : ℕ) (m : Writer) (σ : Num) (x : List ℕ) (σ′ : Num) : Type 0 where
@@ -181,6 +181,7 @@ module _ (size : ℕ) (A : Arena) where
       put-object-link string-vars-shown k d a = object-again size σ v k _ d a
       put-object-link user-shown k d a = object-again size σ v k _ d a
       put-object-link user-vars-shown k d a = object-again size σ v k _ d a
+      put-object-link float-shown k d a = object-again size σ v k _ d a
 
       put-array : {r : Row} {n : ℕ} {ms : List ℕ} → Shown A r (box (header-of 4 0 [] n false) ms) → (y : List ℕ) (σ₂ : Num) → NotIn v (σ .objs)
           → Writes size (write-elements inner ms) (addO v σ) y σ₂ → Row-writes r (ARRAY ∷ integer-bytes n ++ y) σ₂
@@ -215,9 +216,10 @@ module _ (size : ℕ) (A : Arena) where
       unfolding write-row write-instance-variables
       put-object object-shown y σ₂ ni w = object-new size ni (group-left size _ _ _ (then-writes size (bytes-writes size (addO v σ) (OBJECT ∷ [])) w))
 
-      put-string : {r : Row} {b ms : List ℕ} → Shown A r (box (header-of 7 0 b 0 false) ms) → NotIn v (σ .objs) → Row-writes r (STRING ∷ byte-string-bytes b) (addO v σ)
+      put-text : {k n : ℕ} (q : Texted k n) {r : Row} {b ms : List ℕ} → Shown A r (box (header-of n 0 b 0 false) ms) → NotIn v (σ .objs) → Row-writes r (k ∷ byte-string-bytes b) (addO v σ)
       unfolding write-row write-variables
-      put-string {b = b} string-shown ni = object-new size ni (bytes-writes size (addO v σ) (STRING ∷ byte-string-bytes b))
+      put-text text-string string-shown ni = object-new size ni (bytes-writes size (addO v σ) _)
+      put-text text-float float-shown ni = object-new size ni (bytes-writes size (addO v σ) _)
 
       -- the level, the contents, then the variables
       put-variables : (body : Writer) (p n : ℕ) (τ τ₁ τ₂ : Num) (x y : List ℕ) → Writes size level τ [] τ → Writes size body τ x τ₁
@@ -319,8 +321,8 @@ module _ (size : ℕ) (A : Arena) (limit : ℕ) where
       step m l v ws i (put-default size A (value l) _ v σ (shown-at A v _ a) y σ₂ n (complete t d₁ (dist-o h n))) (complete t₁ d (e-dist d₁ (dist-o h n)))
   complete {m = m} {σ = σ} (tObject {l = l} {y = y} i t t₁) (eBox {v = v} {ws = ws} {σ₂ = σ₂} a eEnd n d₁ d) h =
       step m l v ws i (put-object size A (value l) _ v σ (shown-at A v _ a) y σ₂ n (complete t d₁ (dist-o h n))) (complete t₁ d (e-dist d₁ (dist-o h n)))
-  complete {m = m} {σ = σ} (tString {l = l} i t) (eBox {v = v} {ws = ws} a eEnd n eEnd d) h =
-      step m l v ws i (put-string size A (value l) _ v σ (shown-at A v _ a) n) (complete t d (dist-o h n))
+  complete {m = m} {σ = σ} (tText {l = l} q i t) (eBox {v = v} {ws = ws} a eEnd n eEnd d) h =
+      step m l v ws i (put-text size A (value l) _ v σ q (shown-at A v _ a) n) (complete t d (dist-o h n))
   complete {m = m} {σ = σ} (tStringVars {l = l} {y = y} i t t₁) (eBox {v = v} {ws = ws} {σ₂ = σ₂} a eEnd n d₁ d) h =
       step m (suc l) v ws i (put-string-vars size A (value (suc l)) _ v σ (shown-at A v _ a) y σ₂ n (level-left size limit l (addO v σ)) (complete t d₁ (dist-o h n))) (complete t₁ d (e-dist d₁ (dist-o h n)))
   complete {m = m} {σ = σ} (tUser {l = l} i t₀ t₁) (eBox {v = v} {ws = ws} a d₀ n eEnd d) h =
@@ -365,7 +367,7 @@ text-suc (tArray i q t t₁) = tArray i q (text-suc t) (text-suc t₁)
 text-suc (tHash i q t t₁) = tHash i q (text-suc t) (text-suc t₁)
 text-suc (tHashDefault i q t t₁) = tHashDefault i q (text-suc t) (text-suc t₁)
 text-suc (tObject i t t₁) = tObject i (text-suc t) (text-suc t₁)
-text-suc (tString i t) = tString i (text-suc t)
+text-suc (tText q i t) = tText q i (text-suc t)
 text-suc (tStringVars i t t₁) = tStringVars i (text-suc t) (text-suc t₁)
 text-suc (tUser i t₀ t₁) = tUser i (text-suc t₀) (text-suc t₁)
 text-suc (tUserVars i t₀ t t₁) = tUserVars i (text-suc t₀) (text-suc t) (text-suc t₁)

@@ -7,7 +7,7 @@ use mathlib.Core.Option.{none}
 use mathlib.Core.List.{List, [], _∷_}
 use lib.ListN.{length}
 use native.Mathlib.Omega.{arith}
-use Rattle.definition.specs.Node.{Row, nil, bool, fixnum, symbol, array, hash, object, string, user, kind}
+use Rattle.definition.specs.Node.{Row, nil, bool, fixnum, symbol, array, hash, object, string, user, float, kind}
 use Rattle.definition.specs.Arena.{Arena, node}
 use Rattle.definition.specs.Graph.{Header, header-of, header, links, Reachable, root, link, Paired, none, one, Pairing, SameGraph}
 use Rattle.lists.specs.Lists.{At, PW}
@@ -39,6 +39,7 @@ header-kind A (hash s n d) = refl
 header-kind A (object s n c) = refl
 header-kind A (string s l v) = refl
 header-kind A (user s l c v) = refl
+header-kind A (float s l) = refl
 
 -- paired nodes have one kind
 pair-kind : (P Q : Arena) (a b : ℕ) → header P (node P a) ≡ header Q (node Q b) → kind (node P a) ≡ kind (node Q b)
@@ -126,6 +127,7 @@ see-node-of A (hash s n d) = refl
 see-node-of A (object s n c) = refl
 see-node-of A (string s l v) = refl
 see-node-of A (user s l c v) = refl
+see-node-of A (float s l) = refl
 
 abbrev node-header : Node → Header
 node-header (leaf k x) = header-of k x [] 0 false
@@ -149,6 +151,7 @@ see-header A (hash s n d) = refl
 see-header A (object s n c) = refl
 see-header A (string s l v) = refl
 see-header A (user s l c v) = refl
+see-header A (float s l) = refl
 
 see-links : (A : Arena) (r : Row) → links A r ≡ node-links (see A r)
 unfolding see links
@@ -162,6 +165,7 @@ see-links A (hash s n d) = refl
 see-links A (object s n c) = refl
 see-links A (string s l v) = refl
 see-links A (user s l c v) = refl
+see-links A (float s l) = refl
 
 see-key : (A : Arena) (r : Row) → 3 ≤ kind r → Key (see A r)
 unfolding see kind
@@ -175,6 +179,7 @@ see-key A (hash s n d) h = tt
 see-key A (object s n c) h = tt
 see-key A (string s l v) h = tt
 see-key A (user s l c v) h = tt
+see-key A (float s l) h = tt
 
 key-kind : (A : Arena) (r : Row) → Key (see A r) → 3 ≤ kind r
 unfolding see kind
@@ -188,6 +193,7 @@ key-kind A (hash s n d) h = omega arith
 key-kind A (object s n c) h = omega arith
 key-kind A (string s l v) h = omega arith
 key-kind A (user s l c v) h = omega arith
+key-kind A (float s l) h = omega arith
 
 -- ---- a pairing of nodes
 

@@ -1,4 +1,4 @@
--- Values of kinds 6 to 8 up to their pairs: what each call adds.
+-- Values of kinds 6 to 9 up to their pairs: what each call adds.
 use Prim.Native.Nat.{ℕ, _*_, _+_, _≤_, _<_}
 use native.Mathlib.Omega.{arith}
 use mathlib.Core.Path.{_≡_, sym, ap}
@@ -6,7 +6,7 @@ use mathlib.Core.List.{List, [], _∷_, _++_}
 use lib.ListN.{length, getD, take, drop}
 use Rattle.definition.specs.Run.{pure}
 use Rattle.definition.specs.Integer.{integer-bytes}
-use Rattle.definition.specs.Kind.{OBJECT, STRING, USER-DEFINED}
+use Rattle.definition.specs.Kind.{OBJECT, STRING, USER-DEFINED, FLOAT}
 use Rattle.definition.specs.Node.{width}
 use Rattle.definition.specs.Arena.{Arena, node, range}
 use Rattle.definition.specs.Dump.{Writer, _>>_, write, write-level, write-elements, write-name, write-instance-variables, write-object-or-link, write-row, write-value}
@@ -14,9 +14,9 @@ use Rattle.well_formed.specs.Right.{PairsIn}
 use Rattle.writer.specs.Held.{Buffers, buffers, Lent, Listed, Ready, IsSymbol, Goes, Leads, Meets}
 use Rattle.writer.specs.Laws.{then, goes-to, lead-to, lead-goes, lead-stop, lead-first, ready-goes, ready-as}
 use Rattle.writer.proofs.Names.{right-row}
-use Rattle.dumper.specs.Values.{IsObject, Heads, Opens, begun, opened, members-of, MembersIn}
+use Rattle.dumper.specs.Values.{IsObject, Heads, Opens, begun, opened, texted, members-of, MembersIn}
 use Rattle.dumper.specs.Laws.{linked, lead-head, head-as, head-to, head-after, head-goes, head-keep}
-use Rattle.dumper.proofs.Heads.{is-object, object-row, string-row, user-row, symbol-as, bytes-inside, object-open, string-open, user-open, after, after-none, after-some, vars-present, members-pairs, in-pairs}
+use Rattle.dumper.proofs.Heads.{is-object, object-row, string-row, user-row, float-row, symbol-as, bytes-inside, object-open, string-open, user-open, float-open, after, after-none, after-some, vars-present, members-pairs, in-pairs}
 
 -- the tables, the node and the levels left for its members
 pub record Here : Type 0 where
@@ -142,11 +142,14 @@ module _ (h : Here) (k : ℕ) where
       λ A L b e. in-pairs (h .nodes) (h .v) (λ q. omega (arith, q)) (λ q. omega (arith, q)) (inside A L b),
     )
 
-    object-here : k ≤ 8 → Of h (λ A. IsObject A (h .v))
+    object-here : k ≤ 9 → Of h (λ A. IsObject A (h .v))
     object-here low A L b = is-object (L .noded) (h .v) b k is (omega arith) low
 
-    pub object-ready : {B : Buffers} {c : List ℕ} → k ≤ 8 → Ready (Held h) B c → Ready (λ A. IsObject A (h .v)) B c
+    pub object-ready : {B : Buffers} {c : List ℕ} → k ≤ 9 → Ready (Held h) B c → Ready (λ A. IsObject A (h .v)) B c
     object-ready low = ready-as (λ A f. object-here low A (f .0) (f .2))
+
+    pub text-ready : {B : Buffers} {c : List ℕ} → k ≤ 9 → Ready (Held h) B c → Ready (λ A. Lent A (h .nodes) (h .bytes) × IsObject A (h .v)) B c
+    text-ready low = ready-as (λ A f. (f .0, object-here low A (f .0) (f .2)))
 
 -- ---- by kind
 
@@ -165,6 +168,10 @@ module _ (h : Here) (is : getD (h .nodes) (h .v * width) 0 ≡ 6) where
 abbrev Marks : Here → ℕ → Buffers → List ℕ → ℕ → Buffers → List ℕ → Type 0
 Marks h k B c r B' c' = (A : Arena) (room limit : ℕ) → IsObject A (h .v) → Opens A room limit (λ m. write-object-or-link room (h .v) (begun room (write-level limit (h .levels)) (word h 6) (write room (k ∷ [])) m)) B c r B' c'
 
+-- what open_text does
+abbrev Texts : Here → ℕ → ℕ → Buffers → List ℕ → ℕ → Buffers → List ℕ → Type 0
+Texts h f k B c r B' c' = (A : Arena) (room limit : ℕ) → IsObject A (h .v) → Opens A room limit (texted room (h .v) (write-level limit (h .levels)) f k (integer-bytes (word h 2) ++ take (word h 2) (drop (word h 1) (h .bytes)))) B c r B' c'
+
 module _ (h : Here) (is : getD (h .nodes) (h .v * width) 0 ≡ 7) where
   pub string-inside : Of h (λ A. word h 1 + word h 2 ≤ length (h .bytes))
   string-inside A L b = bytes-inside _ _ L (right-row L (h .v) b _ (string-row (L .noded) (h .v) b is) .0)
@@ -172,10 +179,10 @@ module _ (h : Here) (is : getD (h .nodes) (h .v * width) 0 ≡ 7) where
   pub string-pairs : (word h 6 ≡ 0 → ⊥) → Of h (λ A. PairsIn A (word h 3) (word h 4))
   string-pairs n A L b = vars-present _ _ _ n (right-row L (h .v) b _ (string-row (L .noded) (h .v) b is) .1)
 
-  pub string-first : {B B₁ : Buffers} {c c₁ : List ℕ} {r : ℕ} → Marks h STRING B c r B₁ c₁ → Each h (λ A room limit. Heads A room limit (value h A room limit) (text-rest h A room limit) B c r B₁ c₁)
+  pub string-first : {B B₁ : Buffers} {c c₁ : List ℕ} {r : ℕ} → Texts h (word h 6) STRING B c r B₁ c₁ → Each h (λ A room limit. Heads A room limit (value h A room limit) (rest h A room limit) B c r B₁ c₁)
   string-first o A room limit L l b =
       let row = string-row (L .noded) (h .v) b is in
-      head-as (string-open room A (write-level limit (h .levels)) (write-value room A limit (h .levels)) (h .v) L _ _ _ _ _ (right-row L (h .v) b _ row .0) row) (o A room limit (object-here h 7 is (omega arith) (omega arith) A L b) _)
+      head-as (string-open room A (write-level limit (h .levels)) (write-value room A limit (h .levels)) (h .v) L _ _ (right-row L (h .v) b _ row .0) _ _ _ row) (o A room limit (object-here h 7 is (omega arith) (omega arith) A L b) _)
 
 module _ (h : Here) (is : getD (h .nodes) (h .v * width) 0 ≡ 8) where
   pub user-inside : Of h (λ A. word h 1 + word h 2 ≤ length (h .bytes))
@@ -191,4 +198,13 @@ module _ (h : Here) (is : getD (h .nodes) (h .v * width) 0 ≡ 8) where
     pub user-first : {B B₁ : Buffers} {c c₁ : List ℕ} {r : ℕ} → Marks h USER-DEFINED B c r B₁ c₁ → Each h (λ A room limit. Heads A room limit (value h A room limit) (write-name room A name >> text-rest h A room limit) B c r B₁ c₁)
     user-first o A room limit L l b =
         let row = user-row (L .noded) (h .v) b is in
-        head-as (user-open room A (write-level limit (h .levels)) (write-value room A limit (h .levels)) (h .v) L _ _ _ _ _ (right-row L (h .v) b _ row .0) _ name e row) (o A room limit (object-here h 8 is (omega arith) (omega arith) A L b) _)
+        head-as (user-open room A (write-level limit (h .levels)) (write-value room A limit (h .levels)) (h .v) L _ _ (right-row L (h .v) b _ row .0) _ _ _ _ name e row) (o A room limit (object-here h 8 is (omega arith) (omega arith) A L b) _)
+
+module _ (h : Here) (is : getD (h .nodes) (h .v * width) 0 ≡ 9) where
+  pub float-inside : Of h (λ A. word h 1 + word h 2 ≤ length (h .bytes))
+  float-inside A L b = bytes-inside _ _ L (right-row L (h .v) b _ (float-row (L .noded) (h .v) b is))
+
+  pub float-first : {B B₁ : Buffers} {c c₁ : List ℕ} {r : ℕ} → Texts h 0 FLOAT B c r B₁ c₁ → Each h (λ A room limit. Heads A room limit (value h A room limit) (pure tt) B c r B₁ c₁)
+  float-first o A room limit L l b =
+      let row = float-row (L .noded) (h .v) b is in
+      head-as (float-open room A (write-level limit (h .levels)) (write-value room A limit (h .levels)) (h .v) L _ _ (right-row L (h .v) b _ row) row) (o A room limit (object-here h 9 is (omega arith) (omega arith) A L b) _)

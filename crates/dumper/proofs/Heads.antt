@@ -8,18 +8,18 @@ use lib.ListN.{length, getD, take, drop}
 use borrow.Author.Tests.{eq-eqb, ne-eqb}
 use Rattle.definition.specs.Run.{pure, pick}
 use Rattle.definition.specs.Integer.{integer-bytes}
-use Rattle.definition.specs.Kind.{ARRAY, HASH, HASH-DEFAULT, OBJECT, STRING, USER-DEFINED}
-use Rattle.definition.specs.Node.{width, symbol, array, hash, object, string, user, kind, vars}
+use Rattle.definition.specs.Kind.{ARRAY, HASH, HASH-DEFAULT, OBJECT, STRING, USER-DEFINED, FLOAT}
+use Rattle.definition.specs.Node.{width, symbol, array, hash, object, string, user, float, kind, vars}
 use Rattle.definition.specs.Arena.{Arena, node, range}
-use Rattle.definition.specs.Dump.{Writer, _>>_, write, write-elements, write-default, write-name, write-instance-variables, write-variables, write-object-or-link, write-row, hash-byte}
+use Rattle.definition.specs.Dump.{Writer, _>>_, write, write-elements, write-default, write-name, byte-string-bytes, write-instance-variables, write-variables, write-object-or-link, write-row, hash-byte}
 use Rattle.lists.specs.Lists.{at-lt}
-use Rattle.lists.specs.Rows.{kind-of, kind-low, row-4, row-5, row-6, row-7, row-8}
+use Rattle.lists.specs.Rows.{kind-of, kind-low, row-4, row-5, row-6, row-7, row-8, row-9}
 use Rattle.well_formed.specs.Nodes.{node-at, Name}
 use Rattle.well_formed.specs.Right.{BytesIn, PairsIn, VarsRight}
 use Rattle.writer.specs.Held.{Noded, Lent, IsSymbol}
 use Rattle.writer.specs.Laws.{assoc, unit-right, write-join}
 use Rattle.writer.proofs.Names.{right-row, string-bytes}
-use Rattle.dumper.specs.Values.{IsObject, begun, opened, listed, default-of, members-of, MembersIn}
+use Rattle.dumper.specs.Values.{IsObject, begun, opened, texted, listed, default-of, members-of, MembersIn}
 use Rattle.dumper.proofs.Openings.{begun-join}
 
 -- ---- what a row says
@@ -29,7 +29,7 @@ unfolding kind
 is-symbol {A} c (s, l, e) = record { below = at-lt (A .nodes) c (symbol s l) e; kind-three = ap kind (node-at A c (symbol s l) e) }
 
 module _ {A : Arena} {no : List ℕ} (N : Noded A no) (v : ℕ) (below : v < length (A .nodes)) where
-  pub is-object : (k : ℕ) → getD no (v * width) 0 ≡ k → 3 < k → k ≤ 8 → IsObject A v
+  pub is-object : (k : ℕ) → getD no (v * width) 0 ≡ k → 3 < k → k ≤ 9 → IsObject A v
   is-object k e h l =
       let q : kind (node A v) ≡ getD no (v * width) 0 = ap kind (N .row-at v below) ∙ kind-of _ _ _ _ _ _ _ (omega arith) in
       record { below = below; kind-above = omega arith }
@@ -37,8 +37,8 @@ module _ {A : Arena} {no : List ℕ} (N : Noded A no) (v : ℕ) (below : v < len
   abbrev w : ℕ → ℕ
   w i = getD no (v * width + i) 0
 
-  pub low-kind : (getD no (v * width) 0 ≡ 4 → ⊥) → (getD no (v * width) 0 ≡ 5 → ⊥) → (getD no (v * width) 0 ≡ 6 → ⊥) → (getD no (v * width) 0 ≡ 7 → ⊥) → (getD no (v * width) 0 ≡ 8 → ⊥) → kind (node A v) ≤ 3
-  low-kind a b c d f = omega (arith, ap kind (N .row-at v below), kind-low (getD no (v * width) 0) (w 1) (w 2) (w 3) (w 4) (w 5) (w 6) a b c d f)
+  pub low-kind : (getD no (v * width) 0 ≡ 4 → ⊥) → (getD no (v * width) 0 ≡ 5 → ⊥) → (getD no (v * width) 0 ≡ 6 → ⊥) → (getD no (v * width) 0 ≡ 7 → ⊥) → (getD no (v * width) 0 ≡ 8 → ⊥) → (getD no (v * width) 0 ≡ 9 → ⊥) → kind (node A v) ≤ 3
+  low-kind a b c d f g = omega (arith, ap kind (N .row-at v below), kind-low (getD no (v * width) 0) (w 1) (w 2) (w 3) (w 4) (w 5) (w 6) a b c d f g)
 
   pub array-row : getD no (v * width) 0 ≡ 4 → node A v ≡ array (w 3) (w 4)
   array-row e = N .row-at v below ∙ row-4 _ _ _ _ _ _ _ e
@@ -54,6 +54,9 @@ module _ {A : Arena} {no : List ℕ} (N : Noded A no) (v : ℕ) (below : v < len
 
   pub user-row : getD no (v * width) 0 ≡ 8 → node A v ≡ user (w 1) (w 2) (w 5) (vars (w 6) (w 3) (w 4))
   user-row e = N .row-at v below ∙ row-8 _ _ _ _ _ _ _ e
+
+  pub float-row : getD no (v * width) 0 ≡ 9 → node A v ≡ float (w 1) (w 2)
+  float-row e = N .row-at v below ∙ row-9 _ _ _ _ _ _ _ e
 
 pub default-byte : {X Y : Type 0} (room : ℕ) (A : Arena) (d k : ℕ) → (X → d ≡ 0) → (Y → d ≡ 0 → ⊥) → (X × (k ≡ HASH)) ⊎ (Y × (k ≡ HASH-DEFAULT)) → k ≡ hash-byte room A d
 unfolding hash-byte
@@ -125,17 +128,24 @@ module _ (room : ℕ) (A : Arena) (level : Writer) (inner : ℕ → Writer) (v :
   variables-after zero p n body = sym (unit-right body)
   variables-after (suc f) p n body = refl
 
-  module _ {no by : List ℕ} (L : Lent A no by) (s l f p n : ℕ) (inside : BytesIn A s l) where
-    pub string-open : node A v ≡ string s l (vars f p n) → write-row room A level inner v (node A v) ≡ write-object-or-link room v (begun room level f (write room (STRING ∷ [])) (write room (integer-bytes l ++ take l (drop s by)) >> after f p n))
-    unfolding write-row
-    string-open e =
-        ap (write-row room A level inner v) e
-        ∙ ap (λ (b : List ℕ). write-object-or-link room v (write-variables room A level inner (write room (STRING ∷ b)) (vars f p n))) (string-bytes s l L inside)
-        ∙ ap (write-object-or-link room v) (variables-after f p n _ ∙ ap (λ (m : Writer). begun room level f m (after f p n)) (write-join room (STRING ∷ []) _) ∙ begun-join room level f _ _ _)
+  module _ {no by : List ℕ} (L : Lent A no by) (s l : ℕ) (inside : BytesIn A s l) where
+    -- byte k and the bytes, and what comes after them
+    text-open : (f p n k : ℕ) → write-object-or-link room v (write-variables room A level inner (write room (k ∷ byte-string-bytes (range (A .bytes) s l))) (vars f p n)) ≡ texted room v level f k (integer-bytes l ++ take l (drop s by)) (after f p n)
+    text-open f p n k =
+        ap (λ (b : List ℕ). write-object-or-link room v (write-variables room A level inner (write room (k ∷ b)) (vars f p n))) (string-bytes s l L inside)
+        ∙ ap (write-object-or-link room v) (variables-after f p n _ ∙ ap (λ (m : Writer). begun room level f m (after f p n)) (write-join room (k ∷ []) _) ∙ begun-join room level f _ _ _)
 
-    pub user-open : (c name : ℕ) → name ≡ c → node A v ≡ user s l c (vars f p n) → write-row room A level inner v (node A v) ≡ write-object-or-link room v (begun room level f (write room (USER-DEFINED ∷ [])) (write-name room A name >> (write room (integer-bytes l ++ take l (drop s by)) >> after f p n)))
+    pub string-open : (f p n : ℕ) → node A v ≡ string s l (vars f p n) → write-row room A level inner v (node A v) ≡ texted room v level f STRING (integer-bytes l ++ take l (drop s by)) (after f p n)
     unfolding write-row
-    user-open c name q e =
+    string-open f p n e = ap (write-row room A level inner v) e ∙ text-open f p n STRING
+
+    pub float-open : node A v ≡ float s l → write-row room A level inner v (node A v) ≡ texted room v level 0 FLOAT (integer-bytes l ++ take l (drop s by)) (pure tt)
+    unfolding write-row write-variables vars after
+    float-open e = ap (write-row room A level inner v) e ∙ text-open 0 0 0 FLOAT
+
+    pub user-open : (f p n c name : ℕ) → name ≡ c → node A v ≡ user s l c (vars f p n) → write-row room A level inner v (node A v) ≡ write-object-or-link room v (begun room level f (write room (USER-DEFINED ∷ [])) (write-name room A name >> (write room (integer-bytes l ++ take l (drop s by)) >> after f p n)))
+    unfolding write-row
+    user-open f p n c name q e =
         ap (write-row room A level inner v) e
         ∙ ap (λ (b : List ℕ). write-object-or-link room v (write-variables room A level inner (write room (USER-DEFINED ∷ []) >> write-name room A c >> write room b) (vars f p n))) (string-bytes s l L inside)
         ∙ ap (λ (x : ℕ). write-object-or-link room v (write-variables room A level inner (write room (USER-DEFINED ∷ []) >> write-name room A x >> write room (integer-bytes l ++ take l (drop s by))) (vars f p n))) (sym q)

@@ -1,5 +1,6 @@
 -- How a value's beginning and what comes after it compose.
 use Prim.Native.Nat.{ℕ, zero, suc}
+use native.Mathlib.Omega.{arith}
 use mathlib.Core.Path.{_≡_, refl, sym, _∙_, subst}
 use mathlib.Core.List.{List}
 use Rattle.definition.specs.Run.{refused, pure, refuse}
@@ -53,6 +54,13 @@ module _ {A : Arena} {room limit : ℕ} where
   head-keep {r = zero} e k = absurd (e refl)
   head-keep {r = suc zero} e k = record { heads = k .heads }
   head-keep {r = suc (suc q)} e k = record { heads = k .heads }
+
+  -- what has no members is whole where it is done
+  pub head-whole : {m n : Writer} {B B' : Buffers} {c c' : List ℕ} {w r : ℕ} → (w ≡ 0 → r ≡ 1) → ((w ≡ 0 → ⊥) → r ≡ w) → Heads A room limit m (pure tt) B c w B' c' → Heads A room limit m n B c r B' c'
+  head-whole {m = m} {n = n} {B = B} {B' = B'} {c = c} {c' = c'} {w = zero} e f k = subst (λ (x : ℕ). Heads A room limit m n B c x B' c') (sym (e refl)) (linked (k .heads))
+  head-whole {m = m} {n = n} {B = B} {B' = B'} {c = c} {c' = c'} {w = suc q} e f k =
+      let z : suc q ≡ 0 → ⊥ = λ p. omega arith in
+      subst (λ (x : ℕ). Heads A room limit m n B c x B' c') (sym (f z)) (head-keep z k)
 
   -- no level is left
   pub deep : {m' : Writer} {B B' : Buffers} {c c' : List ℕ} (rest : Writer) → Leads A room limit (refuse (TooDeep limit) >> rest) m' B c 3 B' c'

@@ -11,12 +11,12 @@ use Rattle.definition.specs.Dump.{Writer, _>>_, write, write-elements, write-de
 use Rattle.well_formed.specs.Right.{ListIn}
 use Rattle.writer.specs.Held.{Buffers, Goes, Refuses, stopped}
 
--- node v is of kinds 4 to 8
+-- node v is of kinds 4 to 9
 pub record IsObject (A : Arena) (v : ℕ) : Type 0 where
   pub below : v < length (A .nodes)
   pub kind-above : 3 < kind (node A v)
 
--- by the answer: as `Leads` has it, but 1 says that m is done: a link, a scalar, or a string or user-defined value without variables
+-- by the answer: as `Leads` has it, but 1 says that m is done: a link, a scalar, a float, or a string or user-defined value without variables
 abbrev pub HeadCase : Arena → ℕ → ℕ → Writer → Writer → Buffers → List ℕ → ℕ → Buffers → List ℕ → Type 0
 HeadCase A room limit m m' B c zero B' c' = Goes A room m B c m' B' c'
 HeadCase A room limit m m' B c (suc zero) B' c' = Goes A room m B c (pure tt) B' c'
@@ -52,3 +52,7 @@ begun room level (suc f) body rest = write room (INSTANCE-VARIABLES ∷ []) >> l
 -- the bytes first given of an object that is not linked, and then the rest
 abbrev pub opened : ℕ → ℕ → List ℕ → Writer → Writer
 opened room v bs rest = write-object-or-link room v (write room bs >> rest)
+
+-- byte k and bytes of an object that is not linked, after `I` and the level where the mark f says that there are variables, and then the rest
+abbrev pub texted : ℕ → ℕ → Writer → ℕ → ℕ → List ℕ → Writer → Writer
+texted room v level f k bs rest = write-object-or-link room v (begun room level f (write room (k ∷ [])) (write room bs >> rest))

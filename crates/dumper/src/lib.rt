@@ -16,16 +16,16 @@ use writer::write_scalar;
 use writer::write_symbol;
 use writer::write_tagged;
 ghost use mathlib.Core.Path.{_≡_};
-ghost use mathlib.Core.List.{[], _∷_};
-ghost use Prim.Native.Nat.{ℕ, _+_, _*_, _<_};
-ghost use lib.ListN.{length, getD};
+ghost use mathlib.Core.List.{[], _∷_, _++_};
+ghost use Prim.Native.Nat.{ℕ, _+_, _*_, _<_, _≤_};
+ghost use lib.ListN.{length, getD, take, drop};
 ghost use Rattle.definition.specs.Integer.{integer-bytes};
 ghost use Rattle.definition.specs.Node.{width};
 ghost use Rattle.definition.specs.Arena.{Arena, node, range};
 ghost use Rattle.definition.specs.Dump.{write, write-level, write-object-or-link, write-elements, write-instance-variables, write-row, write-value};
 ghost use Rattle.well_formed.specs.Right.{PairsIn};
 ghost use Rattle.writer.specs.Held.{buffers, Lent, Listed, Ready, Leads};
-ghost use Rattle.dumper.specs.Values.{IsObject, Heads, Opens, begun, opened, members-of, MembersIn, listed};
+ghost use Rattle.dumper.specs.Values.{IsObject, Heads, Opens, begun, opened, texted, members-of, MembersIn, listed};
 ghost use Rattle.dumper.specs.Lengths.{wrong, Allowed};
 
 // A link where node v has a number; else its number, and byte k.
@@ -90,6 +90,42 @@ fn open_marked(
         return DEEP;
     }
     write_byte(output, c, k)
+}
+
+// Byte k, likewise, and the byte string.
+fn open_text(
+    nodes: &[u32],
+    bytes: &[u8],
+    scratch: &mut [u32],
+    output: &mut [u8],
+    c: &mut [usize; 3],
+    v: usize,
+    k: u8,
+    f: u32,
+    levels: u32,
+) -> u32
+    requires { ⌜ (getD (now nodes) (v * width + 1) 0 + getD (now nodes) (v * width + 2) 0 ≤ length (now bytes)) × Ready (λ A. Lent A (now nodes) (now bytes) × IsObject A v) (buffers (now scratch) (now output)) (now c) ⌝ }
+    ensures { λ r. ⌜ ((A : Arena) (room limit : ℕ) → IsObject A v → Opens A room limit (texted room v (write-level limit levels) f k (integer-bytes (getD (now (nodes .entry)) (v * width + 2) 0) ++ take (getD (now (nodes .entry)) (v * width + 2) 0) (drop (getD (now (nodes .entry)) (v * width + 1) 0) (now (bytes .entry))))) (buffers (now (scratch .entry)) (now (output .entry))) (now (c .entry)) r (buffers (now (scratch .exit)) (now (output .exit))) (now (c .exit))) ⌝ }
+{
+    let w = open_marked(scratch, output, c, v, k, f, levels);
+    if w != DONE {
+        return w;
+    }
+    write_byte_string(
+        &bytes[..],
+        output,
+        c,
+        nodes[v * Node::WIDTH + Node::START],
+        nodes[v * Node::WIDTH + Node::LENGTH],
+    )
+}
+
+// What has no members is whole where it is done.
+fn whole(w: u32) -> u32
+    ensures { λ r. ⌜ (w ≡ 0 → r ≡ 1) × ((w ≡ 0 → ⊥) → r ≡ w) ⌝ }
+    ensures { λ r. ⌜ (r ≡ 0 → ⊥) ⌝ }
+{
+    if w == DONE { WHOLE } else { w }
 }
 
 // The number of pairs. A pair's words are a name and a value, so the pairs are then written as elements; but names have no
@@ -191,19 +227,19 @@ fn open_string(
     ensures { λ r. ⌜ ((A : Arena) → Lent A (now (nodes .entry)) (now (bytes .entry)) → v < length (A .nodes) → r ≡ 0 → MembersIn A (now (nodes .entry)) v) ⌝ }
 {
     let f = nodes[v * Node::WIDTH + Node::VARIABLES];
-    let w = open_marked(scratch, output, c, v, ValueKind::STRING, f, levels);
-    if w != DONE {
-        return w;
-    }
-    let s = write_byte_string(
+    let w = open_text(
+        &nodes[..],
         &bytes[..],
+        scratch,
         output,
         c,
-        nodes[v * Node::WIDTH + Node::START],
-        nodes[v * Node::WIDTH + Node::LENGTH],
+        v,
+        ValueKind::STRING,
+        f,
+        levels,
     );
-    if s != DONE {
-        return s;
+    if w != DONE {
+        return w;
     }
     if f == 0 {
         return WHOLE;
@@ -347,13 +383,18 @@ pub fn open_value(
             v,
             levels,
         ),
-        _ => {
-            let w = write_scalar(&nodes[..], &bytes[..], scratch, output, c, v);
-            if w != DONE {
-                return w;
-            }
-            WHOLE
-        }
+        Node::FLOAT => whole(open_text(
+            &nodes[..],
+            &bytes[..],
+            scratch,
+            output,
+            c,
+            v,
+            ValueKind::FLOAT,
+            0,
+            levels,
+        )),
+        _ => whole(write_scalar(&nodes[..], &bytes[..], scratch, output, c, v)),
     }
 }
 

@@ -7,11 +7,11 @@ use lib.Dec.{eqb}
 use lib.ListN.{length}
 use Rattle.definition.specs.Run.{pick}
 use Rattle.definition.specs.Integer.{integer-bytes}
-use Rattle.definition.specs.Kind.{NIL, TRUE, FALSE, FIXNUM, SYMBOL, SYMBOL-LINK, OBJECT-LINK, INSTANCE-VARIABLES, ARRAY, HASH, HASH-DEFAULT, OBJECT, STRING, USER-DEFINED}
+use Rattle.definition.specs.Kind.{NIL, TRUE, FALSE, FIXNUM, SYMBOL, SYMBOL-LINK, OBJECT-LINK, INSTANCE-VARIABLES, ARRAY, HASH, HASH-DEFAULT, OBJECT, STRING, USER-DEFINED, FLOAT}
 use Rattle.definition.specs.Dump.{byte-string-bytes}
 use Rattle.definition.specs.Graph.{Header, header-of}
 
--- a node of a graph. leaf: kind 0 to 2 and the value; sym: a name; box: kinds 4 to 8, the members being the name, the elements or pairs, and the default, in this order
+-- a node of a graph. leaf: kind 0 to 2 and the value; sym: a name; box: kinds 4 to 9, the members being the name, the elements or pairs, and the default, in this order
 pub data Node : Type 0 where
   leaf : ℕ → ℕ → Node
   sym : List ℕ → Node
@@ -142,6 +142,11 @@ IsValue (value-pairs n) = Unit {0}
 IsValue name = ⊥
 IsValue (name-pairs n) = ⊥
 
+-- a value that is a byte string and nothing more, a string without variables or a Float: its kind byte and its kind
+pub data Texted : ℕ → ℕ → Type 0 where
+  text-string : Texted STRING 7
+  text-float : Texted FLOAT 9
+
 -- `Text m l g x`: the forest g has the shape that the mode asks, needs no more than l levels, and x is its bytes as dump writes them
 pub data Text : Mode → ℕ → F → List ℕ → Type 0 where
   tEnd : {l : ℕ} → Text values l fEnd []
@@ -167,8 +172,8 @@ pub data Text : Mode → ℕ → F → List ℕ → Type 0 where
       → Text m (suc l) (fBox (header-of 5 0 [] n true) fEnd f r) (HASH-DEFAULT ∷ integer-bytes n ++ y ++ x)
   tObject : {m : Mode} {l n : ℕ} {x y : List ℕ} {f r : F} → IsValue m → Text (name-pairs n) l f y → Text (after m) (suc l) r x
       → Text m (suc l) (fBox (header-of 6 0 [] n false) fEnd f r) (OBJECT ∷ y ++ x)
-  tString : {m : Mode} {l : ℕ} {b x : List ℕ} {r : F} → IsValue m → Text (after m) (suc l) r x
-      → Text m (suc l) (fBox (header-of 7 0 b 0 false) fEnd fEnd r) (STRING ∷ byte-string-bytes b ++ x)
+  tText : {m : Mode} {l k n : ℕ} {b x : List ℕ} {r : F} → Texted k n → IsValue m → Text (after m) (suc l) r x
+      → Text m (suc l) (fBox (header-of n 0 b 0 false) fEnd fEnd r) (k ∷ byte-string-bytes b ++ x)
   tStringVars : {m : Mode} {l n : ℕ} {b x y : List ℕ} {f r : F} → IsValue m → Text (pairs n) (suc l) f y → Text (after m) (suc (suc l)) r x
       → Text m (suc (suc l)) (fBox (header-of 7 0 b n true) fEnd f r) (INSTANCE-VARIABLES ∷ STRING ∷ byte-string-bytes b ++ integer-bytes n ++ y ++ x)
   tUser : {m : Mode} {l : ℕ} {b x z : List ℕ} {p r : F} → IsValue m → Text name l p z → Text (after m) (suc l) r x

@@ -2,15 +2,15 @@
 use Prim.Native.Nat.{ℕ, _<_}
 use mathlib.Core.Path.{_≡_}
 use mathlib.Core.Bool.{true, false}
-use mathlib.Core.List.{List, map}
+use mathlib.Core.List.{List, [], map}
 use lib.ListN.{length}
-use Rattle.definition.specs.Node.{Row, nil, bool, fixnum, symbol, array, hash, object, string, user}
+use Rattle.definition.specs.Node.{Row, nil, bool, fixnum, symbol, array, hash, object, string, user, float, absent}
 use Rattle.definition.specs.Arena.{Arena, node, range}
-use Rattle.definition.specs.Graph.{header, links}
+use Rattle.definition.specs.Graph.{header-of, header, links, vars-links, vars-count, vars-present}
 use Rattle.definition.specs.Load.{State}
 use Rattle.lists.specs.Lists.{At, at-lt, map-at, map-at-inv}
 use Rattle.well_formed.specs.Nodes.{node-at}
-use Rattle.graph.specs.Forest.{Node, leaf, sym, box}
+use Rattle.graph.specs.Forest.{Node, leaf, sym, box, Texted, text-string, text-float}
 use Rattle.graph.specs.Build.{St}
 
 -- only the arena's references and bytes matter
@@ -25,6 +25,18 @@ see A (hash s n d) = box (header A (hash s n d)) (links A (hash s n d))
 see A (object s n c) = box (header A (object s n c)) (links A (object s n c))
 see A (string s l v) = box (header A (string s l v)) (links A (string s l v))
 see A (user s l c v) = box (header A (user s l c v)) (links A (user s l c v))
+see A (float s l) = box (header A (float s l)) (links A (float s l))
+
+-- the row of a byte string and nothing more, by where its bytes start and how many they are
+abbrev pub text-row : {k n : ℕ} → Texted k n → ℕ → ℕ → Row
+text-row text-string s l = string s l absent
+text-row text-float s l = float s l
+
+-- it is seen as a box without members
+pub see-text : {k n : ℕ} (q : Texted k n) (A : Arena) (s l : ℕ) (b : List ℕ) → range (A .bytes) s l ≡ b → see A (text-row q s l) ≡ box (header-of n 0 b 0 false) []
+unfolding see header links vars-count vars-present vars-links
+see-text text-string A s l b e = rw e
+see-text text-float A s l b e = rw e
 
 unfoldable pub seen : Arena → List Node
 seen A = map (see A) (A .nodes)

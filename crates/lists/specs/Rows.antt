@@ -6,7 +6,7 @@ use mathlib.Core.Bool.{Bool, true, false}
 use lib.Dec.{leb, eqb}
 use borrow.Author.Tests.{ne-eqb, leb-true, leb-false}
 use Rattle.definition.specs.Run.{pick}
-use Rattle.definition.specs.Node.{nil, bool, fixnum, symbol, array, hash, object, string, user, kind, row-of, vars}
+use Rattle.definition.specs.Node.{nil, bool, fixnum, symbol, array, hash, object, string, user, float, kind, row-of, vars}
 
 module _ (k a b s n c f : ℕ) where
   -- the row of each kind
@@ -46,16 +46,20 @@ module _ (k a b s n c f : ℕ) where
   unfolding row-of pick
   row-8 e = rw e refl
 
-  -- past 8 it is nil
-  row-past : 8 < k → row-of k a b s n c f ≡ nil
+  pub row-9 : k ≡ 9 → row-of k a b s n c f ≡ float a b
   unfolding row-of pick
-  row-past l = simp (ne-eqb k 1 (omega arith), ne-eqb k 2 (omega arith), ne-eqb k 3 (omega arith), ne-eqb k 4 (omega arith), ne-eqb k 5 (omega arith), ne-eqb k 6 (omega arith), ne-eqb k 7 (omega arith), ne-eqb k 8 (omega arith))
+  row-9 e = rw e refl
 
-  kind-past : 8 < k → kind (row-of k a b s n c f) ≡ 0
+  -- past 9 it is nil
+  row-past : 9 < k → row-of k a b s n c f ≡ nil
+  unfolding row-of pick
+  row-past l = simp (ne-eqb k 1 (omega arith), ne-eqb k 2 (omega arith), ne-eqb k 3 (omega arith), ne-eqb k 4 (omega arith), ne-eqb k 5 (omega arith), ne-eqb k 6 (omega arith), ne-eqb k 7 (omega arith), ne-eqb k 8 (omega arith), ne-eqb k 9 (omega arith))
+
+  kind-past : 9 < k → kind (row-of k a b s n c f) ≡ 0
   unfolding kind
   kind-past l = ap kind (row-past l)
 
-pub kind-of : (k a b s n c f : ℕ) → k ≤ 8 → kind (row-of k a b s n c f) ≡ k
+pub kind-of : (k a b s n c f : ℕ) → k ≤ 9 → kind (row-of k a b s n c f) ≡ k
 unfolding row-of pick kind
 kind-of zero a b s n c f h = refl
 kind-of (suc zero) a b s n c f h = refl
@@ -66,28 +70,29 @@ kind-of (suc (suc (suc (suc (suc zero))))) a b s n c f h = refl
 kind-of (suc (suc (suc (suc (suc (suc zero)))))) a b s n c f h = refl
 kind-of (suc (suc (suc (suc (suc (suc (suc zero))))))) a b s n c f h = refl
 kind-of (suc (suc (suc (suc (suc (suc (suc (suc zero)))))))) a b s n c f h = refl
-kind-of (suc (suc (suc (suc (suc (suc (suc (suc (suc j))))))))) a b s n c f h = absurd (omega arith)
+kind-of (suc (suc (suc (suc (suc (suc (suc (suc (suc zero))))))))) a b s n c f h = refl
+kind-of (suc (suc (suc (suc (suc (suc (suc (suc (suc (suc j)))))))))) a b s n c f h = absurd (omega arith)
 
 module _ (k a b s n c f : ℕ) where
-  -- up to 8 the kind is word 0
+  -- up to 9 the kind is word 0
   pub kind-is : (x : ℕ) → kind (row-of k a b s n c f) ≡ x → 0 < x → k ≡ x
-  kind-is x e h = go (leb k 8) refl
+  kind-is x e h = go (leb k 9) refl
     where
-      go : (t : Bool) → leb k 8 ≡ t → k ≡ x
-      go true q = sym (kind-of k a b s n c f (leb-true k 8 q)) ∙ e
-      go false q = absurd (omega (arith, kind-past k a b s n c f (leb-false k 8 q)))
+      go : (t : Bool) → leb k 9 ≡ t → k ≡ x
+      go true q = sym (kind-of k a b s n c f (leb-true k 9 q)) ∙ e
+      go false q = absurd (omega (arith, kind-past k a b s n c f (leb-false k 9 q)))
 
-  -- a kind that is none of 4 to 8
-  pub kind-low : (k ≡ 4 → ⊥) → (k ≡ 5 → ⊥) → (k ≡ 6 → ⊥) → (k ≡ 7 → ⊥) → (k ≡ 8 → ⊥) → kind (row-of k a b s n c f) ≤ 3
-  kind-low n4 n5 n6 n7 n8 = go (leb k 8) refl
+  -- a kind that is none of 4 to 9
+  pub kind-low : (k ≡ 4 → ⊥) → (k ≡ 5 → ⊥) → (k ≡ 6 → ⊥) → (k ≡ 7 → ⊥) → (k ≡ 8 → ⊥) → (k ≡ 9 → ⊥) → kind (row-of k a b s n c f) ≤ 3
+  kind-low n4 n5 n6 n7 n8 n9 = go (leb k 9) refl
     where
-      go : (t : Bool) → leb k 8 ≡ t → kind (row-of k a b s n c f) ≤ 3
-      go true q = omega (arith, kind-of k a b s n c f (leb-true k 8 q), leb-true k 8 q)
-      go false q = omega (arith, kind-past k a b s n c f (leb-false k 8 q))
+      go : (t : Bool) → leb k 9 ≡ t → kind (row-of k a b s n c f) ≤ 3
+      go true q = omega (arith, kind-of k a b s n c f (leb-true k 9 q), leb-true k 9 q)
+      go false q = omega (arith, kind-past k a b s n c f (leb-false k 9 q))
 
   pub row-nil : (k ≡ 1 → ⊥) → (k ≡ 2 → ⊥) → (k ≡ 3 → ⊥) → kind (row-of k a b s n c f) ≤ 3 → row-of k a b s n c f ≡ nil
-  row-nil n1 n2 n3 h = go (leb k 8) refl
+  row-nil n1 n2 n3 h = go (leb k 9) refl
     where
-      go : (t : Bool) → leb k 8 ≡ t → row-of k a b s n c f ≡ nil
-      go true q = row-0 k a b s n c f (omega (arith, kind-of k a b s n c f (leb-true k 8 q)))
-      go false q = row-past k a b s n c f (leb-false k 8 q)
+      go : (t : Bool) → leb k 9 ≡ t → row-of k a b s n c f ≡ nil
+      go true q = row-0 k a b s n c f (omega (arith, kind-of k a b s n c f (leb-true k 9 q)))
+      go false q = row-past k a b s n c f (leb-false k 9 q)

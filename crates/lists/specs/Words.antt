@@ -9,7 +9,7 @@ use native.Mathlib.Omega.{arith}
 use borrow.Author.Tests.{eqb-true, eq-eqb}
 use Rattle.definition.specs.Run.{pick}
 use Rattle.definition.specs.Integer.{low-bytes}
-use Rattle.definition.specs.Node.{Row, nil, bool, fixnum, symbol, array, hash, object, string, user, absent, present, words, flat, equal}
+use Rattle.definition.specs.Node.{Row, nil, bool, fixnum, symbol, array, hash, object, string, user, float, absent, present, words, flat, equal}
 use Rattle.lists.specs.Lists.{apart}
 use Rattle.lists.specs.Joined.{pick-true}
 
@@ -50,6 +50,7 @@ length-words (string s l absent) = refl
 length-words (string s l (present p n)) = refl
 length-words (user s l c absent) = refl
 length-words (user s l c (present p n)) = refl
+length-words (float s l) = refl
 
 pub length-flat : (rs : List Row) → length (flat rs) ≡ length rs * 7
 unfolding flat

@@ -19,7 +19,9 @@ use Rattle.definition.specs.Load as L
 use Rattle.definition.specs.Load.{State, Room, at-set, begin, load}
 use Rattle.lists.specs.Lists.{At, at-snoc-inv, at-set-inv, apart, at-getD, Below, below-join}
 use Rattle.lists.specs.Ranges.{range-at, length-range-in}
-use Rattle.load_forest.specs.Trace.{Mode, Part, Plain, plain-nil, plain-bool, plain-fixnum, Trace, reading, reading-after, plain, known, new, symbol-link, object-link, list, hash-default, object-pairs, string-bytes, user-bytes, variables, no-elements, element, no-pairs, pair}
+use Rattle.graph.specs.Forest.{Texted, text-string, text-float}
+use Rattle.graph.specs.View.{text-row}
+use Rattle.load_forest.specs.Trace.{Mode, Part, Plain, plain-nil, plain-bool, plain-fixnum, Trace, reading, reading-after, plain, known, new, symbol-link, object-link, list, hash-default, object-pairs, text-bytes, user-bytes, variables, no-elements, element, no-pairs, pair}
 use Rattle.load_forest.specs.Readers.{load-traced, read-byte-then, read-bytes-then}
 use Rattle.states.specs.States.{with-node, with-symbol, with-object-node, with-bytes, with-word, with-row, with-room}
 use Rattle.states.specs.Rows.{list-length, Listed, is-array, is-hash, Varied, varied-string, varied-user}
@@ -130,6 +132,10 @@ varied-no-fixnum : {p n : ℕ} (r r′ : Row) → Varied p n r r′ → (w : ℕ
 varied-no-fixnum r r′ varied-string w e = apart (cc)
 varied-no-fixnum r r′ varied-user w e = apart (cc)
 
+text-no-fixnum : {k n : ℕ} (q : Texted k n) (a l w : ℕ) → text-row q a l ≡ fixnum w → ⊥
+text-no-fixnum text-string a l w e = apart (cc)
+text-no-fixnum text-float a l w e = apart (cc)
+
 small-opened : (r : Row) (s : State) → ((w : ℕ) → r ≡ fixnum w → ⊥) → Small s → Small (with-object-node r s)
 small-opened r s h x = small-same (with-node r s) (with-object-node r s) refl refl (small-node r s (λ w e. absurd (h w e)) x)
 
@@ -151,7 +157,7 @@ small {s = s} (hash-default {u = u} n l₁ l₂ l₃ x z) h y =
     small-row (length (s .nodes)) _ u (λ w e. apart (cc)) (small z h (small x h (small-same s₁ (with-room (n * 2) s₁) refl refl (small-opened nil s (λ w e. apart (cc)) y))))
 small {s = s} (object-pairs {t = t} {u = u} n l₁ l₂ x l₃ z) h y =
     small-row (length (s .nodes)) _ u (λ w e. apart (cc)) (small z h (small-same t (with-room (n * 2) t) refl refl (small x h (small-opened nil s (λ w e. apart (cc)) y))))
-small {input = input} {s = s} (string-bytes b p l₁ l₂ l₃) h y = small-opened _ (with-bytes b s) (λ w e. apart (cc)) (small-bytes b s (part-bytes input b h p) y)
+small {input = input} {s = s} (text-bytes q b p l₁ l₂ l₃) h y = small-opened _ (with-bytes b s) (text-no-fixnum q _ _) (small-bytes b s (part-bytes input b h p) y)
 small {input = input} (user-bytes {t = t} b x p l₁ l₂ l₃) h y = small-opened _ (with-bytes b t) (λ w e. apart (cc)) (small-bytes b t (part-bytes input b h p) (small x h y))
 small (variables {t = t} {u = u} {h = v} {r = r} {r′ = r′} n x l z a q) h y =
     small-row v r′ u (varied-no-fixnum r r′ q) (small z h (small-same t (with-room (n * 2) t) refl refl (small x h y)))

@@ -10,7 +10,7 @@ use lib.Seq.{take-append-seam, take-at, drop-at}
 use native.Mathlib.Omega.{arith}
 use borrow.Author.Tests.{ltb-false}
 use Rattle.definition.specs.Run.{Outcome, ok, refused, pick}
-use Rattle.definition.specs.Node.{Row, nil, bool, fixnum, symbol, array, hash, object, string, user, absent, present, width, words, flat, vars, row-of, row, rows, is-row}
+use Rattle.definition.specs.Node.{Row, nil, bool, fixnum, symbol, array, hash, object, string, user, float, absent, present, width, words, flat, vars, row-of, row, rows, is-row}
 use Rattle.definition.specs.Arena.{Tables, Arena, arena, padded, zeroed, row-right, node-right, counts-fit, faulty, fault}
 use Rattle.definition.specs.Load.{State, Room, Lists, lists, room-of, load, load-wrong, LoadCall, counts, load-done, load-if, load-call, at-set}
 use Rattle.definition.specs.declared.Answer.the-variants.{Accepted, Refused}
@@ -21,7 +21,7 @@ use Rattle.lists.specs.Lists.{At, apart}
 use Rattle.lists.specs.Words.{equal-self, length-words, length-flat}
 use Rattle.lists.specs.Tables.{counts-fit-yes, fault-none}
 use Rattle.graph.specs.View.{arena-of}
-use Rattle.load_forest.specs.Trace.{Mode, Trace, reading, reading-after, plain, known, new, symbol-link, object-link, list, hash-default, object-pairs, string-bytes, user-bytes, variables, no-elements, element, no-pairs, pair}
+use Rattle.load_forest.specs.Trace.{Mode, Trace, reading, reading-after, plain, known, new, symbol-link, object-link, list, hash-default, object-pairs, text-bytes, user-bytes, variables, no-elements, element, no-pairs, pair}
 use Rattle.load_forest.specs.Readers.{load-traced}
 use Rattle.load_forest.specs.Right.{LoadRight, load-right}
 use Rattle.load_forest.specs.Space.{Within, load-within}
@@ -42,6 +42,7 @@ row-words-back (string s l absent) = refl
 row-words-back (string s l (present p n)) = refl
 row-words-back (user s l c absent) = refl
 row-words-back (user s l c (present p n)) = refl
+row-words-back (float s l) = refl
 
 take-words : (r : Row) (x : List ℕ) → take width (words r ++ x) ≡ words r
 take-words r x = take-at (words r) x 7 (length-words r)
@@ -97,7 +98,7 @@ forwards {input = input} {s = s} (object-pairs {t = t} n l₁ l₂ x l₃ y) =
     let f = forwards x in
     let g = forwards y in
     record { on = omega (arith, f .on, g .on); ends = λ h. g .ends (f .ends h) }
-forwards {input = input} {s = s} {t = t} (string-bytes b p l₁ l₂ l₃) = forwards-refl input s t refl
+forwards {input = input} {s = s} {t = t} (text-bytes q b p l₁ l₂ l₃) = forwards-refl input s t refl
 forwards {input = input} {t = t} (user-bytes {t = u} b x p l₁ l₂ l₃) = forwards-trans (forwards x) (forwards-refl input u t refl)
 forwards (variables n x l y a q) =
     let f = forwards x in

@@ -6,14 +6,16 @@ use mathlib.Core.Logic.{inl}
 use mathlib.Core.List.{List, [], _∷_}
 use lib.ListN.{length, set, replicate, length-append, length-set, length-replicate}
 use native.Mathlib.Omega.{arith}
-use Rattle.definition.specs.Node.{Row, nil, hash, object, string, user, absent}
+use Rattle.definition.specs.Node.{Row, nil, hash, object, user, absent}
 use Rattle.definition.specs.Arena.{range}
 use Rattle.definition.specs.Load.{State, Room, at-set}
 use Rattle.lists.specs.Lists.{At}
 use Rattle.lists.specs.Ranges.{range-none}
-use Rattle.load_forest.specs.Trace.{Mode, value, name, elements, pairs, One, Plain, plain-nil, plain-bool, plain-fixnum, Trace, reading, reading-after, plain, known, new, symbol-link, object-link, list, hash-default, object-pairs, string-bytes, user-bytes, variables, no-elements, element, no-pairs, pair}
+use Rattle.graph.specs.Forest.{Texted}
+use Rattle.graph.specs.View.{text-row}
+use Rattle.load_forest.specs.Trace.{Mode, value, name, elements, pairs, One, Plain, plain-nil, plain-bool, plain-fixnum, Trace, reading, reading-after, plain, known, new, symbol-link, object-link, list, hash-default, object-pairs, text-bytes, user-bytes, variables, no-elements, element, no-pairs, pair}
 use Rattle.states.specs.Rows.{list-length, Listed, Varied}
-use Rattle.states.specs.States.{ranged-stored, frame-stored, Inside, Ranged, Free, Above, Frame, with-node, with-symbol, with-object-node, with-bytes, with-word, with-row, ranged-node, ranged-row, ranged-words, ranged-word, inside-nil, inside-bool, inside-fixnum, frame-refl, frame-trans, frame-below, frame-at-set, frame-symbol, frame-words, frame-word, frame-node, frame-row, free-new, free-part, range-written, with-room, inside-string, inside-user, inside-listed, inside-hash, inside-object, inside-varied, opened-ranged, above-nil, above-string, above-user, above-listed, above-hash, above-object, above-varied, with-new-symbol, ranged-new-symbol, above-bool, above-fixnum, frame-new-symbol, frame-opened}
+use Rattle.states.specs.States.{ranged-stored, frame-stored, Inside, Ranged, Free, Above, Frame, with-node, with-symbol, with-object-node, with-bytes, with-word, with-row, ranged-node, ranged-row, ranged-words, ranged-word, inside-nil, inside-bool, inside-fixnum, frame-refl, frame-trans, frame-below, frame-at-set, frame-symbol, frame-words, frame-word, frame-node, frame-row, free-new, free-part, range-written, with-room, inside-text, inside-user, inside-listed, inside-hash, inside-object, inside-varied, opened-ranged, above-nil, above-text, above-user, above-listed, above-hash, above-object, above-varied, with-new-symbol, ranged-new-symbol, above-bool, above-fixnum, frame-new-symbol, frame-opened}
 
 -- the word from which on a read may write, where n words are used so far
 abbrev pub from : Mode → ℕ → ℕ
@@ -178,10 +180,10 @@ left-object s t u n c ns ms vs h x y z =
       words = tt;
     }
 
-left-string : (s : State) (b vs : List ℕ) → Ready value s → Left value s vs (with-object-node (string (length (s .bytes)) (length b) absent) (with-bytes b s))
-left-string s b vs x = record {
-  ranged = ranged-stored _ b s (inside-string (with-bytes b s) (length (s .bytes)) (length b) (omega (arith, length-append (s .bytes) b))) (x .ranged);
-  frame = frame-stored _ _ b s (above-string _ (length (s .bytes)) (length b));
+left-text : {k n : ℕ} (q : Texted k n) (s : State) (b vs : List ℕ) → Ready value s → Left value s vs (with-object-node (text-row q (length (s .bytes)) (length b)) (with-bytes b s))
+left-text q s b vs x = record {
+  ranged = ranged-stored _ b s (inside-text q (with-bytes b s) (length (s .bytes)) (length b) (omega (arith, length-append (s .bytes) b))) (x .ranged);
+  frame = frame-stored _ _ b s (above-text q _ (length (s .bytes)) (length b));
   words = tt;
 }
 
@@ -277,7 +279,7 @@ left {s = s} {vs = vs} (hash-default {t = t} {u = u} {ms = ms} {d = d} n l₁ l�
 left {s = s} {vs = vs} (object-pairs {t = t} {u = u} {ms = ms} {c = c} n l₁ l₂ x l₃ y) h =
     let z = left x (ready-name (with-object-node nil s) (opened-ranged s (h .ranged))) in
     left-object s t u n c (c ∷ []) ms vs (length (s .nodes)) h z (left y (ready-pairs n t (z .ranged)))
-left {s = s} {vs = vs} (string-bytes b p l₁ l₂ l₃) h = left-string s b vs h
+left {s = s} {vs = vs} (text-bytes q b p l₁ l₂ l₃) h = left-text q s b vs h
 left {s = s} {vs = vs} (user-bytes {t = t} {c = c} b x p l₁ l₂ l₃) h = left-user s t c b (c ∷ []) vs (left x (ready-name s (h .ranged)))
 left {s = s} {vs = vs} (variables {t = t} {u = u} {ms = ms} {h = v} {r = r} {r′ = r′} n x l y a q) h =
     let z = left x h in

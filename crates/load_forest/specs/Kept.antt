@@ -4,11 +4,12 @@ use mathlib.Core.Path.{_≡_, refl}
 use mathlib.Core.List.{List}
 use lib.ListN.{length, length-set}
 use native.Mathlib.Omega.{arith}
-use Rattle.definition.specs.Node.{Row, nil, bool, fixnum, symbol, array, hash, object, string, user, absent}
+use Rattle.definition.specs.Node.{Row, nil, bool, fixnum, symbol, array, hash, object, string, user, float, absent}
 use Rattle.definition.specs.Load.{State, Room, at-set}
 use Rattle.lists.specs.Lists.{At, at-set-other}
+use Rattle.graph.specs.View.{text-row}
 use Rattle.states.specs.States.{Keeps, keeps-refl, keeps-trans, keeps-node, keeps-object-node, keeps-row, with-node, with-symbol, with-object-node, with-word, with-row, with-room}
-use Rattle.load_forest.specs.Trace.{Mode, Trace, reading, reading-after, plain, known, new, symbol-link, object-link, list, hash-default, object-pairs, string-bytes, user-bytes, variables, no-elements, element, no-pairs, pair}
+use Rattle.load_forest.specs.Trace.{Mode, Trace, reading, reading-after, plain, known, new, symbol-link, object-link, list, hash-default, object-pairs, text-bytes, user-bytes, variables, no-elements, element, no-pairs, pair}
 use Rattle.states.specs.States.{with-node, with-symbol, with-object-node, with-word, with-row, with-room}
 use Rattle.states.specs.Rows.{list-length, Varied, varied-string, varied-user}
 
@@ -23,6 +24,7 @@ Fixed (hash s n d) = Unit {0}
 Fixed (object s n c) = Unit {0}
 Fixed (string s l v) = ⊥
 Fixed (user s l c v) = ⊥
+Fixed (float s l) = Unit {0}
 
 abbrev pub Kept : State → State → Type 0
 Kept s t = Keeps Fixed s t
@@ -56,7 +58,7 @@ kept {s = s} (hash-default {t = t} {u = u} {d = d} n l₁ l₂ l₃ x y) =
 kept {s = s} (object-pairs {t = t} {u = u} {c = c} n l₁ l₂ x l₃ y) =
     keeps-row (length (s .nodes)) (object (length (t .references)) n c) s u (omega arith)
     (keeps-trans (keeps-object-node nil s) (keeps-trans (kept x) (keeps-trans (keeps-refl t (with-room (n * 2) t) refl) (kept y))))
-kept {s = s} {t = t} (string-bytes b p l₁ l₂ l₃) = let r = string (length (s .bytes)) (length b) absent in keeps-trans (keeps-node r s) (keeps-refl (with-node r s) t refl)
+kept {s = s} {t = t} (text-bytes q b p l₁ l₂ l₃) = let r = text-row q (length (s .bytes)) (length b) in keeps-trans (keeps-node r s) (keeps-refl (with-node r s) t refl)
 kept {t = t} (user-bytes {t = u} {c = c} b x p l₁ l₂ l₃) =
     let r = user (length (u .bytes)) (length b) c absent in
     keeps-trans (kept x) (keeps-trans (keeps-node r u) (keeps-refl (with-node r u) t refl))

@@ -12,12 +12,14 @@ use borrow.Author.Tests.{ltb-true, leb-true}
 use Rattle.definition.specs.declared.Refusal.{Refusal}
 use Rattle.definition.specs.Run.{Outcome, ok, refused, pure, refuse, next, _>>=_, look, pick}
 use Rattle.definition.specs.Integer.{Form, value as form-value, data-bytes, form}
-use Rattle.definition.specs.Node.{Row, nil, bool, fixnum, symbol, array, hash, object, string, user, present}
+use Rattle.definition.specs.Node.{Row, nil, bool, fixnum, symbol, array, hash, object, string, user, float, absent, present}
 use Rattle.definition.specs.Arena.{range, find-symbol}
 use Rattle.definition.specs.Load as L
 use Rattle.definition.specs.Load.{State, Room, Reader, at-set, begin}
 use Rattle.lists.specs.Lists.{At, apart, at-getD}
-use Rattle.load_forest.specs.Trace.{Mode, value, name, elements, pairs, One, Part, Plain, plain-nil, plain-bool, plain-fixnum, Trace, reading, reading-after, plain, known, new, symbol-link, object-link, list, hash-default, object-pairs, string-bytes, user-bytes, variables, no-elements, element, no-pairs, pair}
+use Rattle.graph.specs.Forest.{Texted, text-string, text-float}
+use Rattle.graph.specs.View.{text-row}
+use Rattle.load_forest.specs.Trace.{Mode, value, name, elements, pairs, One, Part, Plain, plain-nil, plain-bool, plain-fixnum, Trace, reading, reading-after, plain, known, new, symbol-link, object-link, list, hash-default, object-pairs, text-bytes, user-bytes, variables, no-elements, element, no-pairs, pair}
 use Rattle.states.specs.Rows.{list-length, is-array, is-hash, Varied, varied-string, varied-user}
 use Rattle.states.specs.States.{with-node, with-object, with-symbol, with-object-node, with-bytes, with-word, with-row, with-room}
 use Rattle.states.specs.Symbols.{found, missed}
@@ -334,22 +336,26 @@ module _ (input : List ℕ) (room : Room) where
       instance-variables-then f h _ u v t e₃ λ n a ms w l m r z e₄.
       ended (object-pairs {ms = ms} n l₁ l₂ (reading-after a l m (name-traced (with-object-node nil s) u c e₂)) r z) (filled _ _ w t v e₄)
 
-  string-traced : Traced (L.read-string input room)
-  unfolding L.read-string _>>=_ pure
-  string-traced s t v e =
+  -- a byte string is read and stored
+  text-then : {G : Type 0} (row : ℕ → ℕ → Row) (s t : State) (v : ℕ) → L.read-text input room row s ≡ ok v t
+      → ((b : List ℕ) (a : ℕ) → s .at ≤ a → a ≤ length input → Part input b → length b ≤ room .bytes - length (s .bytes) → length (s .nodes) < room .nodes → length (s .objects) < room .objects
+      → ok (length (s .nodes)) (with-object-node (row (length (s .bytes)) (length b)) (with-bytes b (at-set a s))) ≡ ok v t → G) → G
+  unfolding L.read-text _>>=_ pure
+  text-then row s t v e g =
       byte-string-then input s _ v t e λ b a l h p e₁.
       add-bytes-then room b (at-set a s) _ v t e₁ λ l₁ e₂.
       add-object-node-then room _ (with-bytes b (at-set a s)) pure v t (last _ _ _ e₂) λ l₂ l₃ e₃.
-      reading a l h (ended (string-bytes b p l₁ l₂ l₃) e₃)
+      g b a l h p l₁ l₂ l₃ e₃
+
+  text-traced : {k n : ℕ} (q : Texted k n) → Traced (L.read-text input room (text-row q))
+  text-traced q s t v e = text-then (text-row q) s t v e λ b a l h p l₁ l₂ l₃ e₁. reading a l h (ended (text-bytes q b p l₁ l₂ l₃) e₁)
 
   user-traced : Traced (L.read-user-defined input room)
-  unfolding L.read-user-defined _>>=_ pure
+  unfolding L.read-user-defined _>>=_
   user-traced s t v e =
       un e λ c u e₀ e₁.
-      byte-string-then input u _ v t e₁ λ b a l h p e₂.
-      add-bytes-then room b (at-set a u) _ v t e₂ λ l₁ e₃.
-      add-object-node-then room _ (with-bytes b (at-set a u)) pure v t (last _ _ _ e₃) λ l₂ l₃ e₄.
-      ended (user-bytes b (reading-after a l h (name-traced s u c e₀)) p l₁ l₂ l₃) e₄
+      text-then (λ start n. user start n c absent) u t v e₁ λ b a l h p l₁ l₂ l₃ e₂.
+      ended (user-bytes b (reading-after a l h (name-traced s u c e₀)) p l₁ l₂ l₃) e₂
 
   -- only a string or a user-defined node takes variables
   set-variables-then : (h p n : ℕ) (r : Row) (u t : State) (v : ℕ) → L.set-variables h p n r u ≡ ok v t → (r′ : Row) × Varied p n r r′ × (ok h (with-row h r′ u) ≡ ok v t)
@@ -363,6 +369,7 @@ module _ (input : List ℕ) (room : Room) where
   set-variables-then h p n (array a m) u t v e = apart (cc)
   set-variables-then h p n (hash a m d) u t v e = apart (cc)
   set-variables-then h p n (object a m c) u t v e = apart (cc)
+  set-variables-then h p n (float a l) u t v e = apart (cc)
 
   varied-some : {p n : ℕ} {r r′ : Row} → Varied p n r r′ → r ≡ nil → ⊥
   varied-some varied-string e = apart (cc)
@@ -386,7 +393,7 @@ module _ (input : List ℕ) (room : Room) where
   no-value r s t v e = apart (cc)
 
   value-of-traced : (f : Reader ℕ) → Traced f → (k : ℕ) (d : L.Head) → Traced (L.value-of input room f k d)
-  unfolding L.value-of
+  unfolding L.value-of L.read-string L.read-float
   value-of-traced f h k L.Nil = node-traced nil plain-nil
   value-of-traced f h k L.True = node-traced (bool true) (plain-bool true)
   value-of-traced f h k L.False = node-traced (bool false) (plain-bool false)
@@ -399,8 +406,9 @@ module _ (input : List ℕ) (room : Room) where
   value-of-traced f h k L.Hash = hash-traced f h
   value-of-traced f h k L.HashDefault = hash-default-traced f h
   value-of-traced f h k L.Object = object-traced f h
-  value-of-traced f h k L.String = string-traced
+  value-of-traced f h k L.String = text-traced text-string
   value-of-traced f h k L.UserDefined = user-traced
+  value-of-traced f h k L.Float = text-traced text-float
   value-of-traced f h k L.Unknown = λ s t v e. no-value _ s t v e
 
   pub value-traced : (limit levels : ℕ) → Traced (L.read-value input room limit levels)

@@ -9,18 +9,18 @@ use mathlib.Core.List.{List, [], _∷_, append-nil}
 use lib.ListN.{length, replicate, length-set, length-append}
 use native.Mathlib.Omega.{arith}
 use Rattle.definition.specs.Run.{ok}
-use Rattle.definition.specs.Node.{Row, nil, bool, fixnum, symbol, hash, object, string, user, absent}
+use Rattle.definition.specs.Node.{Row, nil, bool, fixnum, symbol, hash, object, user, absent}
 use Rattle.definition.specs.Arena.{Arena, node, range, firsts, row-right}
 use Rattle.definition.specs.Graph.{links, vars-links, default-link}
 use Rattle.definition.specs.Load.{State, Room, at-set, begin, load}
 use Rattle.lists.specs.Lists.{At, at-lt, at-app, at-snoc, at-snoc-inv, at-set-same, at-set-other, at-set-inv, len-snoc, apart, Below, below-up, below-snoc, below-first, below-join, no-at, below-one}
 use Rattle.lists.specs.Ranges.{range-more}
-use Rattle.graph.specs.Forest.{sym}
-use Rattle.graph.specs.View.{arena-of, state-seen}
+use Rattle.graph.specs.Forest.{sym, Texted, text-string, text-float}
+use Rattle.graph.specs.View.{text-row, arena-of, state-seen}
 use Rattle.well_formed.specs.Nodes.{Name}
 use Rattle.well_formed.specs.Right.{name-below}
 use Rattle.states.specs.States.{keeps-refl, keeps-trans, with-node, with-object, with-symbol, with-object-node, with-bytes, with-words, with-word, with-row, with-room, with-new-symbol}
-use Rattle.load_forest.specs.Trace.{Mode, value, name, elements, pairs, One, Plain, plain-nil, plain-bool, plain-fixnum, Trace, reading, reading-after, plain, known, new, symbol-link, object-link, list, hash-default, object-pairs, string-bytes, user-bytes, variables, no-elements, element, no-pairs, pair}
+use Rattle.load_forest.specs.Trace.{Mode, value, name, elements, pairs, One, Plain, plain-nil, plain-bool, plain-fixnum, Trace, reading, reading-after, plain, known, new, symbol-link, object-link, list, hash-default, object-pairs, text-bytes, user-bytes, variables, no-elements, element, no-pairs, pair}
 use Rattle.load_forest.specs.Readers.{load-traced}
 use Rattle.load_forest.specs.Frames.{Ready, left, ready-reading, ready-value, ready-name, ready-pairs, ready-opened, ready-next, ready-after-name, ready-after-value}
 use Rattle.load_forest.specs.Kept.{Kept, kept}
@@ -198,9 +198,10 @@ symbol-right : (s : State) (a l : ℕ) → Inside s (symbol a l) → RowRight s 
 unfolding links row-names
 symbol-right s a l i = bare s (symbol a l) i refl refl
 
-string-right : (s : State) (a l : ℕ) → Inside s (string a l absent) → RowRight s (string a l absent)
+text-right : {k n : ℕ} (q : Texted k n) (s : State) (a l : ℕ) → Inside s (text-row q a l) → RowRight s (text-row q a l)
 unfolding links row-names vars-links firsts
-string-right s a l i = bare s (string a l absent) i refl refl
+text-right text-string s a l i = bare s _ i refl refl
+text-right text-float s a l i = bare s _ i refl refl
 
 user-right : (s : State) (a l c : ℕ) → Inside s (user a l c absent) → IsName s c → RowRight s (user a l c absent)
 unfolding links row-names vars-links firsts
@@ -342,8 +343,9 @@ done-added r b t y x = record {
   given = given-value (with-object-node r (with-bytes b t)) (length (t .nodes)) (omega (arith, len-snoc (t .nodes) r));
 }
 
-done-string : (s : State) (b : List ℕ) (a l : ℕ) → Ranged (with-object-node (string a l absent) (with-bytes b s)) → Right s → Done value (with-object-node (string a l absent) (with-bytes b s)) (length (s .nodes) ∷ [])
-done-string s b a l g x = done-added (string a l absent) b s (string-right (with-bytes b s) a l (added-inside _ b s g)) x
+done-text : {k n : ℕ} (q : Texted k n) (s : State) (b : List ℕ) (a l : ℕ) → Ranged (with-object-node (text-row q a l) (with-bytes b s)) → Right s
+    → Done value (with-object-node (text-row q a l) (with-bytes b s)) (length (s .nodes) ∷ [])
+done-text q s b a l g x = done-added (text-row q a l) b s (text-right q (with-bytes b s) a l (added-inside _ b s g)) x
 
 done-user : (t : State) (b : List ℕ) (a l c : ℕ) → Ranged (with-object-node (user a l c absent) (with-bytes b t)) → Done name t (c ∷ [])
     → Done value (with-object-node (user a l c absent) (with-bytes b t)) (length (t .nodes) ∷ [])
@@ -409,7 +411,7 @@ right-of {s = s} (object-pairs {t = t} {u = u} {ms = ms} {c = c} n l₁ l₂ x l
     let d₁ = right-of x o (opened-right s d) in
     let d₂ = right-of y p (right-words (replicate (n * 2) 0) t (d₁ .right)) in
     done-object s t u n c (length (t .references)) ms (kept x) (keeps-trans (keeps-refl t (with-room (n * 2) t) refl) (kept y)) (left (object-pairs {ms = ms} n l₁ l₂ x l₃ y) h .ranged) (left y p .words) (d₁ .given) d₂
-right-of {room = room} {s = s} (string-bytes b p l₁ l₂ l₃) h d = done-string s b _ _ (left {room = room} (string-bytes b p l₁ l₂ l₃) h .ranged) d
+right-of {room = room} {s = s} (text-bytes q b p l₁ l₂ l₃) h d = done-text q s b _ _ (left {room = room} (text-bytes q b p l₁ l₂ l₃) h .ranged) d
 right-of {s = s} (user-bytes {t = t} {c = c} b x p l₁ l₂ l₃) h d =
     done-user t b _ _ c (left (user-bytes b x p l₁ l₂ l₃) h .ranged) (right-of x (ready-name s (h .ranged)) d)
 right-of {s = s} (variables {t = t} {u = u} {ms = ms} {h = v} {r = r} {r′ = r′} n x l y a q) h d =

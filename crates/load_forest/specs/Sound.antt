@@ -16,13 +16,13 @@ use Rattle.definition.specs.Graph.{Header, header, header-of, links, vars-links
 use Rattle.definition.specs.Load.{State, Room, begin, load}
 use Rattle.lists.specs.Lists.{At, NotIn}
 use Rattle.lists.specs.Ranges.{range-last}
-use Rattle.graph.specs.Forest.{Node, leaf, sym, box, F, fEnd, fLeaf, fBox, fRef, fSym, fSymref, fIv}
+use Rattle.graph.specs.Forest.{Node, leaf, sym, box, F, fEnd, fLeaf, fBox, fRef, fSym, fSymref, fIv, Texted}
 use Rattle.graph.specs.Build.{St, push, pushO, addSym, put, B, bEnd, bLeaf, bBox, bRef, bKnown, bNew, bSymref, bIv}
-use Rattle.graph.specs.View.{see, arena-of, state-seen}
-use Rattle.load_forest.specs.Trace.{Mode, value, name, elements, pairs, Plain, plain-nil, plain-bool, plain-fixnum, Trace, reading, reading-after, plain, known, new, symbol-link, object-link, list, hash-default, object-pairs, string-bytes, user-bytes, variables, no-elements, element, no-pairs, pair}
+use Rattle.graph.specs.View.{see, text-row, see-text, arena-of, state-seen}
+use Rattle.load_forest.specs.Trace.{Mode, value, name, elements, pairs, Plain, plain-nil, plain-bool, plain-fixnum, Trace, reading, reading-after, plain, known, new, symbol-link, object-link, list, hash-default, object-pairs, text-bytes, user-bytes, variables, no-elements, element, no-pairs, pair}
 use Rattle.load_forest.specs.Readers.{load-traced}
 use Rattle.load_forest.specs.Frames.{Ready, Left, left, ready-reading, ready-value, ready-name, ready-pairs, ready-opened, ready-next, ready-after-name, ready-after-value}
-use Rattle.states.specs.Rows.{list-length, see-array, see-hash, see-hash-default, see-object, see-string, see-string-variables, see-user, see-user-variables, Listed, is-array, is-hash, Varied, varied-string, varied-user}
+use Rattle.states.specs.Rows.{list-length, see-array, see-hash, see-hash-default, see-object, see-string-variables, see-user, see-user-variables, Listed, is-array, is-hash, Varied, varied-string, varied-user}
 use Rattle.states.specs.States.{row-seen, Ranged, with-node, with-symbol, with-object-node, with-bytes, with-word, with-row, st-eq, length-seen, seen-at, objs-seen, syms-seen, seen-at-set, seen-symbol, seen-node, seen-row, seen-word, frame-range, free-part, with-room, opened-ranged, opened-seen, room-seen, new-symbol-seen, bytes-node-seen, begin-ranged, with-new-symbol}
 
 -- from σ to τ trees were read that give vs: what stands before the trees to come
@@ -150,8 +150,8 @@ sound-stored : (s t : State) (b us : List ℕ) (r : Row) (hd : Header) → Range
     → Head (state-seen s) (length (t .nodes) ∷ []) (state-seen (with-object-node r (with-bytes b t)))
 sound-stored s t b us r hd h x e = numbered t (moved refl (psym (bytes-node-seen b t r _ h e)) (head-whole hd x))
 
-sound-string : (s : State) (b : List ℕ) → Ranged s → Head (state-seen s) (length (s .nodes) ∷ []) (state-seen (with-object-node (string (length (s .bytes)) (length b) absent) (with-bytes b s)))
-sound-string s b h = sound-stored s s b [] _ _ h (head-none (state-seen s)) (see-string (arena-of (with-bytes b s) 0) (length (s .bytes)) (length b) b (range-last (s .bytes) b))
+sound-text : {k n : ℕ} (q : Texted k n) (s : State) (b : List ℕ) → Ranged s → Head (state-seen s) (length (s .nodes) ∷ []) (state-seen (with-object-node (text-row q (length (s .bytes)) (length b)) (with-bytes b s)))
+sound-text q s b h = sound-stored s s b [] _ _ h (head-none (state-seen s)) (see-text q (arena-of (with-bytes b s) 0) (length (s .bytes)) (length b) b (range-last (s .bytes) b))
 
 sound-user : (s t : State) (c : ℕ) (b : List ℕ) → Ranged t → Head (state-seen s) (c ∷ []) (state-seen t)
     → Head (state-seen s) (length (t .nodes) ∷ []) (state-seen (with-object-node (user (length (t .bytes)) (length b) c absent) (with-bytes b t)))
@@ -213,7 +213,7 @@ sound {s = s} (object-pairs {t = t} {u = u} {ms = ms} {c = c} n l₁ l₂ x l₃
     let g = left x o .ranged in
     let p = ready-pairs n t g in
     sound-object s t u n c ms g (left y p .words) (sound x o) (sound y p)
-sound {s = s} (string-bytes b p l₁ l₂ l₃) h = sound-string s b (h .ranged)
+sound {s = s} (text-bytes q b p l₁ l₂ l₃) h = sound-text q s b (h .ranged)
 sound {s = s} (user-bytes {t = t} {c = c} b x p l₁ l₂ l₃) h =
     let o = ready-name s (h .ranged) in
     sound-user s t c b (left x o .ranged) (sound x o)

@@ -12,16 +12,16 @@ use native.Mathlib.Omega.{arith}
 use native.Mathlib.Decide.{ℕ-discrete}
 use borrow.Author.Tests.{eq-eqb, ne-eqb}
 use Rattle.definition.specs.Run.{ok, pick}
-use Rattle.definition.specs.Node.{Row, Vars, nil, bool, fixnum, symbol, array, hash, object, string, user, absent, present}
+use Rattle.definition.specs.Node.{Row, Vars, nil, bool, fixnum, symbol, array, hash, object, string, user, float, absent, present}
 use Rattle.definition.specs.Arena.{Arena, range}
 use Rattle.definition.specs.Graph.{Header, header, vars-count}
 use Rattle.definition.specs.Load.{State, Room, at-set, begin, load}
 use Rattle.lists.specs.Lists.{At, len-snoc, apart}
 use Rattle.graph.specs.Sums.{sumTo, total, total-snoc, total-set, total-set-most}
-use Rattle.graph.specs.Forest.{Node, leaf, sym, box, node-words, node-bytes, node-box, node-sym}
+use Rattle.graph.specs.Forest.{Node, leaf, sym, box, node-words, node-bytes, node-box, node-sym, Texted, text-string, text-float}
 use Rattle.graph.specs.Build.{Zero, paid, boxed, lf, Φ}
-use Rattle.graph.specs.View.{see, seen, arena-of, state-seen}
-use Rattle.load_forest.specs.Trace.{Mode, Plain, plain-nil, plain-bool, plain-fixnum, Trace, reading, reading-after, plain, known, new, symbol-link, object-link, list, hash-default, object-pairs, string-bytes, user-bytes, variables, no-elements, element, no-pairs, pair}
+use Rattle.graph.specs.View.{see, text-row, seen, arena-of, state-seen}
+use Rattle.load_forest.specs.Trace.{Mode, Plain, plain-nil, plain-bool, plain-fixnum, Trace, reading, reading-after, plain, known, new, symbol-link, object-link, list, hash-default, object-pairs, text-bytes, user-bytes, variables, no-elements, element, no-pairs, pair}
 use Rattle.load_forest.specs.Readers.{load-traced}
 use Rattle.load_forest.specs.Sound.{load-sound}
 use Rattle.load_forest.specs.Right.{IsName, load-right-state}
@@ -99,7 +99,7 @@ within {room = room} {s = s} (hash-default {u = u} n l₁ l₂ l₃ x y) w =
     within-row room (length (s .nodes)) _ u (within y (within x (within-room room (n * 2) (with-object-node nil s) l₃ (within-object-node room nil s l₁ l₂ w))))
 within {room = room} {s = s} (object-pairs {t = t} {u = u} n l₁ l₂ x l₃ y) w =
     within-row room (length (s .nodes)) _ u (within y (within-room room (n * 2) t l₃ (within x (within-object-node room nil s l₁ l₂ w))))
-within {room = room} {s = s} (string-bytes b p l₁ l₂ l₃) w = within-object-node room _ (with-bytes b s) l₂ l₃ (within-bytes room b s l₁ w)
+within {room = room} {s = s} (text-bytes q b p l₁ l₂ l₃) w = within-object-node room _ (with-bytes b s) l₂ l₃ (within-bytes room b s l₁ w)
 within {room = room} (user-bytes {t = t} b x p l₁ l₂ l₃) w = within-object-node room _ (with-bytes b t) l₂ l₃ (within-bytes room b t l₁ (within x w))
 within {room = room} (variables {t = t} {u = u} {h = h} {r′ = r′} n x l y a q) w = within-row room h r′ u (within y (within-room room (n * 2) t l (within x w)))
 within no-elements w = w
@@ -123,6 +123,7 @@ is-box (hash s n d) = 1
 is-box (object s n c) = 1
 is-box (string s l v) = 1
 is-box (user s l c v) = 1
+is-box (float s l) = 1
 
 unfoldable pub is-symbol : Row → ℕ
 is-symbol nil = 0
@@ -134,6 +135,7 @@ is-symbol (hash s n d) = 0
 is-symbol (object s n c) = 0
 is-symbol (string s l v) = 0
 is-symbol (user s l c v) = 0
+is-symbol (float s l) = 0
 
 -- from s to t the rows gained no more than was taken
 record Covered (s t : State) : Type 0 where
@@ -191,9 +193,10 @@ object-weighs : (p n c : ℕ) → Weighs (object p n c) (n * 2) 0 1 0
 unfolding list-length bytes-length is-box is-symbol
 object-weighs p n c = record { words-are = refl; bytes-are = refl; boxes-are = refl; names-are = refl }
 
-string-weighs : (a l : ℕ) → Weighs (string a l absent) 0 l 1 0
+text-weighs : {k n : ℕ} (q : Texted k n) (a l : ℕ) → Weighs (text-row q a l) 0 l 1 0
 unfolding list-length bytes-length is-box is-symbol vars-length
-string-weighs a l = record { words-are = refl; bytes-are = refl; boxes-are = refl; names-are = refl }
+text-weighs text-string a l = record { words-are = refl; bytes-are = refl; boxes-are = refl; names-are = refl }
+text-weighs text-float a l = record { words-are = refl; bytes-are = refl; boxes-are = refl; names-are = refl }
 
 user-weighs : (a l c : ℕ) → Weighs (user a l c absent) 0 l 1 0
 unfolding list-length bytes-length is-box is-symbol vars-length
@@ -286,8 +289,8 @@ covered {s = s} (object-pairs {t = t} {u = u} {c = c} n l₁ l₂ x l₃ y) =
     let s₁ = with-object-node nil s in
     covered-filled s u (length (s .nodes)) (n * 2) (object (length (t .references)) n c) (object-weighs _ n c) (covered-trans (covered x) (covered-trans (covered-room (n * 2) t) (covered y)))
     (spare-before (n * 2) s₁ t u (covered x) (spare-room (n * 2) t u (covered y)))
-covered {s = s} {t = t} (string-bytes b p l₁ l₂ l₃) =
-    covered-added s t (string (length (s .bytes)) (length b) absent) 0 (length b) 1 0 (string-weighs _ _) refl (omega arith) (omega (arith, length-append (s .bytes) b)) (omega (arith, len-snoc (s .objects) (length (s .nodes)))) (omega arith)
+covered {s = s} {t = t} (text-bytes q b p l₁ l₂ l₃) =
+    covered-added s t (text-row q (length (s .bytes)) (length b)) 0 (length b) 1 0 (text-weighs q _ _) refl (omega arith) (omega (arith, length-append (s .bytes) b)) (omega (arith, len-snoc (s .objects) (length (s .nodes)))) (omega arith)
 covered {t = t} (user-bytes {t = u} {c = c} b x p l₁ l₂ l₃) =
     covered-trans (covered x)
     (covered-added u t (user (length (u .bytes)) (length b) c absent) 0 (length b) 1 0 (user-weighs _ _ c) refl (omega arith) (omega (arith, length-append (u .bytes) b)) (omega (arith, len-snoc (u .objects) (length (u .nodes)))) (omega arith))
@@ -322,6 +325,7 @@ see-most A (hash s n d) = omega arith
 see-most A (object s n c) = omega arith
 see-most A (string s l v) = omega (arith, vars-words v, range-most (A .bytes) s l)
 see-most A (user s l c v) = omega (arith, vars-words v, range-most (A .bytes) s l)
+see-most A (float s l) = omega (arith, range-most (A .bytes) s l)
 
 total-map : {A C : Type 0} (w : C → ℕ) (u : A → ℕ) (f : A → C) → ((x : A) → w (f x) ≤ u x) → (l : List A) → total w (map f l) ≤ total u l
 total-map w u f h [] = omega arith

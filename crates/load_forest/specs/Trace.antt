@@ -5,12 +5,12 @@ use mathlib.Core.Bool.{Bool}
 use mathlib.Core.List.{List, [], _∷_}
 use lib.ListN.{length}
 use Rattle.definition.specs.Run.{ok}
-use Rattle.definition.specs.Node.{Row, nil, bool, fixnum, symbol, hash, object, string, user, absent}
+use Rattle.definition.specs.Node.{Row, nil, bool, fixnum, symbol, hash, object, user, absent}
 use Rattle.definition.specs.Arena.{range}
 use Rattle.definition.specs.Load.{State, Room, at-set, read-integer}
 use Rattle.lists.specs.Lists.{At, NotIn}
-use Rattle.graph.specs.Forest.{sym}
-use Rattle.graph.specs.View.{state-seen}
+use Rattle.graph.specs.Forest.{sym, Texted}
+use Rattle.graph.specs.View.{text-row, state-seen}
 use Rattle.states.specs.Rows.{list-length, Listed, Varied}
 use Rattle.states.specs.States.{with-node, with-symbol, with-object-node, with-bytes, with-word, with-row, with-room, with-new-symbol}
 
@@ -64,9 +64,9 @@ pub data Trace (input : List ℕ) (room : Room) : Mode → State → List ℕ �
       → n * 2 ≤ room .references - length (t .references)
       → Trace input room (pairs n (length (t .references))) (with-room (n * 2) t) ms u
       → Trace input room value s (length (s .nodes) ∷ []) (with-row (length (s .nodes)) (object (length (t .references)) n c) u)
-  string-bytes : {s : State} (b : List ℕ) → Part input b
+  text-bytes : {s : State} {k n : ℕ} (q : Texted k n) (b : List ℕ) → Part input b
       → length b ≤ room .bytes - length (s .bytes) → length (s .nodes) < room .nodes → length (s .objects) < room .objects
-      → Trace input room value s (length (s .nodes) ∷ []) (with-object-node (string (length (s .bytes)) (length b) absent) (with-bytes b s))
+      → Trace input room value s (length (s .nodes) ∷ []) (with-object-node (text-row q (length (s .bytes)) (length b)) (with-bytes b s))
   user-bytes : {s t : State} {c : ℕ} (b : List ℕ) → Trace input room name s (c ∷ []) t → Part input b
       → length b ≤ room .bytes - length (t .bytes) → length (t .nodes) < room .nodes → length (t .objects) < room .objects
       → Trace input room value s (length (t .nodes) ∷ []) (with-object-node (user (length (t .bytes)) (length b) c absent) (with-bytes b t))

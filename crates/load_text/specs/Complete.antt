@@ -11,17 +11,17 @@ use Rattle.definition.specs.Node.{nil, bool, fixnum}
 use Rattle.definition.specs.Arena.{Arena}
 use Rattle.definition.specs.Graph.{header-of}
 use Rattle.definition.specs.Dump.{byte-string-bytes}
-use Rattle.definition.specs.Load.{Room, Reader, head, value-of, read-value, add-node, read-fixnum, read-symbol, read-symbol-link, read-object-link, read-symbol-like, read-array, read-hash, read-object, read-string, read-user-defined, read-variables}
+use Rattle.definition.specs.Load.{Room, Reader, head, value-of, read-value, add-node, read-fixnum, read-symbol, read-symbol-link, read-object-link, read-symbol-like, read-array, read-hash, read-object, read-string, read-float, read-text, read-user-defined, read-variables}
 use Rattle.lists.specs.Lists.{At, NotIn, at-lt}
-use Rattle.graph.specs.Forest.{Node, leaf, sym, Num, addO, addS, F, fEnd, fLeaf, fBox, fRef, fSym, fSymref, trees, Mode, values, pairs, value-pairs, name, name-pairs, after, IsValue, Text, tEnd, tEndPairs, tName, tNameLink, tOneName, tOneLink, tClass, tClassLink, tNil, tFalse, tTrue, tFixnum, tSymbol, tSymbolLink, tObjectLink, tArray, tHash, tHashDefault, tObject, tString, tStringVars, tUser, tUserVars}
+use Rattle.graph.specs.Forest.{Node, leaf, sym, Num, addO, addS, F, fEnd, fLeaf, fBox, fRef, fSym, fSymref, trees, Mode, values, pairs, value-pairs, name, name-pairs, after, IsValue, Text, tEnd, tEndPairs, tName, tNameLink, tOneName, tOneLink, tClass, tClassLink, tNil, tFalse, tTrue, tFixnum, tSymbol, tSymbolLink, tObjectLink, tArray, tHash, tHashDefault, tObject, Texted, text-string, text-float, tText, tStringVars, tUser, tUserVars}
 use Rattle.graph.specs.Describe.{E, eEnd, eLeaf, eBox, eRef, eSym, eSymref}
 use Rattle.graph.specs.Build.{Names}
-use Rattle.graph.specs.View.{see}
+use Rattle.graph.specs.View.{see, text-row}
 use Rattle.states.specs.States.{inside-nil, inside-bool, inside-fixnum, above-nil, above-bool, above-fixnum}
 use Rattle.load_text.specs.Items.{Takes, Items, end, item, by-turns}
 use Rattle.load_text.specs.Leaves.{Small, kind-runs, takes-kind, takes-name, takes-name-link, takes-leaf, node-runs, fixnum-runs, takes-object-link, takes-symbol-link, takes-symbol}
 use Rattle.load_text.specs.Boxes.{takes-array, takes-hash, takes-hash-default, takes-object}
-use Rattle.load_text.specs.Strings.{takes-string, takes-user, takes-string-vars, takes-user-vars}
+use Rattle.load_text.specs.Strings.{takes-text, takes-user, takes-string-vars, takes-user-vars}
 
 -- the modes in which values are put into words; the others come before them
 abbrev pub InWords : Mode → Type 0
@@ -125,9 +125,10 @@ module _ (input : List ℕ) (room : Room) (sm : Small room) (limit : ℕ) (P : L
     unfolding value-of head pick
     is-object = refl
 
-    is-string : Is STRING (read-string input room)
-    unfolding value-of head pick
-    is-string = refl
+    is-text : {k n : ℕ} (q : Texted k n) → Is k (read-text input room (text-row q))
+    unfolding value-of head pick read-string read-float
+    is-text text-string = refl
+    is-text text-float = refl
 
     is-user : Is USER-DEFINED (read-user-defined input room)
     unfolding value-of head pick
@@ -183,8 +184,8 @@ module _ (input : List ℕ) (room : Room) (sm : Small room) (limit : ℕ) (P : L
   val-object l n f f′ r x y σ σ₁ σ₂ v tk it =
       kind l OBJECT _ (x ++ integer-bytes n ++ y) _ r σ σ₂ (is-object l) (takes-object input room P sm (val l) n f f′ r x y σ σ₁ σ₂ v tk it)
 
-  val-string : (l : ℕ) (b : List ℕ) (r : F) (σ : Num) (v : ℕ) → Tk (val (suc l)) (fBox (header-of 7 0 b 0 false) fEnd fEnd r) r (STRING ∷ byte-string-bytes b) σ (addO v σ)
-  val-string l b r σ v = kind l STRING _ (byte-string-bytes b) _ r σ (addO v σ) (is-string l) (takes-string input room P sm b r σ v)
+  val-text : (l : ℕ) {k n : ℕ} (q : Texted k n) (b : List ℕ) (r : F) (σ : Num) (v : ℕ) → Tk (val (suc l)) (fBox (header-of n 0 b 0 false) fEnd fEnd r) r (k ∷ byte-string-bytes b) σ (addO v σ)
+  val-text l {k} q b r σ v = kind l k _ (byte-string-bytes b) _ r σ (addO v σ) (is-text l q) (takes-text input room P sm q b r σ v)
 
   val-user : (l : ℕ) (b x : List ℕ) (p r : F) (σ σ₁ : Num) (v : ℕ) → Tk like p fEnd x σ σ₁
       → Tk (val (suc l)) (fBox (header-of 8 0 b 0 false) p fEnd r) r (USER-DEFINED ∷ (x ++ byte-string-bytes b)) σ (addO v σ₁)
@@ -194,7 +195,7 @@ module _ (input : List ℕ) (room : Room) (sm : Small room) (limit : ℕ) (P : L
       → Tk (val (suc (suc l))) (fBox (header-of 7 0 b n true) fEnd f r) r (INSTANCE-VARIABLES ∷ STRING ∷ (byte-string-bytes b ++ integer-bytes n ++ y)) σ σ₂
   val-string-vars l n b f r y σ σ₂ v it =
       kind (suc l) INSTANCE-VARIABLES _ (STRING ∷ (byte-string-bytes b ++ integer-bytes n ++ y)) _ r σ σ₂ (is-variables (suc l))
-      (takes-string-vars input room P sm (val (suc l)) STRING (kind-runs input room P limit l STRING _ (is-string l)) b n f r y σ σ₂ v it)
+      (takes-string-vars input room P sm (val (suc l)) STRING (kind-runs input room P limit l STRING _ (is-text l text-string)) b n f r y σ σ₂ v it)
 
   val-user-vars : (l n : ℕ) (b : List ℕ) (p f r : F) (x y : List ℕ) (σ σ₁ σ₂ : Num) (v : ℕ) → Tk like p fEnd x σ σ₁ → Its (by-turns like (val (suc l)) n) f y (addO v σ₁) σ₂
       → Tk (val (suc (suc l))) (fBox (header-of 8 0 b n true) p f r) r (INSTANCE-VARIABLES ∷ USER-DEFINED ∷ (x ++ byte-string-bytes b ++ integer-bytes n ++ y)) σ σ₂
@@ -247,8 +248,8 @@ module _ (input : List ℕ) (room : Room) (sm : Small room) (limit : ℕ) (P : L
       on-value m (suc l) (fBox (header-of 6 0 [] n false) fEnd (fSymref false j f) r) r (OBJECT ∷ SYMBOL-LINK ∷ (integer-bytes j ++ integer-bytes n ++ y)) x σ σ₂ σ′ v
       (val-object l n (fSymref false j f) f r (SYMBOL-LINK ∷ integer-bytes j) y σ (addO u σ) σ₂ u (link-like j f (addO u σ) u′ k₁) (load-complete t₁ d₁ tt))
       (load-complete t d (words-after m v))
-  load-complete (tString {m = m} {l = l} {b = b} {x = x} {r = r} v t) (eBox {v = u} {σ = σ} {σ′ = σ′} a eEnd k eEnd d) w =
-      on-value m (suc l) (fBox (header-of 7 0 b 0 false) fEnd fEnd r) r (STRING ∷ byte-string-bytes b) x σ (addO u σ) σ′ v (val-string l b r σ u) (load-complete t d (words-after m v))
+  load-complete (tText {m = m} {l = l} {k = j} {n = n} {b = b} {x = x} {r = r} q v t) (eBox {v = u} {σ = σ} {σ′ = σ′} a eEnd k eEnd d) w =
+      on-value m (suc l) (fBox (header-of n 0 b 0 false) fEnd fEnd r) r (j ∷ byte-string-bytes b) x σ (addO u σ) σ′ v (val-text l q b r σ u) (load-complete t d (words-after m v))
   load-complete (tStringVars {m = m} {l = l} {n = n} {b = b} {x = x} {y = y} {f = f} {r = r} v t₁ t) (eBox {v = u} {σ = σ} {σ₂ = σ₂} {σ′ = σ′} a eEnd k d₁ d) w =
       on-value m (suc (suc l)) (fBox (header-of 7 0 b n true) fEnd f r) r (INSTANCE-VARIABLES ∷ STRING ∷ (byte-string-bytes b ++ integer-bytes n ++ y)) x σ σ₂ σ′ v
       (val-string-vars l n b f r y σ σ₂ u (load-complete t₁ d₁ tt)) (load-complete t d (words-after m v))

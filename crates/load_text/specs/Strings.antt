@@ -1,4 +1,4 @@
--- Strings and user-defined values, with and without variables.
+-- Strings and user-defined values, with and without variables, and Floats.
 use Prim.Native.Nat.{ℕ, _+_, _*_, _≤_, _<_}
 use mathlib.Core.Path.{_≡_, refl, ap, subst}
 use mathlib.Core.Path.{sym as psym, _∙_}
@@ -8,20 +8,20 @@ use mathlib.Core.List.{List, [], _∷_, _++_, append-assoc, append-nil}
 use lib.ListN.{length, getD, length-append}
 use lib.Seq.{set-append-seam}
 use native.Mathlib.Omega.{arith}
-use Rattle.definition.specs.Run.{ok, look, _>>=_}
+use Rattle.definition.specs.Run.{ok, look}
 use Rattle.definition.specs.Integer.{integer-bytes}
 use Rattle.definition.specs.Node.{Row, nil, string, user, absent, present}
 use Rattle.definition.specs.Arena.{Arena, range}
 use Rattle.definition.specs.Graph.{Header, header-of, header, links, vars-count, vars-present, vars-links}
 use Rattle.definition.specs.Dump.{byte-string-bytes}
-use Rattle.definition.specs.Load.{Room, State, Reader, at-set, nodes-set, fill, read-pairs, read-instance-variables, read-symbol-like, read-byte-string, add-bytes, add-object-node, read-string, read-user-defined, read-variables, set-variables}
+use Rattle.definition.specs.Load.{Room, State, Reader, at-set, nodes-set, fill, read-pairs, read-instance-variables, read-symbol-like, read-text, read-user-defined, read-variables, set-variables}
 use Rattle.lists.specs.Lists.{At, at-snoc, len-snoc, getD-at, apart}
 use Rattle.lists.specs.Ranges.{range-more, range-last}
-use Rattle.graph.specs.Forest.{Node, box, Num, addO, F, fEnd, fBox, list-words}
+use Rattle.graph.specs.Forest.{Node, box, Num, addO, F, fEnd, fBox, list-words, Texted, text-string, text-float}
 use Rattle.graph.specs.Build.{pushO, B, bEnd, Ph, Inv, inv-pushO}
-use Rattle.graph.specs.View.{see, arena-of, state-seen}
+use Rattle.graph.specs.View.{see, text-row, see-text, arena-of, state-seen}
 use Rattle.states.specs.Rows.{Varied, varied-string, varied-user}
-use Rattle.states.specs.States.{ranged-stored, frame-stored, row-seen, Inside, Ranged, Above, Frame, Keeps, with-object-node, with-bytes, with-row, seen-at-set, bytes-node-seen, inside-string, inside-user, inside-varied, above-string, above-user, above-varied, frame-refl, frame-trans, frame-below, frame-at-set, keeps-refl, keeps-trans, keeps-object-node}
+use Rattle.states.specs.States.{ranged-stored, frame-stored, row-seen, Inside, Ranged, Above, Frame, Keeps, with-object-node, with-bytes, with-row, seen-at-set, bytes-node-seen, inside-text, inside-user, inside-varied, above-text, above-user, above-varied, frame-refl, frame-trans, frame-below, frame-at-set, keeps-refl, keeps-trans, keeps-object-node}
 use Rattle.load_text.specs.Steps.{step, add-object-node-runs, add-bytes-runs}
 use Rattle.load_text.specs.Input.{Ahead, ahead-past, ahead-as, read-byte-string-ahead}
 use Rattle.load_text.specs.Items.{Every, Fits, Even, Step, Takes, Items, by-turns}
@@ -32,42 +32,50 @@ use Rattle.load_text.specs.Boxes.{words-pairs, box-step, Told, told-pair
 abbrev stored : List ℕ → Row → ℕ → State → State
 stored b row n s = with-object-node row (with-bytes b (at-set n s))
 
--- rows of the kind kd with bytes of the length len: without variables, and with them. us is the name, if there is one
-pub record Stores (kd len : ℕ) (us : List ℕ) (row : ℕ → Row) (row′ : ℕ → ℕ → ℕ → Row) : Type 1 where
+-- rows of the kind kd with bytes of the length len; us is the name, if there is one
+pub record Stores (kd len : ℕ) (us : List ℕ) (row : ℕ → Row) : Type 1 where
   pub high : 7 ≤ kd
   pub sees : (A : Arena) (st : ℕ) → see A (row st) ≡ box (header-of kd 0 (range (A .bytes) st len) 0 false) us
-  pub sees′ : (A : Arena) (st start n : ℕ) → see A (row′ st start n) ≡ box (header-of kd 0 (range (A .bytes) st len) n true) (us ++ range (A .references) start (n * 2))
   pub inside : (s : State) (st : ℕ) → st + len ≤ length (s .bytes) → Inside s (row st)
   pub above : (p st : ℕ) → Above p (row st)
-  pub varied : (st start n : ℕ) → Varied start n (row st) (row′ st start n)
-  pub set′ : (st h start n : ℕ) (s : State) → set-variables h start n (row st) s ≡ ok h (with-row h (row′ st start n) s)
 
-stores-string : (len : ℕ) → Stores 7 len [] (λ st. string st len absent) (λ st start n. string st len (present start n))
-unfolding see header links vars-count vars-present vars-links set-variables fill
-stores-string len = record {
-  high = omega arith;
-  sees = λ A st. refl;
-  sees′ = λ A st start n. refl;
-  inside = λ s st h. inside-string s st len h;
-  above = λ p st. above-string p st len;
-  varied = λ st start n. varied-string;
-  set′ = λ st h start n s. refl;
+-- and the same with n pairs of variables from the word start on
+pub record Varies (kd len : ℕ) (us : List ℕ) (row : ℕ → Row) (row′ : ℕ → ℕ → ℕ → Row) : Type 1 where
+  pub sees : (A : Arena) (st start n : ℕ) → see A (row′ st start n) ≡ box (header-of kd 0 (range (A .bytes) st len) n true) (us ++ range (A .references) start (n * 2))
+  pub varied : (st start n : ℕ) → Varied start n (row st) (row′ st start n)
+  pub sets : (st h start n : ℕ) (s : State) → set-variables h start n (row st) s ≡ ok h (with-row h (row′ st start n) s)
+
+high-text : {k kd : ℕ} → Texted k kd → 7 ≤ kd
+high-text text-string = omega arith
+high-text text-float = omega arith
+
+stores-text : {k kd : ℕ} (q : Texted k kd) (len : ℕ) → Stores kd len [] (λ st. text-row q st len)
+stores-text q len = record {
+  high = high-text q;
+  sees = λ A st. see-text q A st len _ refl;
+  inside = λ s st h. inside-text q s st len h;
+  above = λ p st. above-text q p st len;
 }
 
-stores-user : (len c : ℕ) → Stores 8 len (c ∷ []) (λ st. user st len c absent) (λ st start n. user st len c (present start n))
+varies-string : (len : ℕ) → Varies 7 len [] (λ st. string st len absent) (λ st start n. string st len (present start n))
 unfolding see header links vars-count vars-present vars-links set-variables fill
+varies-string len = record { sees = λ A st start n. refl; varied = λ st start n. varied-string; sets = λ st h start n s. refl }
+
+stores-user : (len c : ℕ) → Stores 8 len (c ∷ []) (λ st. user st len c absent)
+unfolding see header links vars-count vars-present vars-links
 stores-user len c = record {
   high = omega arith;
   sees = λ A st. refl;
-  sees′ = λ A st start n. refl;
   inside = λ s st h. inside-user s st len c h;
   above = λ p st. above-user p st len c;
-  varied = λ st start n. varied-user;
-  set′ = λ st h start n s. refl;
 }
 
+varies-user : (len c : ℕ) → Varies 8 len (c ∷ []) (λ st. user st len c absent) (λ st start n. user st len c (present start n))
+unfolding see header links vars-count vars-present vars-links set-variables fill
+varies-user len c = record { sees = λ A st start n. refl; varied = λ st start n. varied-user; sets = λ st h start n s. refl }
+
 -- what a state is when bytes and a node have been added
-module _ {kd : ℕ} {us : List ℕ} {row : ℕ → Row} {row′ : ℕ → ℕ → ℕ → Row} (b : List ℕ) (ss : Stores kd (length b) us row row′) (n : ℕ) (u : State) where
+module _ {kd : ℕ} {us : List ℕ} {row : ℕ → Row} (b : List ℕ) (ss : Stores kd (length b) us row) (n : ℕ) (u : State) where
   stored-sees : (A : Arena) → A .bytes ≡ u .bytes ++ b → see A (row (length (u .bytes))) ≡ box (header-of kd 0 b 0 false) us
   stored-sees A e =
       ss .sees A (length (u .bytes))
@@ -93,11 +101,11 @@ module _ {kd : ℕ} {us : List ℕ} {row : ℕ → Row} {row′ : ℕ → ℕ �
 
 module _ (input : List ℕ) (room : Room) (P : List Node) where
   -- without variables
-  store-step : (rd : Reader ℕ) {kd : ℕ} {us : List ℕ} {row : ℕ → Row} {row′ : ℕ → ℕ → ℕ → Row} (b : List ℕ) → Stores kd (length b) us row row′ → (p r : F) (σ : Num) (v : ℕ) (s u : State) (y : List ℕ) (n : ℕ)
+  store-step : (rd : Reader ℕ) {kd : ℕ} {us : List ℕ} {row : ℕ → Row} (b : List ℕ) → Stores kd (length b) us row → (p r : F) (σ : Num) (v : ℕ) (s u : State) (y : List ℕ) (n : ℕ)
       → rd s ≡ ok (length (u .nodes)) (stored b (row (length (u .bytes))) n u) → Ahead input n y
       → B ⊥ p (state-seen s) us (state-seen u) → Inv P σ (state-seen u) → Ranged u → Frame (length (s .references)) s u → Keeps Every s u → Even 0 p s fEnd u
       → Step input room P rd (fBox (header-of kd 0 b 0 false) p fEnd r) r (addO v σ) s y
-  store-step rd {kd} {us} {row} {row′} b ss p r σ v s u y n e h b₀ i a fr kp ev =
+  store-step rd {kd} {us} {row} b ss p r σ v s u y n e h b₀ i a fr kp ev =
       let hd = header-of kd 0 b 0 false in
       let st = length (u .bytes) in
       let t = stored b (row st) n u in
@@ -120,37 +128,31 @@ module _ (input : List ℕ) (room : Room) (P : List Node) where
       })
 
   -- a byte string is read and stored
-  stored-runs : Small room → (b : List ℕ) (row : List ℕ → ℕ → Row) (s : State) (y : List ℕ) → Ahead input (s .at) (byte-string-bytes b ++ y)
+  text-runs : Small room → (b : List ℕ) (row : ℕ → ℕ → Row) (s : State) (y : List ℕ) → Ahead input (s .at) (byte-string-bytes b ++ y)
       → length (s .nodes) < room .nodes → length (s .objects) < room .objects → length (s .bytes) + length b ≤ room .bytes
-      → (read-byte-string input >>= λ bs. add-bytes room bs >>= λ start. add-object-node room (row bs start)) s
-      ≡ ok (length (s .nodes)) (stored b (row b (length (s .bytes))) (s .at + length (byte-string-bytes b)) s)
-  stored-runs sm b row s y h l₁ l₂ l₃ =
+      → read-text input room row s ≡ ok (length (s .nodes)) (stored b (row (length (s .bytes)) (length b)) (s .at + length (byte-string-bytes b)) s)
+  unfolding read-text
+  text-runs sm b row s y h l₁ l₂ l₃ =
       let s₁ = at-set (s .at + length (byte-string-bytes b)) s in
       let s₂ = with-bytes b s₁ in
       step _ _ s b s₁ (read-byte-string-ahead input s b y (omega (arith, sm .bytes)) h) ∙ step _ _ s₁ (length (s .bytes)) s₂ (add-bytes-runs room s₁ b l₃)
-      ∙ add-object-node-runs room s₂ (row b (length (s .bytes))) l₁ l₂
-
-  string-runs : Small room → (b : List ℕ) (s : State) (y : List ℕ) → Ahead input (s .at) (byte-string-bytes b ++ y) → length (s .nodes) < room .nodes → length (s .objects) < room .objects
-      → length (s .bytes) + length b ≤ room .bytes
-      → read-string input room s ≡ ok (length (s .nodes)) (stored b (string (length (s .bytes)) (length b) absent) (s .at + length (byte-string-bytes b)) s)
-  unfolding read-string
-  string-runs sm b s y h l₁ l₂ l₃ = stored-runs sm b (λ bs start. string start (length bs) absent) s y h l₁ l₂ l₃
+      ∙ add-object-node-runs room s₂ (row (length (s .bytes)) (length b)) l₁ l₂
 
   -- the name c was read before, in u
   user-runs : Small room → (b : List ℕ) (c : ℕ) (s u : State) (y : List ℕ) → read-symbol-like input room s ≡ ok c u → Ahead input (u .at) (byte-string-bytes b ++ y)
       → length (u .nodes) < room .nodes → length (u .objects) < room .objects → length (u .bytes) + length b ≤ room .bytes
       → read-user-defined input room s ≡ ok (length (u .nodes)) (stored b (user (length (u .bytes)) (length b) c absent) (u .at + length (byte-string-bytes b)) u)
   unfolding read-user-defined
-  user-runs sm b c s u y e h l₁ l₂ l₃ = step _ _ s c u e ∙ stored-runs sm b (λ bs start. user start (length bs) c absent) u y h l₁ l₂ l₃
+  user-runs sm b c s u y e h l₁ l₂ l₃ = step _ _ s c u e ∙ text-runs sm b (λ start n. user start n c absent) u y h l₁ l₂ l₃
 
   even-same : (s : State) → Even 0 fEnd s fEnd s
   even-same s = record { nodes = refl; objects = refl; symbols = refl; references = omega arith; bytes = refl }
 
-  pub takes-string : Small room → (b : List ℕ) (r : F) (σ : Num) (v : ℕ)
-      → Takes input room P (read-string input room) (fBox (header-of 7 0 b 0 false) fEnd fEnd r) r (byte-string-bytes b) σ (addO v σ)
-  takes-string sm b r σ v s y i a h g =
-      store-step (read-string input room) b (stores-string (length b)) fEnd r σ v s s y (s .at + length (byte-string-bytes b))
-      (string-runs sm b s y h (omega (arith, g .nodes)) (omega (arith, g .objects)) (omega (arith, g .bytes))) (ahead-past (byte-string-bytes b) y h) bEnd i a (frame-refl _ s) (keeps-refl s s refl) (even-same s)
+  pub takes-text : Small room → {k kd : ℕ} (q : Texted k kd) (b : List ℕ) (r : F) (σ : Num) (v : ℕ)
+      → Takes input room P (read-text input room (text-row q)) (fBox (header-of kd 0 b 0 false) fEnd fEnd r) r (byte-string-bytes b) σ (addO v σ)
+  takes-text sm q b r σ v s y i a h g =
+      store-step (read-text input room (text-row q)) b (stores-text q (length b)) fEnd r σ v s s y (s .at + length (byte-string-bytes b))
+      (text-runs sm b (text-row q) s y h (omega (arith, g .nodes)) (omega (arith, g .objects)) (omega (arith, g .bytes))) (ahead-past (byte-string-bytes b) y h) bEnd i a (frame-refl _ s) (keeps-refl s s refl) (even-same s)
 
   -- the name's part of a user-defined value
   fits-name : (hd : Header) (p f r : F) (s : State) → Fits room 0 (fBox hd p f r) s → Fits room 0 p s
@@ -175,14 +177,14 @@ module _ (input : List ℕ) (room : Room) (P : List Node) where
   -- ---- with variables
 
   -- h: a value without variables was read to u and stored
-  vars-step : (inner : Reader ℕ) {kd : ℕ} {us : List ℕ} {row : ℕ → Row} {row′ : ℕ → ℕ → ℕ → Row} (b : List ℕ) → Stores kd (length b) us row row′
+  vars-step : (inner : Reader ℕ) {kd : ℕ} {us : List ℕ} {row : ℕ → Row} {row′ : ℕ → ℕ → ℕ → Row} (b : List ℕ) → Stores kd (length b) us row → Varies kd (length b) us row row′
       → (p f r : F) (σ₂ : Num) (s u : State) (z : List ℕ) (k n : ℕ)
       → inner s ≡ ok (length (u .nodes)) (stored b (row (length (u .bytes))) k u)
       → B ⊥ p (state-seen s) us (state-seen u) → Ranged u → Frame (length (s .references)) s u → Keeps Every s u → Even 0 p s fEnd u
       → Told input room P 2 n (λ start m. read-pairs (read-symbol-like input room) inner m start) f σ₂ (stored b (row (length (u .bytes))) k u) z
       → Step input room P (read-variables input room inner) (fBox (header-of kd 0 b n true) p f r) r σ₂ s z
   unfolding read-variables read-instance-variables look
-  vars-step inner {kd} {us} {row} {row′} b ss p f r σ₂ s u z k n e b₀ a fr kp ev t =
+  vars-step inner {kd} {us} {row} {row′} b ss vs p f r σ₂ s u z k n e b₀ a fr kp ev t =
       let hd = header-of kd 0 b n true in
       let st = length (u .bytes) in
       let h = length (u .nodes) in
@@ -194,17 +196,17 @@ module _ (input : List ℕ) (room : Room) (P : List Node) where
       let e₂ : range (w .bytes) st (length b) ≡ b =
       ap (λ (l : List ℕ). range l st (length b)) (t .frame .bytes-are) ∙ range-more (u .bytes ++ b) (t .frame .bytes-added) st (length b) (omega (arith, length-append (u .bytes) b)) ∙ range-last (u .bytes) b in
       let e₃ : row-seen w r₁ ≡ box hd (us ++ t .values) =
-      ss .sees′ (arena-of w 0) st start n ∙ ap (λ (l : List ℕ). box (header-of kd 0 l n true) (us ++ range (w .references) start (n * 2))) e₂
+      vs .sees (arena-of w 0) st start n ∙ ap (λ (l : List ℕ). box (header-of kd 0 l n true) (us ++ range (w .references) start (n * 2))) e₂
       ∙ ap (λ (l : List ℕ). box hd (us ++ l)) (t .holds) in
       let e₄ : set-variables h start n (getD (w .nodes) h nil) w ≡ ok h (with-row h r₁ w) =
-      ap (λ (x : Row). set-variables h start n x w) (getD-at (w .nodes) h nil (row st) e₁) ∙ ss .set′ st h start n w in
+      ap (λ (x : Row). set-variables h start n x w) (getD-at (w .nodes) h nil (row st) e₁) ∙ vs .sets st h start n w in
       let l₁ : list-words hd ≡ n * 2 = words-pairs kd n b true (omega (arith, ss .high)) in
       let l₂ : length (s .nodes) ≤ h = omega (arith, ev .nodes) in
       let l₃ = len-snoc (u .nodes) (row st) in
       let l₄ = len-snoc (u .objects) h in
       let l₅ = length-append (u .bytes) b in
       let p′ = length (s .references) in
-      let vd = ss .varied st start n in
+      let vd = vs .varied st start n in
       let wv = t .even in
       box-step input room P (read-variables input room inner) hd p f r (box (header-of kd 0 b 0 false) us) r₁ σ₂ s u s₁ w us (t .values) z
       (step _ _ s h s₁ e ∙ t .runs (λ start m y. set-variables h start m (getD (y .nodes) h nil) y) ∙ e₄)
@@ -221,7 +223,7 @@ module _ (input : List ℕ) (room : Room) (P : List Node) where
       })
 
   -- room for the variables when the value has been stored
-  fits-stored : {kd : ℕ} {us : List ℕ} {row : ℕ → Row} {row′ : ℕ → ℕ → ℕ → Row} (b : List ℕ) → Stores kd (length b) us row row′ → (p f r : F) (s u : State) (k n : ℕ) → Even 0 p s fEnd u
+  fits-stored : {kd : ℕ} {us : List ℕ} {row : ℕ → Row} (b : List ℕ) → Stores kd (length b) us row → (p f r : F) (s u : State) (k n : ℕ) → Even 0 p s fEnd u
       → Fits room 0 (fBox (header-of kd 0 b n true) p f r) s → Fits room (n * 2) f (stored b (row (length (u .bytes))) k u)
   fits-stored {kd} {row = row} b ss p f r s u k n ev g =
       let l₁ : list-words (header-of kd 0 b n true) ≡ n * 2 = words-pairs kd n b true (omega (arith, ss .high)) in
@@ -240,11 +242,11 @@ module _ (input : List ℕ) (room : Room) (P : List Node) where
   abbrev pub Behind : ℕ → Reader ℕ → Reader ℕ → Type 0
   Behind k rd inner = (s : State) (x : List ℕ) → Ahead input (s .at) (k ∷ x) → inner s ≡ rd (at-set (s .at + 1) s)
 
-  pub takes-string-vars : Small room → (inner : Reader ℕ) (k : ℕ) → Behind k (read-string input room) inner → (b : List ℕ) (n : ℕ) (f r : F) (y : List ℕ) (σ σ₂ : Num) (v : ℕ)
+  pub takes-string-vars : Small room → (inner : Reader ℕ) (k : ℕ) → Behind k (read-text input room (text-row text-string)) inner → (b : List ℕ) (n : ℕ) (f r : F) (y : List ℕ) (σ σ₂ : Num) (v : ℕ)
       → Items input room P (by-turns (read-symbol-like input room) inner n) f y (addO v σ) σ₂
       → Takes input room P (read-variables input room inner) (fBox (header-of 7 0 b n true) fEnd f r) r (k ∷ byte-string-bytes b ++ integer-bytes n ++ y) σ σ₂
   takes-string-vars sm inner k bh b n f r y σ σ₂ v it s z i a h g =
-      let ss = stores-string (length b) in
+      let ss = stores-text text-string (length b) in
       let e₁ : byte-string-bytes b ++ integer-bytes n ++ y ++ z ≡ byte-string-bytes b ++ (integer-bytes n ++ (y ++ z)) = simp append-assoc in
       let h₁ : Ahead input (s .at + 1) (byte-string-bytes b ++ (integer-bytes n ++ (y ++ z))) = ahead-as _ _ e₁ (ahead-past (k ∷ []) (byte-string-bytes b ++ integer-bytes n ++ y ++ z) h) in
       let c = s .at + 1 + length (byte-string-bytes b) in
@@ -252,8 +254,8 @@ module _ (input : List ℕ) (room : Room) (P : List Node) where
       let l₁ : list-words (header-of 7 0 b n true) ≡ n * 2 = words-pairs 7 n b true (omega arith) in
       let t = told-pairs input room P n (read-symbol-like input room) inner s₁ z (omega (arith, g .references, l₁, sm .references)) it (stored-inv b ss c s P σ v a i) (stored-ranged b ss c s a)
       (ahead-past (byte-string-bytes b) (integer-bytes n ++ (y ++ z)) h₁) (fits-stored b ss fEnd f r s s c n (even-same s) g) in
-      vars-step inner b ss fEnd f r σ₂ s s z c n
-      (bh s _ h ∙ string-runs sm b (at-set (s .at + 1) s) (integer-bytes n ++ (y ++ z)) h₁ (omega (arith, g .nodes)) (omega (arith, g .objects)) (omega (arith, g .bytes)))
+      vars-step inner b ss (varies-string (length b)) fEnd f r σ₂ s s z c n
+      (bh s _ h ∙ text-runs sm b (text-row text-string) (at-set (s .at + 1) s) (integer-bytes n ++ (y ++ z)) h₁ (omega (arith, g .nodes)) (omega (arith, g .objects)) (omega (arith, g .bytes)))
       bEnd a (frame-refl _ s) (keeps-refl s s refl) (even-same s) t
 
   pub takes-user-vars : Small room → (inner : Reader ℕ) (k : ℕ) → Behind k (read-user-defined input room) inner → (b : List ℕ) (n : ℕ) (p f r : F) (x y : List ℕ) (σ σ₁ σ₂ : Num) (v : ℕ)
@@ -273,7 +275,7 @@ module _ (input : List ℕ) (room : Room) (P : List Node) where
       let l₁ : list-words (header-of 8 0 b n true) ≡ n * 2 = words-pairs 8 n b true (omega arith) in
       let t = told-pairs input room P n (read-symbol-like input room) inner s₁ z (omega (arith, g .references, l₁, sm .references)) it (stored-inv b ss c u P σ₁ v (m .ranged) (m .inv)) (stored-ranged b ss c u (m .ranged))
       (ahead-past (byte-string-bytes b) (integer-bytes n ++ (y ++ z)) (m .ahead)) (fits-stored b ss p f r s u c n ev g) in
-      vars-step inner b ss p f r σ₂ s u z c n
+      vars-step inner b ss (varies-user (length b) (m .value)) p f r σ₂ s u z c n
       (bh s _ h ∙ user-runs sm b (m .value) (at-set (s .at + 1) s) u (integer-bytes n ++ (y ++ z)) (m .runs) (m .ahead)
       (omega (arith, g .nodes, ev .nodes)) (omega (arith, g .objects, ev .objects)) (omega (arith, g .bytes, ev .bytes)))
       (m .built [] (state-seen u) bEnd) (m .ranged) (frame-trans (frame-at-set _ _ s) (m .frame)) (keeps-trans (keeps-refl s (at-set (s .at + 1) s) refl) (m .keeps)) ev t

@@ -12,7 +12,7 @@ use lib.Seq.{drop-cons, getD-take, getD-drop, getD-append-seam, take-append-le, 
 use lib.Dec.{eqb}
 use borrow.Author.Tests.{eq-eqb, ne-eqb}
 use Rattle.definition.specs.Run.{pick}
-use Rattle.definition.specs.Node.{Row, nil, bool, fixnum, symbol, array, hash, object, string, user, kind, words, equal}
+use Rattle.definition.specs.Node.{Row, nil, bool, fixnum, symbol, array, hash, object, string, user, float, kind, words, equal}
 use Rattle.definition.specs.Arena.{range, name-of, named, find-symbol}
 use Rattle.loader.specs.Holds.{Plain, Symbolic, Fit, AllFit, AllSymbolic, Names, find-listed, span}
 
@@ -37,6 +37,7 @@ plain-named bytes name (hash s n d) p = refl
 plain-named bytes name (object s n c) p = refl
 plain-named bytes name (string s l v) p = refl
 plain-named bytes name (user s l c v) p = refl
+plain-named bytes name (float s l) p = refl
 
 -- what a symbol's words say
 pub symbol-named : (n : ℕ) (bytes name : List ℕ) (r : Row) → Symbolic r → Fit n r → (named bytes name r ≡ equal name (take (getD (words r) 2 0) (drop (getD (words r) 1 0) bytes))) × (getD (words r) 1 0 + getD (words r) 2 0 ≤ n)
@@ -50,6 +51,7 @@ symbol-named n bytes name (hash s k d) p f = absurd p
 symbol-named n bytes name (object s k c) p f = absurd p
 symbol-named n bytes name (string s l v) p f = absurd p
 symbol-named n bytes name (user s l c v) p f = absurd p
+symbol-named n bytes name (float s l) p f = absurd p
 
 pub range-more : (b bs : List ℕ) (s l : ℕ) → s + l ≤ length b → take l (drop s (b ++ bs)) ≡ take l (drop s b)
 range-more b bs s l h =
@@ -68,6 +70,7 @@ named-more b bs name (hash s n d) f = refl
 named-more b bs name (object s n c) f = refl
 named-more b bs name (string s l v) f = refl
 named-more b bs name (user s l c v) f = refl
+named-more b bs name (float s l) f = refl
 
 fit-any : (n : ℕ) (rows : List Row) (i : ℕ) → AllFit n rows → Fit n (getD rows i nil)
 fit-any n [] i f = tt
@@ -90,6 +93,7 @@ plain-symbolic (hash s n d) p q = q
 plain-symbolic (object s n c) p q = q
 plain-symbolic (string s l v) p q = q
 plain-symbolic (user s l c v) p q = q
+plain-symbolic (float s l) p q = q
 
 -- ---- the searches
 

@@ -3,20 +3,21 @@ use Prim.Native.Nat.{ℕ, zero, suc, _+_, _-_, _*_, _≤_, _<_}
 use native.Mathlib.Omega.{arith}
 use mathlib.Core.Path.{_≡_, refl, sym, ap, _∙_, subst}
 use mathlib.Core.Bool.{Bool, true, false}
-use mathlib.Core.List.{List}
+use mathlib.Core.List.{List, [], _∷_}
 use mathlib.Core.Option.{Option, none, some}
+use mathlib.Core.Logic.{_⊎_, inl, inr}
 use lib.Dec.{eqb}
 use lib.ListN.{length, getD, set, drop}
 use borrow.Author.Tests.{ne-eqb, eq-eqb}
 use mir.Syntax.{w32}
 use mir.Val.{Fits}
 use Rattle.definition.specs.Run.{pure, refuse, pick, look, _>>=_}
-use Rattle.definition.specs.Kind.{NIL, TRUE, FALSE, FIXNUM, SYMBOL, SYMBOL-LINK, OBJECT-LINK, INSTANCE-VARIABLES, ARRAY, HASH, HASH-DEFAULT, OBJECT, STRING, USER-DEFINED}
-use Rattle.definition.specs.Node.{nil, symbol}
+use Rattle.definition.specs.Kind.{NIL, TRUE, FALSE, FIXNUM, SYMBOL, SYMBOL-LINK, OBJECT-LINK, INSTANCE-VARIABLES, ARRAY, HASH, HASH-DEFAULT, OBJECT, STRING, USER-DEFINED, FLOAT}
+use Rattle.definition.specs.Node.{Row, nil, symbol, string, float, absent, words}
 use Rattle.definition.specs.Arena.{find-symbol, named}
-use Rattle.definition.specs.Load.{Room, State, Reader, Lists, Head, Unknown, head, value-of, read-header, read-value, read-symbol, read-symbol-link, read-symbol-like, intern, intern-as, add-symbol, add-bytes, add-node}
+use Rattle.definition.specs.Load.{Room, State, Reader, Lists, Head, String, Float, Unknown, head, value-of, read-text, read-string, read-float, read-header, read-value, read-symbol, read-symbol-link, read-symbol-like, intern, intern-as, add-symbol, add-bytes, add-node}
 use Rattle.definition.specs.declared.Refusal.the-variants.{NotASymbol, TooDeep}
-use Rattle.loader.specs.Holds.{Holds, Held, Goes, Leads, Does, Leaf, new-symbol, find-listed, at-of, nodes-of, symbols-of}
+use Rattle.loader.specs.Holds.{Holds, Held, Goes, Leads, Does, Leaf, Plain, new-symbol, find-listed, at-of, nodes-of, symbols-of}
 use Rattle.reader.specs.Answers.{Reads, coded, at-name, at-level}
 use Rattle.loader.proofs.Stores.{at-held}
 use Rattle.loader.proofs.Names.{listed-here, listed-on, listed-none}
@@ -49,10 +50,20 @@ module _ {input : List ℕ} {room : Room} {T : Lists} {c : List ℕ} (limit leve
 pub headed : {input : List ℕ} {room : Room} {limit : ℕ} {T T' : Lists} {c c' : List ℕ} {r : ℕ} {m' : Reader ℕ} (inner : Reader ℕ) (k : ℕ) (hd : Head) → head k ≡ hd → Leads input room limit (value-of input room inner k hd) m' T c r T' c' → Leads input room limit (value-of input room inner k (head k)) m' T c r T' c'
 headed {input} {room} inner k hd e m = lead-as (ap (λ h. value-of input room inner k h) e) m
 
--- none of the fourteen
-pub other : (k : ℕ) → Leaf k → (k ≡ FIXNUM → ⊥) → (k ≡ SYMBOL-LINK → ⊥) → (k ≡ STRING → ⊥) → (k ≡ SYMBOL → ⊥) → (k ≡ NIL → ⊥) → (k ≡ TRUE → ⊥) → (k ≡ FALSE → ⊥) → (k ≡ OBJECT-LINK → ⊥) → (k ≡ USER-DEFINED → ⊥) → head k ≡ Unknown
+-- a byte string alone, of one of two kinds
+pub text-headed : {input : List ℕ} {room : Room} {limit : ℕ} {T T' : Lists} {c c' : List ℕ} {r k kind : ℕ} {m' : Reader ℕ} (inner : Reader ℕ) → (k ≡ STRING) ⊎ (k ≡ FLOAT) → (k ≡ STRING → kind ≡ 7) → ((k ≡ STRING → ⊥) → kind ≡ 9)
+    → ((row : ℕ → ℕ → Row) → ((start n : ℕ) → words (row start n) ≡ kind ∷ start ∷ n ∷ 0 ∷ 0 ∷ 0 ∷ 0 ∷ []) → ((start n : ℕ) → Plain (row start n)) → Leads input room limit (read-text input room row) m' T c r T' c')
+    → Leads input room limit (value-of input room inner k (head k)) m' T c r T' c'
+unfolding head pick value-of read-string read-float words
+text-headed {k = k} inner (inl e) q p m =
+    headed inner k String (ap head e) (m (λ start n. string start n absent) (λ start n. ap (λ (x : ℕ). x ∷ start ∷ n ∷ 0 ∷ 0 ∷ 0 ∷ 0 ∷ []) (sym (q e))) (λ start n. tt))
+text-headed {k = k} inner (inr e) q p m =
+    headed inner k Float (ap head e) (m float (λ start n. ap (λ (x : ℕ). x ∷ start ∷ n ∷ 0 ∷ 0 ∷ 0 ∷ 0 ∷ []) (sym (p (λ z. omega arith)))) (λ start n. tt))
+
+-- no kind byte
+pub other : (k : ℕ) → Leaf k → (k ≡ FIXNUM → ⊥) → (k ≡ SYMBOL-LINK → ⊥) → ((k ≡ STRING) ⊎ (k ≡ FLOAT) → ⊥) → (k ≡ SYMBOL → ⊥) → (k ≡ NIL → ⊥) → (k ≡ TRUE → ⊥) → (k ≡ FALSE → ⊥) → (k ≡ OBJECT-LINK → ⊥) → (k ≡ USER-DEFINED → ⊥) → head k ≡ Unknown
 unfolding head pick
-other k l a b c d e f g h i = simp (ne-eqb k FIXNUM a, ne-eqb k SYMBOL-LINK b, ne-eqb k STRING c, ne-eqb k SYMBOL d, ne-eqb k NIL e, ne-eqb k TRUE f, ne-eqb k FALSE g, ne-eqb k OBJECT-LINK h, ne-eqb k USER-DEFINED i, ne-eqb k ARRAY (l .array), ne-eqb k HASH (l .hash), ne-eqb k HASH-DEFAULT (l .default), ne-eqb k OBJECT (l .object), ne-eqb k INSTANCE-VARIABLES (l .variables))
+other k l a b c d e f g h i = simp (ne-eqb k FIXNUM a, ne-eqb k SYMBOL-LINK b, ne-eqb k STRING (λ q. c (inl q)), ne-eqb k FLOAT (λ q. c (inr q)), ne-eqb k SYMBOL d, ne-eqb k NIL e, ne-eqb k TRUE f, ne-eqb k FALSE g, ne-eqb k OBJECT-LINK h, ne-eqb k USER-DEFINED i, ne-eqb k ARRAY (l .array), ne-eqb k HASH (l .hash), ne-eqb k HASH-DEFAULT (l .default), ne-eqb k OBJECT (l .object), ne-eqb k INSTANCE-VARIABLES (l .variables))
 
 -- ---- the header
 

@@ -10,7 +10,7 @@ use lib.Dec.{ltb}
 use borrow.Author.Tests.{lt-ltb, le-ltb, ltb-true, ltb-false, le-leb, lt-leb}
 use Rattle.definition.specs.Run.{Outcome, ok, pure, refuse, next, look, pick, _>>=_}
 use Rattle.definition.specs.Integer.{form, value}
-use Rattle.definition.specs.Node.{Row, nil, bool, fixnum, symbol, array, hash, object, string, user, absent, present, words, flat, equal}
+use Rattle.definition.specs.Node.{Row, nil, bool, fixnum, symbol, array, hash, object, string, user, float, absent, present, words, flat, equal}
 use Rattle.definition.specs.Arena.{range, named}
 use Rattle.definition.specs.Load.{Room, State, Reader, Lists, lists, at-set, nodes-set, references-set, bytes-set, symbols-set, objects-set, read-byte, read-bytes, read-integer, add-node, reserve, add-bytes, add-symbol, add-object, fill, put-reference, entry, set-variables}
 use Rattle.definition.specs.declared.Refusal.{Refusal}
@@ -36,6 +36,7 @@ fit-more (hash s k d) l f = tt
 fit-more (object s k c) l f = tt
 fit-more (string s k v) l f = tt
 fit-more (user s k c v) l f = tt
+fit-more (float s k) l f = tt
 
 plain-fit : (n : ℕ) (r : Row) → Plain r → Fit n r
 plain-fit n nil p = tt
@@ -47,6 +48,7 @@ plain-fit n (hash s k d) p = tt
 plain-fit n (object s k c) p = tt
 plain-fit n (string s k v) p = tt
 plain-fit n (user s k c v) p = tt
+plain-fit n (float s k) p = tt
 
 fit-snoc : (n : ℕ) (r : Row) (l : List Row) → AllFit n l → Fit n r → AllFit n (l ++ (r ∷ []))
 fit-snoc n r [] b g zero lt = g
@@ -427,6 +429,7 @@ varied start n (hash s m d) = nil
 varied start n (object s m c) = nil
 varied start n (string s l v) = string s l (present start n)
 varied start n (user s l c v) = user s l c (present start n)
+varied start n (float s l) = nil
 
 varied-plain : (start n : ℕ) (r : Row) → Plain (varied start n r)
 varied-plain start n nil = tt
@@ -438,21 +441,23 @@ varied-plain start n (hash s m d) = tt
 varied-plain start n (object s m c) = tt
 varied-plain start n (string s l v) = tt
 varied-plain start n (user s l c v) = tt
+varied-plain start n (float s l) = tt
 
-varied-words : (h start n : ℕ) (r : Row) → 7 ≤ getD (words r) 0 0 → (words (varied start n r) ≡ getD (words r) 0 0 ∷ getD (words r) 1 0 ∷ getD (words r) 2 0 ∷ start ∷ n ∷ getD (words r) 5 0 ∷ 1 ∷ []) × (set-variables h start n r ≡ fill h (varied start n r)) × Plain r
+varied-words : (h start n : ℕ) (r : Row) → 7 ≤ getD (words r) 0 0 → getD (words r) 0 0 ≤ 8 → (words (varied start n r) ≡ getD (words r) 0 0 ∷ getD (words r) 1 0 ∷ getD (words r) 2 0 ∷ start ∷ n ∷ getD (words r) 5 0 ∷ 1 ∷ []) × (set-variables h start n r ≡ fill h (varied start n r)) × Plain r
 unfolding words set-variables
-varied-words h start n nil l = absurd (omega arith)
-varied-words h start n (bool true) l = absurd (omega arith)
-varied-words h start n (bool false) l = absurd (omega arith)
-varied-words h start n (fixnum w) l = absurd (omega arith)
-varied-words h start n (symbol s k) l = absurd (omega arith)
-varied-words h start n (array s m) l = absurd (omega arith)
-varied-words h start n (hash s m d) l = absurd (omega arith)
-varied-words h start n (object s m c) l = absurd (omega arith)
-varied-words h start n (string s k absent) l = (refl, refl, tt)
-varied-words h start n (string s k (present p m)) l = (refl, refl, tt)
-varied-words h start n (user s k c absent) l = (refl, refl, tt)
-varied-words h start n (user s k c (present p m)) l = (refl, refl, tt)
+varied-words h start n nil l m = absurd (omega arith)
+varied-words h start n (bool true) l m = absurd (omega arith)
+varied-words h start n (bool false) l m = absurd (omega arith)
+varied-words h start n (fixnum w) l m = absurd (omega arith)
+varied-words h start n (symbol s k) l m = absurd (omega arith)
+varied-words h start n (array s q) l m = absurd (omega arith)
+varied-words h start n (hash s q d) l m = absurd (omega arith)
+varied-words h start n (object s q c) l m = absurd (omega arith)
+varied-words h start n (string s k absent) l m = (refl, refl, tt)
+varied-words h start n (string s k (present p q)) l m = (refl, refl, tt)
+varied-words h start n (user s k c absent) l m = (refl, refl, tt)
+varied-words h start n (user s k c (present p q)) l m = (refl, refl, tt)
+varied-words h start n (float s k) l m = absurd (omega arith)
 
 not-varied : (h start n : ℕ) (r : Row) → (getD (words r) 0 0 ≡ 7 → ⊥) → (getD (words r) 0 0 ≡ 8 → ⊥) → set-variables h start n r ≡ refuse NotAnObject
 unfolding words set-variables
@@ -467,18 +472,19 @@ not-varied h start n (string s k absent) a b = absurd (a refl)
 not-varied h start n (string s k (present p m)) a b = absurd (a refl)
 not-varied h start n (user s k c absent) a b = absurd (b refl)
 not-varied h start n (user s k c (present p m)) a b = absurd (b refl)
+not-varied h start n (float s k) a b = refl
 
 words-same : {a b d e a' b' d' e' : ℕ} (start n : ℕ) → a ≡ a' → b ≡ b' → d ≡ d' → e ≡ e' → _≡_ {A = List ℕ} (a ∷ b ∷ d ∷ start ∷ n ∷ e ∷ 1 ∷ []) (a' ∷ b' ∷ d' ∷ start ∷ n ∷ e' ∷ 1 ∷ [])
 words-same start n p q r t = λ i. p i ∷ q i ∷ r i ∷ start ∷ n ∷ t i ∷ 1 ∷ []
 
 module _ {input : List ℕ} {room : Room} {limit : ℕ} {c : List ℕ} {no re by sy ob : List ℕ} (h start n : ℕ) (l : h < nodes-of c) where
-  pub variables-set : {no' : List ℕ} → 7 ≤ getD no (h * 7) 0 → no' ≡ sets no (h * 7) (getD no (h * 7) 0 ∷ getD no (h * 7 + 1) 0 ∷ getD no (h * 7 + 2) 0 ∷ start ∷ n ∷ getD no (h * 7 + 5) 0 ∷ 1 ∷ []) → Meets input room limit (settle h start n) (lists no re by sy ob) c h (lists no' re by sy ob) c
+  pub variables-set : {no' : List ℕ} → 7 ≤ getD no (h * 7) 0 → getD no (h * 7) 0 ≤ 8 → no' ≡ sets no (h * 7) (getD no (h * 7) 0 ∷ getD no (h * 7 + 1) 0 ∷ getD no (h * 7 + 2) 0 ∷ start ∷ n ∷ getD no (h * 7 + 5) 0 ∷ 1 ∷ []) → Meets input room limit (settle h start n) (lists no re by sy ob) c h (lists no' re by sy ob) c
   unfolding look
-  variables-set g f = given (λ s H. omega arith) (record {
+  variables-set g g' f = given (λ s H. omega arith) (record {
     goes = λ s H.
         let r = getD (s .nodes) h nil in
         let w0 = word-0 H h l in
-        let v = varied-words h start n r (omega (arith, w0, g)) in
+        let v = varied-words h start n r (omega (arith, w0, g)) (omega (arith, w0, g')) in
         let e = words-same start n w0 (word H h l 1 (omega arith)) (word H h l 2 (omega arith)) (word H h l 5 (omega arith)) in
         let x = row-went h (varied start n r) _ (v .0 ∙ sym e) (varied-plain start n r) l f s H (v .2) in
         record { state = x .state; holds = x .holds; same = ap (λ (m : Reader ℕ). m s) (v .1) ∙ x .same; grown = x .grown };

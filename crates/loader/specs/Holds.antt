@@ -9,9 +9,9 @@ use lib.ListN.{length, getD, take, drop}
 use Rattle.definition.specs.Run.{Outcome, refused, pure, pick, look, _>>=_}
 use Rattle.definition.specs.Integer.{form, value}
 use Rattle.definition.specs.Kind.{FIXNUM, SYMBOL-LINK, INSTANCE-VARIABLES, ARRAY, HASH, HASH-DEFAULT, OBJECT}
-use Rattle.definition.specs.Node.{Row, nil, bool, fixnum, symbol, array, hash, object, string, user, flat}
+use Rattle.definition.specs.Node.{Row, nil, bool, fixnum, symbol, array, hash, object, string, user, float, flat}
 use Rattle.definition.specs.Arena.{named, find-symbol, lowest, bad-nodes, too-long}
-use Rattle.definition.specs.Load.{Room, State, Reader, Lists, add-node, add-symbol, add-object-node, add-bytes, read-byte-string, put-reference, set-variables}
+use Rattle.definition.specs.Load.{Room, State, Reader, Lists, add-node, add-symbol, put-reference, set-variables}
 use Rattle.definition.specs.declared.Refusal.{Refusal}
 use Rattle.reader.specs.Answers.{refusal-at}
 
@@ -65,6 +65,7 @@ Plain (hash s n d) = Unit {0}
 Plain (object s n c) = Unit {0}
 Plain (string s l v) = Unit {0}
 Plain (user s l c v) = Unit {0}
+Plain (float s l) = Unit {0}
 
 abbrev pub Symbolic : Row → Type 0
 Symbolic nil = ⊥
@@ -76,6 +77,7 @@ Symbolic (hash s n d) = ⊥
 Symbolic (object s n c) = ⊥
 Symbolic (string s l v) = ⊥
 Symbolic (user s l c v) = ⊥
+Symbolic (float s l) = ⊥
 
 -- a symbol's bytes are among the first n
 abbrev pub Fit : ℕ → Row → Type 0
@@ -88,6 +90,7 @@ Fit n (hash s l d) = Unit {0}
 Fit n (object s l c) = Unit {0}
 Fit n (string s l v) = Unit {0}
 Fit n (user s l c v) = Unit {0}
+Fit n (float s l) = Unit {0}
 
 abbrev pub AllFit : ℕ → List Row → Type 0
 AllFit n rows = (i : ℕ) → i < length rows → Fit n (getD rows i nil)
@@ -204,10 +207,6 @@ pub record Leaf (k : ℕ) : Type 0 where
 -- a symbol's node, put on the symbol list
 abbrev pub new-symbol : Room → ℕ → ℕ → Reader ℕ
 new-symbol room start n = add-node room (symbol start n) >>= add-symbol room
-
--- a byte string, the node that it makes, object list
-abbrev pub text : List ℕ → Room → (ℕ → ℕ → Row) → Reader ℕ
-text input room row = read-byte-string input >>= λ bs. add-bytes room bs >>= λ start. add-object-node room (row start (length bs))
 
 -- variables are set, or 10
 abbrev pub settle : ℕ → ℕ → ℕ → Reader ℕ

@@ -32,13 +32,13 @@ ghost use mathlib.Core.Bool.{true};
 ghost use lib.ListN.{length, getD, set, take, drop};
 ghost use lib.Seq.{sets};
 ghost use Rattle.definition.specs.Integer.{form, value};
-ghost use Rattle.definition.specs.Kind.{FIXNUM};
+ghost use Rattle.definition.specs.Kind.{FIXNUM, STRING};
 ghost use Rattle.definition.specs.Node.{Row, words, nil, equal, width};
 ghost use Rattle.definition.specs.Arena.{named, find-symbol};
-ghost use Rattle.definition.specs.Load.{Room, State, Reader, Lists, lists, read-header, read-integer, read-count, read-byte-string, read-fixnum, read-symbol, read-symbol-link, read-object-link, read-symbol-like, read-user-defined, read-value, value-of, head, add-node, add-bytes, add-symbol, add-object, add-object-node, counted, fill};
+ghost use Rattle.definition.specs.Load.{Room, State, Reader, Lists, lists, read-header, read-integer, read-count, read-byte-string, read-fixnum, read-symbol, read-symbol-link, read-object-link, read-symbol-like, read-text, read-user-defined, read-value, value-of, head, add-node, add-bytes, add-symbol, add-object, add-object-node, counted, fill};
 ghost use Rattle.reader.specs.Answers.{coded};
 ghost use Rattle.reader.specs.Integers.{size-of, word-of};
-ghost use Rattle.loader.specs.Holds.{Held, Holds, Somewhere, Goes, Leads, Meets, Does, Spans, Plain, Symbolic, Free, Leaf, Entry, Link, Next, Coming, span, span-of, at-of, nodes-of, references-of, bytes-of, symbols-of, new-symbol, text, settle, slots, wrong, Allowed};
+ghost use Rattle.loader.specs.Holds.{Held, Holds, Somewhere, Goes, Leads, Meets, Does, Spans, Plain, Symbolic, Free, Leaf, Entry, Link, Next, Coming, span, span-of, at-of, nodes-of, references-of, bytes-of, symbols-of, new-symbol, settle, slots, wrong, Allowed};
 
 // The places of the six counts: the offset, then how much of each table and list is used.
 pub const AT: usize = 0;
@@ -290,7 +290,7 @@ fn read_fixnum(input: &[u8], nodes: &mut [u32], c: &mut [usize; 6]) -> u64
     add_node(nodes, c, Node::FIXNUM, n as u32, 0, 0)
 }
 
-// A byte string and its node: a string's, or a user-defined's with its name.
+// A byte string and its node: a string's, a float's, or a user-defined's with its name.
 fn read_text(
     input: &[u8],
     nodes: &mut [u32],
@@ -301,7 +301,7 @@ fn read_text(
     name: u32,
 ) -> u64
     requires { ⌜ ((re : List ℕ) × (sy : List ℕ) × Held (now input) (lists (now nodes) re (now bytes) sy (now objects)) (now c)) ⌝ }
-    ensures { λ r. ⌜ ((room : Room) (limit : ℕ) (row : ℕ → ℕ → Row) (re sy : List ℕ) → ((start n : ℕ) → words (row start n) ≡ kind ∷ start ∷ n ∷ 0 ∷ 0 ∷ name ∷ 0 ∷ []) → ((start n : ℕ) → Plain (row start n)) → Meets (now (input .entry)) room limit (text (now (input .entry)) room row) (lists (now (nodes .entry)) re (now (bytes .entry)) sy (now (objects .entry))) (now (c .entry)) r (lists (now (nodes .exit)) re (now (bytes .exit)) sy (now (objects .exit))) (now (c .exit))) ⌝ }
+    ensures { λ r. ⌜ ((room : Room) (limit : ℕ) (row : ℕ → ℕ → Row) (re sy : List ℕ) → ((start n : ℕ) → words (row start n) ≡ kind ∷ start ∷ n ∷ 0 ∷ 0 ∷ name ∷ 0 ∷ []) → ((start n : ℕ) → Plain (row start n)) → Meets (now (input .entry)) room limit (read-text (now (input .entry)) room row) (lists (now (nodes .entry)) re (now (bytes .entry)) sy (now (objects .entry))) (now (c .entry)) r (lists (now (nodes .exit)) re (now (bytes .exit)) sy (now (objects .exit))) (now (c .exit))) ⌝ }
     ensures { λ r. ⌜ (r < 4294967296 → r < nodes-of (now (c .exit))) ⌝ }
 {
     let n = read_byte_string(&input[..], c);
@@ -474,6 +474,17 @@ fn read_user_defined(
     )
 }
 
+// The kind of the node that is a byte string alone, by the kind byte: a string's or a float's.
+fn text_kind(k: u8) -> u32
+    ensures { λ r. ⌜ (k ≡ STRING → r ≡ 7) × ((k ≡ STRING → ⊥) → r ≡ 9) ⌝ }
+{
+    if k == ValueKind::STRING {
+        Node::STRING
+    } else {
+        Node::FLOAT
+    }
+}
+
 // A value that has no members, after its kind byte k; another kind byte is refused.
 pub fn read_leaf(
     input: &[u8],
@@ -491,7 +502,9 @@ pub fn read_leaf(
     match k {
         ValueKind::FIXNUM => read_fixnum(&input[..], nodes, c),
         ValueKind::SYMBOL_LINK => read_symbol_link(&input[..], symbols, c),
-        ValueKind::STRING => { read_text(&input[..], nodes, bytes, objects, c, Node::STRING, 0) }
+        ValueKind::STRING | ValueKind::FLOAT => {
+            read_text(&input[..], nodes, bytes, objects, c, text_kind(k), 0)
+        }
         ValueKind::SYMBOL => read_symbol(&input[..], nodes, bytes, symbols, c),
         ValueKind::NIL => add_node(nodes, c, Node::NIL, 0, 0, 0),
         ValueKind::TRUE => add_node(nodes, c, Node::BOOL, 1, 0, 0),
@@ -691,7 +704,7 @@ pub fn fill_node(
     h
 }
 
-// The variable list of node h is this one, if it is of one of the last kinds, string and user-defined: h.
+// The variable list of node h is this one, if it is a string or user-defined: h.
 pub fn set_variables(nodes: &mut [u32], h: u64, list: u32, n: u32) -> u64
     requires { ⌜ (h * width + width ≤ length (now nodes)) × (h < 4294967296) ⌝ }
     ensures { λ r. ⌜ ((input : List ℕ) (room : Room) (limit : ℕ) (re by sy ob c : List ℕ) → h < nodes-of c → Meets input room limit (settle h list n) (lists (now (nodes .entry)) re by sy ob) c r (lists (now (nodes .exit)) re by sy ob) c) ⌝ }
@@ -700,6 +713,9 @@ pub fn set_variables(nodes: &mut [u32], h: u64, list: u32, n: u32) -> u64
     let base = h as usize * Node::WIDTH;
     let kind = nodes[base];
     if kind < Node::STRING {
+        return NOT_AN_OBJECT;
+    }
+    if Node::USER_DEFINED < kind {
         return NOT_AN_OBJECT;
     }
     let a = nodes[base + Node::START];

@@ -18,6 +18,7 @@ use refusal::answer_numbers;
 use value_arena::create_array;
 use value_arena::create_bool;
 use value_arena::create_fixnum;
+use value_arena::create_float;
 use value_arena::create_hash;
 use value_arena::create_new_symbol;
 use value_arena::create_nil;
@@ -39,7 +40,7 @@ ghost use Rattle.definition.specs.Refused.{answer-numbers};
 ghost use Rattle.definition.specs.Arena.{Tables};
 ghost use Rattle.definition.specs.Load.{Lists, lists, counts, load-call};
 ghost use Rattle.definition.specs.Dump.{dump-call};
-ghost use Rattle.definition.specs.Build.{lent, build-call, new-call, number-done, words-done, name-done, get-words, get-kind, get-name, get-root, exchange-root, create-nil, create-bool, create-fixnum, create-new-symbol, create-symbol, create-array, create-hash, create-object, create-string, create-user-defined};
+ghost use Rattle.definition.specs.Build.{lent, build-call, new-call, number-done, words-done, name-done, get-words, get-kind, get-name, get-root, exchange-root, create-nil, create-bool, create-fixnum, create-new-symbol, create-symbol, create-array, create-hash, create-object, create-string, create-user-defined, create-float};
 ghost use Rattle.refusal.specs.Shown.{integer};
 ghost use Rattle.marshal_c.specs.Reply.{word, details, count-words, loaded-words, dumped-words, begun-words, number-words, node-words, name-words, created-words, tables, reply, tell-load, tell-dump, tell-new, tell-build, tell-number, tell-words, tell-name};
 
@@ -682,5 +683,32 @@ pub extern "C" fn ruby_marshal_create_user_defined(
         root: root,
     };
     let r = create_user_defined(nodes, &references[..], bytes, c, name, &value[..]);
+    tell_created(answer, r)
+}
+
+#[no_mangle]
+pub extern "C" fn ruby_marshal_create_float(
+    nodes: &mut [u32],
+    references: &[u32],
+    bytes: &mut [u8],
+    node_count: usize,
+    reference_count: usize,
+    byte_count: usize,
+    root: u32,
+    value: &[u8],
+    answer: &mut [u64],
+) -> u32
+    ensures { λ r. ⌜ reply r (now (answer .exit)) (tables (now (nodes .exit)) (now (references .entry)) (now (bytes .exit))) ≡ tell-build (build-call (create-float (now (value .entry))) (lent (now (nodes .entry)) (now (references .entry)) (now (bytes .entry)) (counts «node_count» «reference_count» «byte_count» root))) (tables (now (nodes .entry)) (now (references .entry)) (now (bytes .entry))) (now (answer .entry)) ⌝ }
+{
+    if answer.len() < CREATED {
+        return BAD_TABLES;
+    }
+    let c = Counts {
+        nodes: node_count,
+        references: reference_count,
+        bytes: byte_count,
+        root: root,
+    };
+    let r = create_float(nodes, &references[..], bytes, c, &value[..]);
     tell_created(answer, r)
 }

@@ -1,22 +1,21 @@
 -- Any two arenas that are dumped, however they were made: equal bytes exactly for the same graph.
 use Prim.Native.Nat.{ℕ, zero, suc, _+_, _≤_, _<_}
 use mathlib.Core.Path.{_≡_, refl, ap, sym, _∙_}
-use mathlib.Core.Bool.{Bool, true, false}
 use mathlib.Core.Logic.{_↔_}
 use mathlib.Core.Option.{none, some}
 use mathlib.Core.List.{List, [], _∷_, _++_}
-use lib.Dec.{eqb}
 use lib.ListN.{length, getD, take, drop, getElem?, length-map}
 use lib.Seq.{getD-take, getD-drop}
 use native.Mathlib.Omega.{arith}
-use Rattle.definition.specs.Run.{ok, pick}
-use Rattle.definition.specs.Node.{Row, nil, bool, fixnum, symbol, array, hash, object, string, user, vars, row-of, row, rows}
+use Rattle.definition.specs.Run.{ok}
+use Rattle.definition.specs.Node.{Row, fixnum, kind, row-of, row, rows}
 use Rattle.definition.specs.Arena.{Tables, Arena, arena, node, range, fault}
 use Rattle.definition.specs.Dump.{Written, dump, dump-wrong, DumpCall}
 use Rattle.definition.specs.Graph.{SameGraph}
 use Rattle.definition.specs.declared.Counts.{Counts}
 use Rattle.lists.specs.Lists.{At, at-lt, len-snoc, apart}
 use Rattle.lists.specs.Ranges.{length-range}
+use Rattle.lists.specs.Rows.{row-2, kind-is}
 use Rattle.lists.specs.Slices.{tables-right}
 use Rattle.graph.specs.Sums.{total}
 use Rattle.graph.specs.Forest.{Node, leaf, box, Num, fresh, F, node-box, node-sym}
@@ -25,7 +24,7 @@ use Rattle.graph.specs.Describe.{E, eEnd, eLeaf, eBox, eRef, eSym, eSymref, e-l
 use Rattle.graph.specs.View.{see, seen, at-see}
 use Rattle.well_formed.specs.Nodes.{at-node}
 use Rattle.well_formed.specs.Right.{Right, RowRight, Fixnums, fault-right, fault-fit}
-use Rattle.dump_forest.specs.Shown.{Shown, nil-shown, false-shown, true-shown, fixnum-shown, symbol-shown, array-shown, hash-shown, default-shown, object-shown, string-shown, string-vars-shown, user-shown, user-vars-shown, shown-at}
+use Rattle.dump_forest.specs.Shown.{Shown, nil-shown, false-shown, true-shown, fixnum-shown, symbol-shown, array-shown, hash-shown, default-shown, object-shown, string-shown, string-vars-shown, user-shown, user-vars-shown, float-shown, shown-at}
 use Rattle.dump_forest.specs.Sound.{dump-sound}
 use Rattle.dump_forest.specs.Same.{one-graph}
 use Rattle.dump_forest.specs.Writers.{num}
@@ -68,6 +67,7 @@ module _ (A : Arena) (m : Small A) where
   row-bounded f h (string-vars-shown {s} {l} {p} {n}) = (omega (arith, h .1 .list .inside, m .references), range-bounded s l (h .0))
   row-bounded f h (user-shown {s} {l} {c}) = (omega arith, range-bounded s l (h .0))
   row-bounded f h (user-vars-shown {s} {l} {c} {p} {n}) = (omega (arith, h .2 .list .inside, m .references), range-bounded s l (h .0))
+  row-bounded f h (float-shown {s} {l}) = (omega arith, range-bounded s l h)
 
   node-bounded : Right A → Fixnums A → (v : ℕ) (n : Node) → At (seen A) v n → BoundedNode n
   node-bounded ρ fx v n a =
@@ -143,20 +143,10 @@ word-bounded (x ∷ t) b (suc k) = word-bounded t (λ j v e. b (suc j) v e) k
 
 -- a fixnum's value is word 1
 fixnum-word : (k a b s n c f w : ℕ) → row-of k a b s n c f ≡ fixnum w → a ≡ w
-unfolding row-of pick
-fixnum-word k a b s n c f w e = go (eqb k 1) (eqb k 2) (eqb k 3) (eqb k 4) (eqb k 5) (eqb k 6) (eqb k 7) (eqb k 8) e
-  where
-    go : (k₁ k₂ k₃ k₄ k₅ k₆ k₇ k₈ : Bool)
-        → pick k₁ (bool (eqb a 1)) (pick k₂ (fixnum a) (pick k₃ (symbol a b) (pick k₄ (array s n) (pick k₅ (hash s n f) (pick k₆ (object s n c) (pick k₇ (string a b (vars f s n)) (pick k₈ (user a b c (vars f s n)) nil))))))) ≡ fixnum w → a ≡ w
-    go true k₂ k₃ k₄ k₅ k₆ k₇ k₈ e = apart (cc)
-    go false true k₃ k₄ k₅ k₆ k₇ k₈ e = cc
-    go false false true k₄ k₅ k₆ k₇ k₈ e = apart (cc)
-    go false false false true k₅ k₆ k₇ k₈ e = apart (cc)
-    go false false false false true k₆ k₇ k₈ e = apart (cc)
-    go false false false false false true k₇ k₈ e = apart (cc)
-    go false false false false false false true k₈ e = apart (cc)
-    go false false false false false false false true e = apart (cc)
-    go false false false false false false false false e = apart (cc)
+unfolding kind
+fixnum-word k a b s n c f w e =
+    let z = row-2 k a b s n c f (kind-is k a b s n c f 2 (ap kind e) (omega arith)) in
+    cc
 
 rows-fixnum : (n : ℕ) (t : List ℕ) → ((k : ℕ) → getD t k 0 < 4294967296) → (i w : ℕ) → At (rows n t) i (fixnum w) → w < 4294967296
 unfolding rows row

@@ -9,10 +9,10 @@ use lib.Seq.{take-at, drop-at, drop-append-seam}
 use native.Mathlib.Omega.{arith}
 use Rattle.definition.specs.Run.{pick}
 use Rattle.definition.specs.Integer.{Form, value, data-bytes, form, little, integer-bytes}
-use Rattle.definition.specs.Kind.{NIL, TRUE, FALSE, FIXNUM, SYMBOL, SYMBOL-LINK, OBJECT-LINK, INSTANCE-VARIABLES, ARRAY, HASH, HASH-DEFAULT, OBJECT, STRING, USER-DEFINED}
+use Rattle.definition.specs.Kind.{NIL, TRUE, FALSE, FIXNUM, SYMBOL, SYMBOL-LINK, OBJECT-LINK, INSTANCE-VARIABLES, ARRAY, HASH, HASH-DEFAULT, OBJECT, STRING, USER-DEFINED, FLOAT}
 use Rattle.definition.specs.Dump.{byte-string-bytes}
 use Rattle.definition.specs.Graph.{header-of}
-use Rattle.graph.specs.Forest.{F, fEnd, fLeaf, fBox, fRef, fSym, fSymref, fIv, trees, Mode, values, pairs, value-pairs, name, name-pairs, after, IsValue, Text, tEnd, tEndPairs, tName, tNameLink, tOneName, tOneLink, tClass, tClassLink, tNil, tFalse, tTrue, tFixnum, tSymbol, tSymbolLink, tObjectLink, tArray, tHash, tHashDefault, tObject, tString, tStringVars, tUser, tUserVars}
+use Rattle.graph.specs.Forest.{F, fEnd, fLeaf, fBox, fRef, fSym, fSymref, fIv, trees, Mode, values, pairs, value-pairs, name, name-pairs, after, IsValue, Text, tEnd, tEndPairs, tName, tNameLink, tOneName, tOneLink, tClass, tClassLink, tNil, tFalse, tTrue, tFixnum, tSymbol, tSymbolLink, tObjectLink, tArray, tHash, tHashDefault, tObject, Texted, text-string, text-float, tText, tStringVars, tUser, tUserVars}
 use Rattle.load_text.specs.Codec.{Codes, short, long, codes}
 
 -- every link, count and length of a byte string has 31 bits, every leaf's value 32
@@ -63,16 +63,17 @@ str-back b u h =
 
 -- ---- the reader
 
--- what a kind byte begins
+-- what a kind byte begins; h-text: a byte string and nothing more, of the kind given
 data Head : Type 0 where
-  h-nil h-true h-false h-fixnum h-symbol h-symbol-link h-object-link h-variables h-array h-hash h-hash-default h-object h-string h-user h-other : Head
+  h-nil h-true h-false h-fixnum h-symbol h-symbol-link h-object-link h-variables h-array h-hash h-hash-default h-object h-user h-other : Head
+  h-text : ℕ → Head
 
 unfoldable head : ℕ → Head
 head b =
     pick (eqb b NIL) h-nil (pick (eqb b TRUE) h-true (pick (eqb b FALSE) h-false (pick (eqb b FIXNUM) h-fixnum
     (pick (eqb b SYMBOL) h-symbol (pick (eqb b SYMBOL-LINK) h-symbol-link (pick (eqb b OBJECT-LINK) h-object-link (pick (eqb b INSTANCE-VARIABLES) h-variables
     (pick (eqb b ARRAY) h-array (pick (eqb b HASH) h-hash (pick (eqb b HASH-DEFAULT) h-hash-default (pick (eqb b OBJECT) h-object
-    (pick (eqb b STRING) h-string (pick (eqb b USER-DEFINED) h-user h-other)))))))))))))
+    (pick (eqb b STRING) (h-text 7) (pick (eqb b USER-DEFINED) h-user (pick (eqb b FLOAT) (h-text 9) h-other))))))))))))))
 
 -- what is to be read: a mode, where the number of values is known and that of a class's pairs is not
 data Want : Type 0 where
@@ -133,7 +134,7 @@ item p w h-array x = boxed p w (λ t. fBox (header-of 4 0 [] (int x .0) false) f
 item p w h-hash x = boxed p w (λ t. fBox (header-of 5 0 [] (int x .0) false) fEnd (t .forest)) (p (w-values (int x .0 * 2)) (int x .1))
 item p w h-hash-default x = boxed p w (λ t. fBox (header-of 5 0 [] (int x .0) true) fEnd (t .forest)) (p (w-values (int x .0 * 2 + 1)) (int x .1))
 item p w h-object x = boxed p w (λ t. fBox (header-of 6 0 [] (t .number) false) fEnd (t .forest)) (p w-name-pairs x)
-item p w h-string x = on (fBox (header-of 7 0 (str x .0) 0 false) fEnd fEnd) (p w (str x .1))
+item p w (h-text n) x = on (fBox (header-of n 0 (str x .0) 0 false) fEnd fEnd) (p w (str x .1))
 item p w h-user x = user p w (p w-name x)
 item p w h-other x = got 0 fEnd x
 
@@ -251,9 +252,10 @@ module _ (p : Reader) (w : Want) (k : ℕ) (r : F) (u : List ℕ) where
   unfolding item head pick
   item-object x z n f h e = rw (h, e)
 
-  item-string : (x y b : List ℕ) → str x ≡ (b, y) → Then y → item p w (head STRING) x ≡ got 0 (fBox (header-of 7 0 b 0 false) fEnd fEnd r) u
+  item-text : {d n : ℕ} → Texted d n → (x y b : List ℕ) → str x ≡ (b, y) → Then y → item p w (head d) x ≡ got 0 (fBox (header-of n 0 b 0 false) fEnd fEnd r) u
   unfolding item head pick
-  item-string x y b i e = rw (i, e)
+  item-text text-string x y b i e = rw (i, e)
+  item-text text-float x y b i e = rw (i, e)
 
   item-string-variables : (x y z a b : List ℕ) (n j : ℕ) (f : F) → str x ≡ (b, y) → int y ≡ (n, z) → p (w-pairs n) z ≡ got j f a → Then a
       → item p w (head INSTANCE-VARIABLES) (STRING ∷ x) ≡ got 0 (fBox (header-of 7 0 b n true) fEnd f r) u
@@ -352,10 +354,10 @@ module _ (l : ℕ) where
     reads-object n f y t u =
         turn OBJECT _ (y ++ x ++ u) u refl (item-object (parse l) w k r u (y ++ x ++ u) (x ++ u) n f (ap (parse l w-name-pairs) (append-assoc y x u) ∙ t (x ++ u)) (h u))
 
-    reads-string : (b : List ℕ) → length b < 2147483648 → Reads m (suc l) (fBox (header-of 7 0 b 0 false) fEnd fEnd r) (STRING ∷ byte-string-bytes b ++ x)
-    reads-string b o u =
+    reads-text : {d n : ℕ} → Texted d n → (b : List ℕ) → length b < 2147483648 → Reads m (suc l) (fBox (header-of n 0 b 0 false) fEnd fEnd r) (d ∷ byte-string-bytes b ++ x)
+    reads-text {d} q b o u =
         let y = byte-string-bytes b ++ x ++ u in
-        turn STRING _ y u refl (item-string (parse l) w k r u y (x ++ u) b (str-of b y (x ++ u) o (append-assoc (byte-string-bytes b) x u)) (h u))
+        turn d _ y u refl (item-text (parse l) w k r u q y (x ++ u) b (str-of b y (x ++ u) o (append-assoc (byte-string-bytes b) x u)) (h u))
 
     reads-string-variables : (n : ℕ) (b : List ℕ) (f : F) (y : List ℕ) → n < 2147483648 → length b < 2147483648 → Reads (pairs n) l f y
         → Reads m (suc l) (fBox (header-of 7 0 b n true) fEnd f r) (INSTANCE-VARIABLES ∷ STRING ∷ byte-string-bytes b ++ integer-bytes n ++ y ++ x)
@@ -479,7 +481,7 @@ reads (suc l) o c b (tHashDefault {m = m} {n = n} {x = x} {y = y} {f = f} {r = r
     reads-hash-default l m v r x (reads l (omega arith) (after-bounded m v) (b .4) t) n f y (b .0) e (reads l (omega arith) tt (b .3) s)
 reads (suc l) o c b (tObject {m = m} {n = n} {x = x} {y = y} {f = f} {r = r} v s t) =
     reads-object l m v r x (reads l (omega arith) (after-bounded m v) (b .4) t) n f y (reads l (omega arith) (b .0) (b .3) s)
-reads (suc l) o c b (tString {m = m} {b = s} {x = x} {r = r} v t) = reads-string l m v r x (reads l (omega arith) (after-bounded m v) (b .4) t) s (b .1)
+reads (suc l) o c b (tText {m = m} {b = s} {x = x} {r = r} q v t) = reads-text l m v r x (reads l (omega arith) (after-bounded m v) (b .4) t) q s (b .1)
 reads (suc l) o c b (tStringVars {m = m} {n = n} {b = a} {x = x} {y = y} {f = f} {r = r} v s t) =
     reads-string-variables l m v r x (reads l (omega arith) (after-bounded m v) (b .4) t) n a f y (b .0) (b .1) (reads l (omega arith) tt (b .3) s)
 reads (suc l) o c b (tUser {m = m} {b = a} {x = x} {z = z} {p = p} {r = r} v s t) =

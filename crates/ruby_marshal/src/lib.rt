@@ -33,6 +33,7 @@ pub use refusal::numbers_of;
 pub use value_arena::create_array;
 pub use value_arena::create_bool;
 pub use value_arena::create_fixnum;
+pub use value_arena::create_float;
 pub use value_arena::create_hash;
 pub use value_arena::create_new_symbol;
 pub use value_arena::create_nil;

@@ -7,7 +7,7 @@ use lib.ListN.{length}
 use native.Mathlib.Omega.{arith}
 use borrow.Author.Tests.{le-leb, lt-ltb}
 use Rattle.definition.specs.Run.{pick}
-use Rattle.definition.specs.Node.{Row, Vars, nil, bool, fixnum, symbol, array, hash, object, string, user, absent, present, kind}
+use Rattle.definition.specs.Node.{Row, Vars, nil, bool, fixnum, symbol, array, hash, object, string, user, float, absent, present, kind}
 use Rattle.definition.specs.Arena.{Arena, range, firsts, all-below, is-name, all-names, bytes-right, list-right, pairs-right, vars-right, row-right}
 use Rattle.definition.specs.Graph.{links, vars-links, default-link}
 use Rattle.lists.specs.Joined.{yes-and}
@@ -26,6 +26,7 @@ row-names A (hash s n d) = []
 row-names A (object s n c) = c ∷ firsts (range (A .references) s (n * 2))
 row-names A (string s l v) = firsts (vars-links A v)
 row-names A (user s l c v) = c ∷ firsts (vars-links A v)
+row-names A (float s l) = []
 
 pub record RightIn (A : Arena) (r : Row) : Type 0 where
   pub inside : Within (A .references) (A .bytes) r
@@ -50,6 +51,7 @@ names-same A B (hash s n d) e = refl
 names-same A B (object s n c) e = ap (λ (l : List ℕ). c ∷ firsts l) e
 names-same A B (string s l v) e = ap firsts (vars-links-same A B v e)
 names-same A B (user s l c v) e = ap (λ (x : List ℕ). c ∷ firsts x) (vars-links-same A B v e)
+names-same A B (float s l) e = refl
 
 -- from A to B nodes are only added, names stay names, and bytes and words are only added
 pub record Onward (A B : Arena) : Type 0 where
@@ -128,3 +130,4 @@ right-yes A (string s l v) f = yes-and _ _ (le-leb _ _ (f .inside .bytes-inside)
 right-yes A (user s l c v) f =
     yes-and _ _ (yes-and _ _ (le-leb _ _ (f .inside .bytes-inside)) (is-name-yes A c (f .names 0 c refl)))
     (vars-right-yes A v (f .inside .list-inside) (λ k w e. f .below (suc k) w e) (λ k w e. f .names (suc k) w e))
+right-yes A (float s l) f = le-leb _ _ (f .inside .bytes-inside)

@@ -6,7 +6,7 @@ use mathlib.Core.Bool.{true, false}
 use mathlib.Core.List.{List, [], _∷_, _++_, append-nil}
 use lib.ListN.{length}
 use native.Mathlib.Omega.{arith}
-use Rattle.definition.specs.Node.{Row, Vars, nil, bool, fixnum, symbol, array, hash, object, string, user, absent, present}
+use Rattle.definition.specs.Node.{Row, Vars, nil, bool, fixnum, symbol, array, hash, object, string, user, float, absent, present}
 use Rattle.definition.specs.Arena.{Arena, range}
 use Rattle.definition.specs.Graph.{header, header-of, links, vars-links, vars-count, vars-present, default-link, default-present}
 use Rattle.graph.specs.Forest.{sym, box}
@@ -24,6 +24,7 @@ bytes-start (hash s n d) = 0
 bytes-start (object s n c) = 0
 bytes-start (string s l v) = s
 bytes-start (user s l c v) = s
+bytes-start (float s l) = s
 
 unfoldable pub bytes-length : Row → ℕ
 bytes-length nil = 0
@@ -35,6 +36,7 @@ bytes-length (hash s n d) = 0
 bytes-length (object s n c) = 0
 bytes-length (string s l v) = l
 bytes-length (user s l c v) = l
+bytes-length (float s l) = l
 
 unfoldable pub vars-start : Vars → ℕ
 vars-start absent = 0
@@ -54,6 +56,7 @@ list-start (hash s n d) = s
 list-start (object s n c) = s
 list-start (string s l v) = vars-start v
 list-start (user s l c v) = vars-start v
+list-start (float s l) = 0
 
 unfoldable pub list-length : Row → ℕ
 list-length nil = 0
@@ -65,6 +68,7 @@ list-length (hash s n d) = n * 2
 list-length (object s n c) = n * 2
 list-length (string s l v) = vars-length v
 list-length (user s l c v) = vars-length v
+list-length (float s l) = 0
 
 -- a row's ranges lie inside
 pub record Within (references bytes : List ℕ) (r : Row) : Type 0 where
@@ -94,6 +98,7 @@ links-same A B (hash s n d) e = ap (λ (l : List ℕ). l ++ default-link d) e
 links-same A B (object s n c) e = ap (λ (l : List ℕ). c ∷ l) e
 links-same A B (string s l v) e = vars-links-same A B v e
 links-same A B (user s l c v) e = ap (λ (x : List ℕ). c ∷ x) (vars-links-same A B v e)
+links-same A B (float s l) e = refl
 
 pub header-same : (A A′ : Arena) (r : Row) → row-bytes A′ r ≡ row-bytes A r → header A′ r ≡ header A r
 unfolding header bytes-start bytes-length
@@ -107,6 +112,7 @@ header-same A A′ (hash s n d) b = refl
 header-same A A′ (object s n c) b = refl
 header-same A A′ (string s l v) b = ap (λ (x : List ℕ). header-of 7 0 x (vars-count v) (vars-present v)) b
 header-same A A′ (user s l c v) b = ap (λ (x : List ℕ). header-of 8 0 x (vars-count v) (vars-present v)) b
+header-same A A′ (float s l) b = ap (λ (x : List ℕ). header-of 9 0 x 0 false) b
 
 -- a row is seen alike where its two ranges hold the same
 pub see-same : (A A′ : Arena) (r : Row) → row-bytes A′ r ≡ row-bytes A r → row-words A′ r ≡ row-words A r → see A′ r ≡ see A r
@@ -121,6 +127,7 @@ see-same A A′ (hash s n d) b w = rw (header-same A A′ (hash s n d) b, links-
 see-same A A′ (object s n c) b w = rw (header-same A A′ (object s n c) b, links-same A A′ (object s n c) w)
 see-same A A′ (string s l v) b w = rw (header-same A A′ (string s l v) b, links-same A A′ (string s l v) w)
 see-same A A′ (user s l c v) b w = rw (header-same A A′ (user s l c v) b, links-same A A′ (user s l c v) w)
+see-same A A′ (float s l) b w = rw (header-same A A′ (float s l) b, links-same A A′ (float s l) w)
 
 -- a row whose members are the words from p on
 pub data Listed (p : ℕ) : Row → Type 0 where
@@ -151,10 +158,6 @@ see-hash-default A p n d ms e =
 pub see-object : (A : Arena) (p n c : ℕ) (ms : List ℕ) → range (A .references) p (n * 2) ≡ ms → see A (object p n c) ≡ box (header-of 6 0 [] n false) (c ∷ ms)
 unfolding see header links
 see-object A p n c ms e = ap (λ (l : List ℕ). box (header-of 6 0 [] n false) (c ∷ l)) e
-
-pub see-string : (A : Arena) (s l : ℕ) (b : List ℕ) → range (A .bytes) s l ≡ b → see A (string s l absent) ≡ box (header-of 7 0 b 0 false) []
-unfolding see header links vars-count vars-present vars-links
-see-string A s l b e = ap (λ (x : List ℕ). box (header-of 7 0 x 0 false) []) e
 
 pub see-string-variables : (A : Arena) (s l p n : ℕ) (b ms : List ℕ) → range (A .bytes) s l ≡ b → range (A .references) p (n * 2) ≡ ms → see A (string s l (present p n)) ≡ box (header-of 7 0 b n true) ms
 unfolding see header links vars-count vars-present vars-links

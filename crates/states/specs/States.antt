@@ -7,14 +7,14 @@ use mathlib.Core.Logic.{_⊎_, inl, inr, _≢_}
 use mathlib.Core.List.{List, [], _∷_, _++_, map, map-append, append-assoc, append-nil}
 use lib.ListN.{length, set, length-set, length-append, length-map, replicate}
 use native.Mathlib.Omega.{arith}
-use Rattle.definition.specs.Node.{Row, nil, bool, fixnum, symbol, hash, object, string, user, absent}
+use Rattle.definition.specs.Node.{Row, nil, bool, fixnum, symbol, hash, object, user, absent}
 use Rattle.definition.specs.Arena.{range}
 use Rattle.definition.specs.Load.{State, at-set, nodes-set, references-set, bytes-set, symbols-set, objects-set, begin}
 use Rattle.lists.specs.Lists.{At, at-app, at-snoc-inv, at-set-same, at-set-other, at-set-inv, apart, map-set, map-ext, map-at, map-at-inv, len-snoc, at-lt}
 use Rattle.lists.specs.Ranges.{range-next, range-same, range-more, range-last}
-use Rattle.graph.specs.Forest.{Node, sym, leaf}
+use Rattle.graph.specs.Forest.{Node, sym, leaf, Texted, text-string, text-float}
 use Rattle.graph.specs.Build.{St, push, pushO, addSym, put}
-use Rattle.graph.specs.View.{see, seen, arena-of, state-seen}
+use Rattle.graph.specs.View.{see, text-row, seen, arena-of, state-seen}
 use Rattle.states.specs.Rows.{bytes-start, bytes-length, vars-start, vars-length, list-start, list-length, row-words, Within, see-same, see-symbol, Listed, is-array, is-hash, Varied, varied-string, varied-user}
 
 -- a row of a state, seen
@@ -244,9 +244,10 @@ pub inside-symbol : (s : State) (a l : ℕ) → a + l ≤ length (s .bytes) → 
 unfolding bytes-start bytes-length list-start list-length
 inside-symbol s a l h = record { bytes-inside = h; list-inside = omega arith }
 
-pub inside-string : (s : State) (a l : ℕ) → a + l ≤ length (s .bytes) → Inside s (string a l absent)
+pub inside-text : {k n : ℕ} (q : Texted k n) (s : State) (a l : ℕ) → a + l ≤ length (s .bytes) → Inside s (text-row q a l)
 unfolding bytes-start bytes-length list-start list-length vars-start vars-length
-inside-string s a l h = record { bytes-inside = h; list-inside = omega arith }
+inside-text text-string s a l h = record { bytes-inside = h; list-inside = omega arith }
+inside-text text-float s a l h = record { bytes-inside = h; list-inside = omega arith }
 
 pub inside-user : (s : State) (a l c : ℕ) → a + l ≤ length (s .bytes) → Inside s (user a l c absent)
 unfolding bytes-start bytes-length list-start list-length vars-start vars-length
@@ -375,9 +376,10 @@ pub above-symbol : (p a l : ℕ) → Above p (symbol a l)
 unfolding list-start list-length
 above-symbol p a l = inl refl
 
-pub above-string : (p a l : ℕ) → Above p (string a l absent)
+pub above-text : {k n : ℕ} (q : Texted k n) (p a l : ℕ) → Above p (text-row q a l)
 unfolding list-start list-length vars-start vars-length
-above-string p a l = inl refl
+above-text text-string p a l = inl refl
+above-text text-float p a l = inl refl
 
 pub above-user : (p a l c : ℕ) → Above p (user a l c absent)
 unfolding list-start list-length vars-start vars-length

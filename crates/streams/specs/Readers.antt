@@ -12,7 +12,7 @@ use Rattle.definition.specs.declared.Refusal.{Refusal}
 use Rattle.definition.specs.declared.Refusal.the-variants.{ShortInput}
 use Rattle.definition.specs.Run.{Outcome, ok, refused, pure, refuse, next, _>>=_, look, pick}
 use Rattle.definition.specs.Integer.{Form, value, data-bytes, form}
-use Rattle.definition.specs.Node.{Row, nil, bool, fixnum, symbol, array, hash, object, string, user}
+use Rattle.definition.specs.Node.{Row, nil, bool, fixnum, symbol, array, hash, object, string, user, float}
 use Rattle.definition.specs.Arena.{range, find-symbol}
 use Rattle.definition.specs.Load as L
 use Rattle.definition.specs.Load.{State, Room, Reader, Head, at-set, begin}
@@ -163,6 +163,7 @@ module _ {n : ℕ} where
   set-variables h start k (object s m c) = stop _
   set-variables h start k (string s l v) = fill _ _
   set-variables h start k (user s l c v) = fill _ _
+  set-variables h start k (float s l) = stop _
 
 -- ---- the input, and more behind it
 
@@ -239,13 +240,13 @@ module _ (input more : List ℕ) where
     unfolding L.read-fixnum
     read-fixnum = then read-integer λ w. add-node room (fixnum w)
 
-    read-string : Reads (λ i. L.read-string i room)
-    unfolding L.read-string
-    read-string = then read-byte-string λ bs. then (add-bytes room bs) λ start. add-object-node room _
+    read-text : (row : ℕ → ℕ → Row) → Reads (λ i. L.read-text i room row)
+    unfolding L.read-text
+    read-text row = then read-byte-string λ bs. then (add-bytes room bs) λ start. add-object-node room _
 
     read-user-defined : Reads (λ i. L.read-user-defined i room)
     unfolding L.read-user-defined
-    read-user-defined = then read-symbol-like λ c. then read-byte-string λ bs. then (add-bytes room bs) λ start. add-object-node room _
+    read-user-defined = then read-symbol-like λ c. read-text _
 
     counted : {A : Type 0} (each : ℕ) {f g : ℕ → ℕ → Reader A} → ((start k : ℕ) → GoesOn n (f start k) (g start k)) → GoesOn n (L.counted input room each f) (L.counted all room each g)
     unfolding L.counted
@@ -289,7 +290,7 @@ module _ (input more : List ℕ) where
       read-variables = then inner λ h. read-instance-variables λ start k. looking λ s. set-variables h start k _
 
       value-of : (k : ℕ) (h : Head) → GoesOn n (L.value-of input room v k h) (L.value-of all room w k h)
-      unfolding L.value-of
+      unfolding L.value-of L.read-string L.read-float
       value-of k Head.Nil = add-node room _
       value-of k Head.True = add-node room _
       value-of k Head.False = add-node room _
@@ -302,8 +303,9 @@ module _ (input more : List ℕ) where
       value-of k Head.Hash = read-hash false
       value-of k Head.HashDefault = read-hash true
       value-of k Head.Object = read-object
-      value-of k Head.String = read-string
+      value-of k Head.String = read-text _
       value-of k Head.UserDefined = read-user-defined
+      value-of k Head.Float = read-text _
       value-of k Head.Unknown = stop _
 
     read-value : (limit levels : ℕ) → GoesOn n (L.read-value input room limit levels) (L.read-value all room limit levels)

@@ -2,12 +2,12 @@
 use Prim.Native.Nat.{ℕ, _+_, _/_, _≤_, _<_}
 use mathlib.Core.Bool.{Bool, true, false}
 use mathlib.Core.Path.{_≡_}
-use mathlib.Core.List.{List}
+use mathlib.Core.List.{List, [], _∷_}
 use lib.ListN.{length}
-use Rattle.definition.specs.Run.{Run, ok, refused}
-use Rattle.definition.specs.Node.{symbol}
+use Rattle.definition.specs.Run.{Run, ok, refused, _>>=_}
+use Rattle.definition.specs.Node.{Row, symbol}
 use Rattle.definition.specs.Arena.{Arena, node}
-use Rattle.definition.specs.Build.{Lent, BuildCall, NewCall}
+use Rattle.definition.specs.Build.{Lent, check, byte-slice, add, BuildCall, NewCall}
 use Rattle.definition.specs.declared.Answer.{Answer}
 use Rattle.definition.specs.declared.Answer.the-variants.{Accepted, Refused}
 use Rattle.definition.specs.declared.Begun.{Begun}
@@ -50,6 +50,10 @@ made r n e b = record { answer = r; tables = tables n e b }
 -- what a refused builder answers
 abbrev pub refusal : Refusal → Counts → Created
 refusal q c = record { answer = Refused q; handle = 0; counts = c }
+
+-- a byte string tested, then added with its row
+unfoldable pub text : List ℕ → (ℕ → ℕ → Row) → Run Lent ℕ
+text bs row = check (byte-slice bs ∷ []) >>= λ _. add bs [] row
 
 -- how many entries m words are
 abbrev pub entries : Bool → ℕ → ℕ

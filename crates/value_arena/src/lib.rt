@@ -27,10 +27,10 @@ ghost use Prim.Native.Nat.{ℕ, _+_, _-_, _*_, _/_, _<_, _≤_};
 ghost use lib.ListN.{length, take, drop};
 ghost use Rattle.definition.specs.Node.{width, Row, bool, words, rows, equal};
 ghost use Rattle.definition.specs.Arena.{Arena, node, named, firsts, lowest, find-symbol};
-ghost use Rattle.definition.specs.Build.{Lent, lent, build-call, number-done, words-done, name-done, new-call, check-handles, check-names, get-words, get-kind, get-name, get-root, exchange-root, bits, create-nil, create-bool, create-fixnum, create-new-symbol, create-symbol, create-array, create-hash, create-object, create-string, create-user-defined};
+ghost use Rattle.definition.specs.Build.{Lent, lent, build-call, number-done, words-done, name-done, new-call, check-handles, check-names, get-words, get-kind, get-name, get-root, exchange-root, bits, create-nil, create-bool, create-fixnum, create-new-symbol, create-symbol, create-array, create-hash, create-object, create-string, create-user-defined, create-float};
 ghost use Rattle.definition.specs.Build as B;
 ghost use Rattle.arena_check.specs.Held.{tables};
-ghost use Rattle.value_arena.specs.Calls.{Says, FitsIf, Below, built, made, refusal, entries, found, SymbolsIn};
+ghost use Rattle.value_arena.specs.Calls.{Says, FitsIf, Below, built, made, refusal, text, entries, found, SymbolsIn};
 
 // ---- what is tested
 
@@ -581,6 +581,24 @@ pub fn create_fixnum(
     }
 }
 
+// A byte string as a node of kind k, with words 1 and 2 alone: 1, 2, then 12.
+fn create_text(
+    nodes: &mut [u32],
+    references: &[u32],
+    bytes: &mut [u8],
+    counts: Counts,
+    value: &[u8],
+    k: u32,
+) -> Created
+    ensures { λ r. ⌜ ((row : ℕ → ℕ → Row) → ((l : ℕ) → words (row (counts .bytes) l) ≡ k ∷ counts .bytes ∷ length (now (value .entry)) ∷ 0 ∷ 0 ∷ 0 ∷ 0 ∷ []) → built r (now (nodes .exit)) (now (references .entry)) (now (bytes .exit)) ≡ build-call (text (now (value .entry)) row) (lent (now (nodes .entry)) (now (references .entry)) (now (bytes .entry)) counts)) ⌝ }
+{
+    let more = wrong_bytes(value.len());
+    match begin(nodes, &references[..], bytes, counts, more) {
+        Answer::Accepted => add_string(nodes, bytes, counts, &value[..], k, 0),
+        Answer::Refused(q) => refused(q, counts),
+    }
+}
+
 pub fn create_new_symbol(
     nodes: &mut [u32],
     references: &[u32],
@@ -590,11 +608,14 @@ pub fn create_new_symbol(
 ) -> Created
     ensures { λ r. ⌜ built r (now (nodes .exit)) (now (references .entry)) (now (bytes .exit)) ≡ build-call (create-new-symbol (now (name .entry))) (lent (now (nodes .entry)) (now (references .entry)) (now (bytes .entry)) counts) ⌝ }
 {
-    let more = wrong_bytes(name.len());
-    match begin(nodes, &references[..], bytes, counts, more) {
-        Answer::Accepted => add_string(nodes, bytes, counts, &name[..], Node::SYMBOL, 0),
-        Answer::Refused(q) => refused(q, counts),
-    }
+    create_text(
+        nodes,
+        &references[..],
+        bytes,
+        counts,
+        &name[..],
+        Node::SYMBOL,
+    )
 }
 
 // The lowest symbol with that name, or a new one.
@@ -731,11 +752,14 @@ pub fn create_string(
 ) -> Created
     ensures { λ r. ⌜ built r (now (nodes .exit)) (now (references .entry)) (now (bytes .exit)) ≡ build-call (create-string (now (value .entry))) (lent (now (nodes .entry)) (now (references .entry)) (now (bytes .entry)) counts) ⌝ }
 {
-    let more = wrong_bytes(value.len());
-    match begin(nodes, &references[..], bytes, counts, more) {
-        Answer::Accepted => add_string(nodes, bytes, counts, &value[..], Node::STRING, 0),
-        Answer::Refused(q) => refused(q, counts),
-    }
+    create_text(
+        nodes,
+        &references[..],
+        bytes,
+        counts,
+        &value[..],
+        Node::STRING,
+    )
 }
 
 pub fn create_user_defined(
@@ -767,4 +791,23 @@ pub fn create_user_defined(
         },
         Answer::Refused(q) => refused(q, counts),
     }
+}
+
+pub fn create_float(
+    nodes: &mut [u32],
+    references: &[u32],
+    bytes: &mut [u8],
+    counts: Counts,
+    value: &[u8],
+) -> Created
+    ensures { λ r. ⌜ built r (now (nodes .exit)) (now (references .entry)) (now (bytes .exit)) ≡ build-call (create-float (now (value .entry))) (lent (now (nodes .entry)) (now (references .entry)) (now (bytes .entry)) counts) ⌝ }
+{
+    create_text(
+        nodes,
+        &references[..],
+        bytes,
+        counts,
+        &value[..],
+        Node::FLOAT,
+    )
 }

@@ -10,7 +10,7 @@ use lib.ListN.{length, getD}
 use lib.Seq.{length-take-le}
 use native.Mathlib.Omega.{arith}
 use borrow.Author.Tests.{eqb-true, leb-true, ltb-true}
-use Rattle.definition.specs.Node.{Row, Vars, nil, bool, fixnum, symbol, array, hash, object, string, user, absent, present, width, kind, row, rows, is-row}
+use Rattle.definition.specs.Node.{Row, Vars, nil, bool, fixnum, symbol, array, hash, object, string, user, float, absent, present, width, kind, row, rows, is-row}
 use Rattle.definition.specs.Arena.{Tables, Arena, arena, node, range, firsts, all-below, is-name, all-names, bytes-right, list-right, pairs-right, vars-right, row-right, node-right, counts-fit, fault}
 use Rattle.definition.specs.Graph.{links, vars-links, default-link}
 use Rattle.definition.specs.declared.Counts.{Counts}
@@ -59,6 +59,7 @@ RowRight A (hash s n d) = ListIn A s (n * 2) × (d ≤ length (A .nodes))
 RowRight A (object s n c) = Name A c × PairsIn A s n
 RowRight A (string s l v) = BytesIn A s l × VarsRight A v
 RowRight A (user s l c v) = BytesIn A s l × Name A c × VarsRight A v
+RowRight A (float s l) = BytesIn A s l
 
 -- a well-formed arena, said without tables
 pub record Right (A : Arena) : Type 0 where
@@ -91,6 +92,7 @@ module _ (A : Arena) where
       one (object s n c) e = absurd (omega arith)
       one (string s l v) e = absurd (omega arith)
       one (user s l c v) e = absurd (omega arith)
+      one (float s l) e = absurd (omega arith)
 
       go : (l : List Row) (k : ℕ) → kind (getD l k nil) ≡ 3 → (s : ℕ) × (n : ℕ) × At l k (symbol s n)
       go [] k e = absurd (omega arith)
@@ -147,6 +149,7 @@ module _ (A : Arena) where
       let q = is-name A c in
       let h = and-left (p && q) (vars-right A v) e in
       (leb-true _ _ (and-left p q h), name-of-test c (and-right p q h), vars-of v (and-right (p && q) (vars-right A v) e))
+  right-of (float s l) e = leb-true _ _ e
 
 -- what the counts of a well-formed arena say
 pub record Fit (T : Tables) (c : Counts) : Type 0 where
@@ -226,6 +229,7 @@ module _ (A : Arena) where
   links-below (object s n c) h k v e = below-first _ c (range (A .references) s (n * 2)) (name-below A c (h .0)) (h .1 .list .below) k v e
   links-below (string s l v) h k u e = vars-below v (h .1) k u e
   links-below (user s l c v) h k u e = below-first _ c (vars-links A v) (name-below A c (h .1)) (vars-below v (h .2)) k u e
+  links-below (float s l) h k v e = apart (cc)
 
   -- every link of a well-formed arena's node leads to a node
   pub node-links-below : Right A → (v : ℕ) → v < length (A .nodes) → Below (length (A .nodes)) (links A (node A v))

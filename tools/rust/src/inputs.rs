@@ -16,6 +16,13 @@ pub fn symbol(name: &str, out: &mut Vec<u8>) {
     out.extend(name.as_bytes());
 }
 
+// A Float or a string.
+fn text(kind: u8, text: &str, out: &mut Vec<u8>) {
+    out.push(kind);
+    integer(text.len() as i32, out);
+    out.extend(text.as_bytes());
+}
+
 // A name, by link after the first time.
 fn named(name: &str, i: usize, count: i32, out: &mut Vec<u8>) {
     if count == 0 {
@@ -70,6 +77,31 @@ pub fn batches(size: usize) -> Vec<u8> {
         integer(1, members);
         named("E", 9, count, members);
         members.push(b'T');
+    })
+}
+
+/// Setpoints: recipes with two Floats, a link to the second, and an integer; with another kind of byte string in their place
+/// where that is given.
+pub fn setpoints(size: usize, kind: u8) -> Vec<u8> {
+    list(size, |count, members| {
+        members.push(b'{');
+        integer(4, members);
+        for (i, name) in ["flow", "damp", "dose", "mass"].iter().enumerate() {
+            named(name, i, count, members);
+            match i {
+                0 => text(kind, &format!("{}.25", count % 100), members),
+                1 => text(kind, &format!("0.{:02}5", count % 97), members),
+                2 => {
+                    // the array has number 0, each recipe takes three
+                    members.push(b'@');
+                    integer(3 * count + 3, members);
+                }
+                _ => {
+                    members.push(b'i');
+                    integer((count * 37) % 70000, members);
+                }
+            }
+        }
     })
 }
 

@@ -1,9 +1,10 @@
 // Random inputs, the same in every run: values from a grammar, deep chains, and damage.
 
-/// The fourteen kind bytes and bytes that are integers of interest.
-pub const ALPHABET: &[u8] = b"0TFi:;@I[{}o\"u\x00\x01\x05\x06\x07\x08\xFA\xFB\xFF";
+/// The kind bytes and bytes that are integers of interest.
+pub const ALPHABET: &[u8] = b"0TFi:;@I[{}o\"uf\x00\x01\x05\x06\x07\x08\xFA\xFB\xFF";
 
 const NAMES: &[&[u8]] = &[b"a", b"b", b"ab", b"E", b"@x", b"", b"encoding", &[b'n'; 130]];
+const FLOATS: &[&[u8]] = &[b"1.25", b"0.35", b"1", b"1e2", b"-0", b"inf", b"nan", b""];
 const NUMBERS: &[i32] = &[
     0, 1, 2, -1, 121, 122, 123, 124, -122, -123, -124, -125, 127, 128, -128, -129, 255, 256, 257, -255, -256, -257, 65535, 65536,
     -65536, -65537, 16777215, 16777216, -16777216, -16777217, 1073741823, 1073741824, -1073741825, i32::MAX, i32::MIN,
@@ -59,6 +60,7 @@ struct Maker<'a> {
     symbols: usize,
     /// for each object, whether it takes variables
     objects: Vec<bool>,
+    floats: bool,
 }
 
 impl Maker<'_> {
@@ -121,6 +123,18 @@ impl Maker<'_> {
         self.objects.push(true);
     }
 
+    fn float(&mut self) {
+        self.out.push(b'f');
+        if self.random.one_in(3) {
+            self.bytes();
+        } else {
+            let text = self.random.pick(FLOATS);
+            self.integer(text.len() as i32);
+            self.out.extend(text);
+        }
+        self.objects.push(false);
+    }
+
     fn user_defined(&mut self) {
         self.out.push(b'u');
         self.name();
@@ -171,6 +185,9 @@ impl Maker<'_> {
     }
 
     fn value(&mut self, depth: usize) {
+        if self.floats && self.random.one_in(6) {
+            return self.float();
+        }
         let leaf = depth == 0 || self.out.len() > 600;
         let kind = self.random.pick(if leaf { b"0TFi:;@\"u" } else { b"0Fi:@\"uII[[[{{}}oo" });
         let depth = depth.saturating_sub(1);
@@ -246,9 +263,9 @@ impl Maker<'_> {
     }
 }
 
-/// A value from the grammar; one in 32 is deep.
-pub fn value(random: &mut Random) -> Vec<u8> {
-    let mut maker = Maker { random, out: vec![4, 8], symbols: 0, objects: vec![] };
+/// A value from the grammar, with or without Floats; one in 32 is deep.
+pub fn value(random: &mut Random, floats: bool) -> Vec<u8> {
+    let mut maker = Maker { random, out: vec![4, 8], symbols: 0, objects: vec![], floats };
     if maker.random.one_in(32) {
         maker.deep();
     } else {

@@ -3,7 +3,7 @@
 use ruby_marshal::{Value as Theirs, ValueArena, ValueHandle};
 use ruby_marshal_tables::{Arena, Handle, Node, Pairs, Value as Ours};
 
-/// How many values a walk met, and the sum of integers, bools, and the lengths of names and strings.
+/// How many values a walk met, and the sum of integers, bools, and the lengths of names, strings and Floats.
 #[derive(Clone, Copy, Debug, Default, PartialEq, Eq)]
 pub struct Met {
     pub values: usize,
@@ -54,6 +54,7 @@ pub fn ours(arena: &Arena, open: &mut Vec<Handle>) -> Met {
                     push(open, variables.pairs());
                 }
             }
+            Ours::Float(float) => met.sum += float.bytes().len() as u64,
             Ours::UserDefined(user) => {
                 met.sum += user.bytes().len() as u64;
                 open.push(user.name_node().handle());

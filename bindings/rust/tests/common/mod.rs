@@ -2,6 +2,7 @@
 #![allow(dead_code)]
 use ruby_marshal_tables::{Counts, Refusal};
 use std::collections::HashMap;
+use std::path::Path;
 
 #[derive(Debug, PartialEq)]
 pub enum Json {
@@ -183,19 +184,48 @@ pub fn numbers<A>(answer: &Result<A, Refusal>) -> (u32, i64, u64) {
     }
 }
 
-/// The cases of a file of the corpus, whose folder RUBY_MARSHAL_CORPUS names; none where it is not set.
-pub fn corpus(file: &str) -> Vec<Case> {
-    let Ok(folder) = std::env::var("RUBY_MARSHAL_CORPUS") else {
-        println!("{file}: RUBY_MARSHAL_CORPUS is not set");
+// The cases of one file; none where it is not there.
+fn cases(path: &Path) -> Vec<Case> {
+    if !path.exists() {
         return Vec::new();
-    };
-    let path = format!("{folder}/{file}.jsonl");
-    let text = std::fs::read_to_string(&path).unwrap_or_else(|e| panic!("{path}: {e}"));
+    }
+    let text = std::fs::read_to_string(path).unwrap_or_else(|e| panic!("{}: {e}", path.display()));
     let case = |line: &str| match Json::read(line) {
         Json::Object(fields) => Case(fields),
         other => panic!("no object: {other:?}"),
     };
     text.lines().map(case).collect()
+}
+
+/// The file that only folders after the first have.
+pub const LATER: &str = "load";
+
+/// The cases of a file in the corpus's folders, which RUBY_MARSHAL_CORPUS names; none where it is not set.
+///
+/// A folder's cases are added to those of the folders before it, of which its changed.jsonl replaces some, or removes (`gone`).
+pub fn corpus(file: &str) -> Vec<Case> {
+    let Some(folders) = std::env::var_os("RUBY_MARSHAL_CORPUS") else {
+        println!("{file}: RUBY_MARSHAL_CORPUS is not set");
+        return Vec::new();
+    };
+    let mut all: Vec<Case> = Vec::new();
+    for folder in std::env::split_paths(&folders) {
+        for changed in cases(&folder.join("changed.jsonl")) {
+            if changed.field("file").text() != file {
+                continue;
+            }
+            let at = all.iter().position(|case| case.id() == changed.id());
+            let at = at.unwrap_or_else(|| panic!("{file}: no case {} to change", changed.id()));
+            if changed.has("gone") {
+                all.remove(at);
+            } else {
+                all[at] = changed;
+            }
+        }
+        all.extend(cases(&folder.join(format!("{file}.jsonl"))));
+    }
+    assert!(!all.is_empty() || file == LATER, "{file}: no cases in {folders:?}");
+    all
 }
 
 /// Words and bytes that are no zeros.

@@ -1,7 +1,8 @@
 -- The proof of is_row_of.
 use borrow.Author.Needs.{needs}
 use mathlib.Core.Path.{_∙_}
-use Rattle.arena_check.proofs.Rows.{of-kind, row-0, row-1, row-1-not, row-3, row-4, row-5, row-6, row-7-absent, row-7-present, row-7-not, row-8-absent, row-8-present, row-not}
+use mathlib.Core.Logic.{inl, inr}
+use Rattle.arena_check.proofs.Rows.{of-kind, row-0, row-1, row-1-not, row-text, row-4, row-5, row-6, row-7-absent, row-7-present, row-7-not, row-8-absent, row-8-present, row-not}
 use Rattle.arena_check.proofs.is_row_of.Statement.{statement}
 use Rattle.arena_check.proofs.is_row_of.Tie as tie
 
@@ -29,6 +30,9 @@ all-zero-requires-7 c κs = search needs
 all-zero-requires-8 : tie.Need-all-zero-requires-8
 all-zero-requires-8 c κs = search needs
 
+all-zero-requires-9 : tie.Need-all-zero-requires-9
+all-zero-requires-9 c κs = search needs
+
 returns : tie.Need-returns
 returns c = of-kind _ (c .before .match .keys1) (c .all-zero .ensures ∙ row-0 _ _ _ _ _ _)
 
@@ -39,7 +43,7 @@ returns-3 : tie.Need-returns-3
 returns-3 c = of-kind _ (c .before .match .keys2) (row-1-not _ _ _ _ _ _ (c .if1 .left))
 
 returns-4 : tie.Need-returns-4
-returns-4 c = of-kind _ (c .before .match .keys3) (c .all-zero3 .ensures ∙ row-3 _ _ _ _ _ _)
+returns-4 c = c .all-zero3 .ensures ∙ row-text _ _ _ _ _ _ (inl (c .before .match .keys3))
 
 returns-5 : tie.Need-returns-5
 returns-5 c = of-kind _ (c .before .match .keys4) (c .all-zero4 .ensures ∙ row-4 _ _ _ _ _ _)
@@ -66,9 +70,12 @@ returns-12 : tie.Need-returns-12
 returns-12 c = of-kind _ (c .before .match .keys8) (row-8-present _ _ _ _ _ _ (c .if4 .left))
 
 returns-13 : tie.Need-returns-13
-returns-13 c =
+returns-13 c = c .all-zero9 .ensures ∙ row-text _ _ _ _ _ _ (inr (c .before .match .keys9))
+
+returns-14 : tie.Need-returns-14
+returns-14 c =
     let n = c .match .rest in
-    row-not _ _ _ _ _ _ _ (n .0 .0 .0 .0 .0 .0 .0 .1) (n .0 .0 .0 .0 .0 .0 .1) (c .before .pre) (n .0 .0 .0 .0 .0 .1) (n .0 .0 .0 .0 .1) (n .0 .0 .0 .1) (n .0 .0 .1) (n .0 .1) (n .1)
+    row-not _ _ _ _ _ _ _ (n .0 .0 .0 .0 .0 .0 .0 .0 .1) (n .0 .0 .0 .0 .0 .0 .0 .1) (c .before .pre) (n .0 .0 .0 .0 .0 .0 .1) (n .0 .0 .0 .0 .0 .1) (n .0 .0 .0 .0 .1) (n .0 .0 .0 .1) (n .0 .0 .1) (n .0 .1) (n .1)
 
 pub is-row-of-spec : {M : Type 1} → statement M
 is-row-of-spec =
@@ -82,6 +89,7 @@ is-row-of-spec =
     all-zero-requires-6
     all-zero-requires-7
     all-zero-requires-8
+    all-zero-requires-9
     returns
     returns-2
     returns-3
@@ -94,4 +102,5 @@ is-row-of-spec =
     returns-10
     returns-11
     returns-12
-    returns-13)
+    returns-13
+    returns-14)

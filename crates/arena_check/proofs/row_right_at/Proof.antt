@@ -3,12 +3,13 @@ use borrow.Author.Needs.{needs}
 use Prim.Native.Nat.{ℕ, _*_}
 use mathlib.Core.Bool.{true, false, _&&_}
 use mathlib.Core.Path.{_≡_, sym, ap, _∙_}
+use mathlib.Core.Logic.{inl, inr}
 use lib.Dec.{leb}
 use lib.ListN.{length}
 use Rattle.definition.specs.Node.{vars}
 use Rattle.definition.specs.Arena.{bytes-right, list-right, pairs-right, vars-right, is-name}
 use Rattle.lists.specs.Tables.{length-rows}
-use Rattle.arena_check.proofs.Rights.{right-3, right-4, right-5, right-6, right-7, right-8, right-else, and-in, and-out}
+use Rattle.arena_check.proofs.Rights.{right-text, right-4, right-5, right-6, right-7, right-8, right-else, and-in, and-out}
 use Rattle.arena_check.proofs.row_right_at.Statement.{statement}
 use Rattle.arena_check.proofs.row_right_at.Tie as tie
 
@@ -54,10 +55,13 @@ is-name-at-requires-2 c κs = search needs
 vars-right-at-requires-2 : tie.Need-vars-right-at-requires-2
 vars-right-at-requires-2 c κs = search needs
 
+bytes-right-at-requires-4 : tie.Need-bytes-right-at-requires-4
+bytes-right-at-requires-4 c κs = search needs
+
 returns : tie.Need-returns
 returns c =
     let a = c .before .before .before .before .args in
-    λ A H. c .bytes-right-at .ensures A (H .bytes-same) ∙ right-3 A (a .a) (a .b) (a .s) (a .n) (a .c) (a .f) (a .k) (c .before .match .keys1)
+    λ A H. c .bytes-right-at .ensures A (H .bytes-same) ∙ right-text A (a .a) (a .b) (a .s) (a .n) (a .c) (a .f) (a .k) (inl (c .before .match .keys1))
 
 returns-2 : tie.Need-returns-2
 returns-2 c =
@@ -127,9 +131,14 @@ returns-11 c =
 
 returns-12 : tie.Need-returns-12
 returns-12 c =
+    let a = c .before .before .before .before .args in
+    λ A H. c .bytes-right-at4 .ensures A (H .bytes-same) ∙ right-text A (a .a) (a .b) (a .s) (a .n) (a .c) (a .f) (a .k) (inr (c .before .match .keys7))
+
+returns-13 : tie.Need-returns-13
+returns-13 c =
     let a = c .before .before .before .args in
     let n = c .match .rest in
-    λ A H. right-else A (a .a) (a .b) (a .s) (a .n) (a .c) (a .f) (a .k) (n .0 .0 .0 .0 .0 .1) (n .0 .0 .0 .0 .1) (n .0 .0 .0 .1) (n .0 .0 .1) (n .0 .1) (n .1)
+    λ A H. right-else A (a .a) (a .b) (a .s) (a .n) (a .c) (a .f) (a .k) (n .0 .0 .0 .0 .0 .0 .1) (n .0 .0 .0 .0 .0 .1) (n .0 .0 .0 .0 .1) (n .0 .0 .0 .1) (n .0 .0 .1) (n .0 .1) (n .1)
 
 pub row-right-at-spec : {M : Type 1} → statement M
 row-right-at-spec =
@@ -149,6 +158,7 @@ row-right-at-spec =
     bytes-right-at-requires-3
     is-name-at-requires-2
     vars-right-at-requires-2
+    bytes-right-at-requires-4
     returns
     returns-2
     returns-3
@@ -160,4 +170,5 @@ row-right-at-spec =
     returns-9
     returns-10
     returns-11
-    returns-12)
+    returns-12
+    returns-13)

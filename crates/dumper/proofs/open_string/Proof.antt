@@ -1,6 +1,6 @@
 -- The proof of open_string.
 use native.Mathlib.Omega.{arith}
-use Rattle.dumper.proofs.Bodies.{Here, here, pairs-ready, some-variables, first-stops, first-done, text-stops, text-done, whole, variables-answer, object-ready, string-inside, string-pairs, string-first}
+use Rattle.dumper.proofs.Bodies.{Here, here, pairs-ready, some-variables, first-stops, first-done, whole, variables-answer, text-ready, string-inside, string-pairs, string-first}
 use borrow.Author.Needs.{needs}
 use Rattle.dumper.proofs.open_string.Statement.{statement}
 use Rattle.dumper.proofs.open_string.Tie as tie
@@ -21,11 +21,12 @@ mul-f-2 c = search needs
 shared-slice-read-f : tie.Need-shared-slice-read-f
 shared-slice-read-f c = search needs
 
-open-marked-requires : tie.Need-open-marked-requires
-open-marked-requires c κs =
+open-text-requires : tie.Need-open-text-requires
+open-text-requires c κs =
     let s = c .before .before .before .before .before .before .before .before .before in
     let h = place s in
-    object-ready h 7 (s .pre .0) (omega arith) (omega arith) (s .pre .1)
+    let f = s .pre .1 .fact in
+    (string-inside h (s .pre .0) (s .pre .1 .arena) (f .0) (f .2), text-ready h 7 (s .pre .0) (omega arith) (omega arith) (s .pre .1))
 
 same-length : tie.Need-same-length
 same-length c = search needs
@@ -37,39 +38,8 @@ returns : tie.Need-returns
 returns c =
     let s = c .before .before .before .before .before .before .before .before .before .before .before .before .before .before .before in
     let h = place s in
-    let open-marked = c .before .before .before .before .before .open-marked in
-    first-stops h 7 _ (string-first h (s .pre .0) (open-marked .ensures)) (c .if1 .taken)
-
-mul-write-byte-string : tie.Need-mul-write-byte-string
-mul-write-byte-string c = search needs
-
-add-write-byte-string : tie.Need-add-write-byte-string
-add-write-byte-string c = search needs
-
-mul-write-byte-string-2 : tie.Need-mul-write-byte-string-2
-mul-write-byte-string-2 c = search needs
-
-shared-slice-read-write-byte-string : tie.Need-shared-slice-read-write-byte-string
-shared-slice-read-write-byte-string c = search needs
-
-mul-write-byte-string-3 : tie.Need-mul-write-byte-string-3
-mul-write-byte-string-3 c = search needs
-
-add-write-byte-string-2 : tie.Need-add-write-byte-string-2
-add-write-byte-string-2 c = search needs
-
-mul-write-byte-string-4 : tie.Need-mul-write-byte-string-4
-mul-write-byte-string-4 c = search needs
-
-shared-slice-read-write-byte-string-2 : tie.Need-shared-slice-read-write-byte-string-2
-shared-slice-read-write-byte-string-2 c = search needs
-
-write-byte-string-requires : tie.Need-write-byte-string-requires
-write-byte-string-requires c κs =
-    let s = c .before .before .before .before .before .before .before .before .before .before .before .before .before .before .before .before .before .before .before in
-    let h = place s in
-    let f = s .pre .1 .fact in
-    string-inside h (s .pre .0) (s .pre .1 .arena) (f .0) (f .2)
+    let open-text = c .before .before .before .before .before .open-text in
+    first-stops h 7 _ (string-first h (s .pre .0) (open-text .ensures)) (c .if1 .taken)
 
 same-length-3 : tie.Need-same-length-3
 same-length-3 c = search needs
@@ -79,31 +49,11 @@ same-length-4 c = search needs
 
 returns-2 : tie.Need-returns-2
 returns-2 c =
-    let s = c .before .before .before .before .before .before .before .before .before .before .before .before .before .before .before .before .before .before .before .before .before .before .before in
+    let s = c .before .before .before .before .before .before .before .before .before .before .before .before .before .before .before .before in
     let h = place s in
-    let open-marked = c .before .before .before .before .before .before .before .before .before .before .before .before .before .open-marked in
-    let if1 = c .before .before .before .before .before .before .before .before .if1 in
-    let write-byte-string = c .before .before .before .write-byte-string in
-    let begun = first-done h 7 _ (string-first h (s .pre .0) (open-marked .ensures)) (if1 .left) in
-    text-stops h 7 begun (write-byte-string .ensures) (c .if2 .taken)
-
-same-length-5 : tie.Need-same-length-5
-same-length-5 c = search needs
-
-same-length-6 : tie.Need-same-length-6
-same-length-6 c = search needs
-
-returns-3 : tie.Need-returns-3
-returns-3 c =
-    let s = c .before .before .before .before .before .before .before .before .before .before .before .before .before .before .before .before .before .before .before .before .before .before .before .before in
-    let h = place s in
-    let open-marked = c .before .before .before .before .before .before .before .before .before .before .before .before .before .before .open-marked in
-    let if1 = c .before .before .before .before .before .before .before .before .before .if1 in
-    let write-byte-string = c .before .before .before .before .write-byte-string in
-    let if2 = c .before .if2 in
-    let begun = first-done h 7 _ (string-first h (s .pre .0) (open-marked .ensures)) (if1 .left) in
-    let written = text-done h 7 begun (write-byte-string .ensures) (if2 .left) in
-    whole h 7 (c .if3 .taken) written
+    let if1 = c .before .if1 in
+    let open-text = c .before .before .before .before .before .before .open-text in
+    whole h 7 (c .if2 .taken) (first-done h 7 _ (string-first h (s .pre .0) (open-text .ensures)) (if1 .left))
 
 mul-open-variables : tie.Need-mul-open-variables
 mul-open-variables c = search needs
@@ -131,36 +81,30 @@ shared-slice-read-open-variables-2 c = search needs
 
 open-variables-requires : tie.Need-open-variables-requires
 open-variables-requires c κs =
-    let s = c .before .before .before .before .before .before .before .before .before .before .before .before .before .before .before .before .before .before .before .before .before .before .before .before .before .before .before .before .before in
+    let s = c .before .before .before .before .before .before .before .before .before .before .before .before .before .before .before .before .before .before .before .before .before in
     let h = place s in
-    let open-marked = c .before .before .before .before .before .before .before .before .before .before .before .before .before .before .before .before .before .before .before .open-marked in
-    let if1 = c .before .before .before .before .before .before .before .before .before .before .before .before .before .before .if1 in
-    let write-byte-string = c .before .before .before .before .before .before .before .before .before .write-byte-string in
-    let if2 = c .before .before .before .before .before .before .if2 in
-    let if3 = c .before .before .before .before .before .if3 in
-    let begun = first-done h 7 _ (string-first h (s .pre .0) (open-marked .ensures)) (if1 .left) in
-    let written = text-done h 7 begun (write-byte-string .ensures) (if2 .left) in
-    pairs-ready h _ (string-pairs h (s .pre .0) (if3 .left)) written (s .pre .1)
+    let if2 = c .before .before .before .before .before .if2 in
+    let if1 = c .before .before .before .before .before .before .if1 in
+    let open-text = c .before .before .before .before .before .before .before .before .before .before .before .open-text in
+    let written = first-done h 7 _ (string-first h (s .pre .0) (open-text .ensures)) (if1 .left) in
+    pairs-ready h _ (string-pairs h (s .pre .0) (if2 .left)) written (s .pre .1)
 
-same-length-7 : tie.Need-same-length-7
-same-length-7 c = search needs
+same-length-5 : tie.Need-same-length-5
+same-length-5 c = search needs
 
-same-length-8 : tie.Need-same-length-8
-same-length-8 c = search needs
+same-length-6 : tie.Need-same-length-6
+same-length-6 c = search needs
 
-returns-4 : tie.Need-returns-4
-returns-4 c =
-    let s = c .before .before .before .before .before .before .before .before .before .before .before .before .before .before .before .before .before .before .before .before .before .before .before .before .before .before .before .before .before .before .before .before .before .before in
+returns-3 : tie.Need-returns-3
+returns-3 c =
+    let s = c .before .before .before .before .before .before .before .before .before .before .before .before .before .before .before .before .before .before .before .before .before .before .before .before .before .before in
     let h = place s in
-    let open-marked = c .before .before .before .before .before .before .before .before .before .before .before .before .before .before .before .before .before .before .before .before .before .before .before .before .open-marked in
-    let if1 = c .before .before .before .before .before .before .before .before .before .before .before .before .before .before .before .before .before .before .before .if1 in
-    let write-byte-string = c .before .before .before .before .before .before .before .before .before .before .before .before .before .before .write-byte-string in
-    let if2 = c .before .before .before .before .before .before .before .before .before .before .before .if2 in
-    let if3 = c .before .before .before .before .before .before .before .before .before .before .if3 in
     let open-variables = c .before .before .before .before .open-variables in
-    let begun = first-done h 7 _ (string-first h (s .pre .0) (open-marked .ensures)) (if1 .left) in
-    let written = text-done h 7 begun (write-byte-string .ensures) (if2 .left) in
-    variables-answer h 7 (s .pre .0) (omega arith) (some-variables h (if3 .left) written) (string-pairs h (s .pre .0) (if3 .left)) (open-variables .ensures)
+    let if2 = c .before .before .before .before .before .before .before .before .before .before .if2 in
+    let if1 = c .before .before .before .before .before .before .before .before .before .before .before .if1 in
+    let open-text = c .before .before .before .before .before .before .before .before .before .before .before .before .before .before .before .before .open-text in
+    let written = first-done h 7 _ (string-first h (s .pre .0) (open-text .ensures)) (if1 .left) in
+    variables-answer h 7 (s .pre .0) (omega arith) (some-variables h (if2 .left) written) (string-pairs h (s .pre .0) (if2 .left)) (open-variables .ensures)
 
 pub open-string-spec : {M : Type 1} → statement M
 open-string-spec =
@@ -170,25 +114,13 @@ open-string-spec =
     add-f
     mul-f-2
     shared-slice-read-f
-    open-marked-requires
+    open-text-requires
     same-length
     same-length-2
     returns
-    mul-write-byte-string
-    add-write-byte-string
-    mul-write-byte-string-2
-    shared-slice-read-write-byte-string
-    mul-write-byte-string-3
-    add-write-byte-string-2
-    mul-write-byte-string-4
-    shared-slice-read-write-byte-string-2
-    write-byte-string-requires
     same-length-3
     same-length-4
     returns-2
-    same-length-5
-    same-length-6
-    returns-3
     mul-open-variables
     add-open-variables
     mul-open-variables-2
@@ -198,6 +130,6 @@ open-string-spec =
     mul-open-variables-4
     shared-slice-read-open-variables-2
     open-variables-requires
-    same-length-7
-    same-length-8
-    returns-4)
+    same-length-5
+    same-length-6
+    returns-3)

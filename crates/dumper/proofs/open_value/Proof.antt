@@ -1,10 +1,10 @@
 -- The proof of open_value.
 use native.Mathlib.Omega.{arith}
 use Rattle.definition.specs.Dump.{write-level, write-value}
-use Rattle.writer.specs.Laws.{lead-goes, lead-stop, ready-as}
-use Rattle.dumper.specs.Laws.{lead-head, linked, head-as}
+use Rattle.writer.specs.Laws.{ready-as}
+use Rattle.dumper.specs.Laws.{lead-head, head-as, head-whole}
 use Rattle.dumper.proofs.Heads.{is-object, array-row, hash-row, low-kind, array-open, hash-open, default-byte, in-array, in-hash}
-use Rattle.dumper.proofs.Bodies.{Here, here, answers-as}
+use Rattle.dumper.proofs.Bodies.{Here, here, answers-as, text-ready, float-inside, float-first}
 use borrow.Author.Needs.{needs}
 use Rattle.dumper.proofs.open_value.Statement.{statement}
 use Rattle.dumper.proofs.open_value.Tie as tie
@@ -81,8 +81,22 @@ open-string-requires c κs = search needs
 open-user-defined-requires : tie.Need-open-user-defined-requires
 open-user-defined-requires c κs = search needs
 
+open-text-requires : tie.Need-open-text-requires
+open-text-requires c κs =
+    let s = c .before .before .before .before .before .before .before .before .before .before in
+    let h = place s in
+    let kinds = c .before .before .before .match in
+    let f = s .pre .fact in
+    (float-inside h (kinds .keys6) (s .pre .arena) (f .0) (f .2), text-ready h 9 (kinds .keys6) (omega arith) (omega arith) (s .pre))
+
+whole-requires : tie.Need-whole-requires
+whole-requires c κs = search needs
+
 write-scalar-requires : tie.Need-write-scalar-requires
 write-scalar-requires c κs = search needs
+
+whole-requires-2 : tie.Need-whole-requires-2
+whole-requires-2 c κs = search needs
 
 same-length : tie.Need-same-length
 same-length c = search needs
@@ -94,10 +108,9 @@ returns : tie.Need-returns
 returns c =
     let a = c .before .before .before .before .before .before .before .before .before .before .before .before .before .before .before .before .args in
     let kinds = c .before .before .before .before .before .before .before .before .before .match in
-    let write-scalar = c .before .before .before .before .before .write-scalar in
-    let r = kinds .rest in (
-      λ A room limit l li b. lead-head (lead-stop (c .if2 .taken) (write-scalar .ensures A room limit (write-level limit (a .levels)) (write-value room A limit (a .levels)) l b (low-kind (l .noded) (a .v) b (r .0 .0 .0 .0 .1) (r .0 .0 .0 .1) (r .0 .0 .1) (r .0 .1) (r .1)))),
-      λ A l b e. absurd (c .if2 .taken e),
+    let open-list = c .before .before .before .before .open-list in (
+      λ A room limit l li b. head-as (array-open room A (write-level limit (a .levels)) (write-value room A limit (a .levels)) (a .v) _ _ _ _ (array-row (l .noded) (a .v) b (kinds .keys1)) (kinds .keys1)) (open-list .ensures A room limit (is-object (l .noded) (a .v) b 4 (kinds .keys1) (omega arith) (omega arith)) _),
+      λ A l b e. in-array l (a .v) b (kinds .keys1),
     )
 
 same-length-3 : tie.Need-same-length-3
@@ -108,11 +121,12 @@ same-length-4 c = search needs
 
 returns-2 : tie.Need-returns-2
 returns-2 c =
-    let a = c .before .before .before .before .before .before .before .before .before .before .before .before .before .before .before .before .args in
-    let kinds = c .before .before .before .before .before .before .before .before .before .match in
-    let open-list = c .before .before .before .before .open-list in (
-      λ A room limit l li b. head-as (array-open room A (write-level limit (a .levels)) (write-value room A limit (a .levels)) (a .v) _ _ _ _ (array-row (l .noded) (a .v) b (kinds .keys1)) (kinds .keys1)) (open-list .ensures A room limit (is-object (l .noded) (a .v) b 4 (kinds .keys1) (omega arith) (omega arith)) _),
-      λ A l b e. in-array l (a .v) b (kinds .keys1),
+    let a = c .before .before .before .before .before .before .before .before .before .before .before .before .before .before .before .before .before .before .args in
+    let if1 = c .before .before .before .before .before .before .before .before .before .if1 in
+    let kinds = c .before .before .before .before .before .before .before .before .before .before .before .match in
+    let open-list2 = c .before .before .before .before .open-list2 in (
+      λ A room limit l li b. head-as (hash-open room A (write-level limit (a .levels)) (write-value room A limit (a .levels)) (a .v) (if1 .k) _ _ _ _ (hash-row (l .noded) (a .v) b (kinds .keys2)) (default-byte room A _ (if1 .k) (λ t. t .taken) (λ t. t .left) (if1 .came)) (kinds .keys2)) (open-list2 .ensures A room limit (is-object (l .noded) (a .v) b 5 (kinds .keys2) (omega arith) (omega arith)) _),
+      λ A l b e. in-hash l (a .v) b (kinds .keys2),
     )
 
 same-length-5 : tie.Need-same-length-5
@@ -123,13 +137,10 @@ same-length-6 c = search needs
 
 returns-3 : tie.Need-returns-3
 returns-3 c =
-    let a = c .before .before .before .before .before .before .before .before .before .before .before .before .before .before .before .before .before .before .args in
-    let if1 = c .before .before .before .before .before .before .before .before .before .if1 in
-    let kinds = c .before .before .before .before .before .before .before .before .before .before .before .match in
-    let open-list2 = c .before .before .before .before .open-list2 in (
-      λ A room limit l li b. head-as (hash-open room A (write-level limit (a .levels)) (write-value room A limit (a .levels)) (a .v) (if1 .k) _ _ _ _ (hash-row (l .noded) (a .v) b (kinds .keys2)) (default-byte room A _ (if1 .k) (λ t. t .taken) (λ t. t .left) (if1 .came)) (kinds .keys2)) (open-list2 .ensures A room limit (is-object (l .noded) (a .v) b 5 (kinds .keys2) (omega arith) (omega arith)) _),
-      λ A l b e. in-hash l (a .v) b (kinds .keys2),
-    )
+    let h = place (c .before .before .before .before .before .before .before .before .before .before .before .before .before .before .before) in
+    let kinds = c .before .before .before .before .before .before .before .before .match in
+    let open-named = c .before .before .before .before .open-named in
+    (answers-as h _ 6 (kinds .keys3) (open-named .ensures .0), open-named .ensures .1)
 
 same-length-7 : tie.Need-same-length-7
 same-length-7 c = search needs
@@ -141,8 +152,8 @@ returns-4 : tie.Need-returns-4
 returns-4 c =
     let h = place (c .before .before .before .before .before .before .before .before .before .before .before .before .before .before .before) in
     let kinds = c .before .before .before .before .before .before .before .before .match in
-    let open-named = c .before .before .before .before .open-named in
-    (answers-as h _ 6 (kinds .keys3) (open-named .ensures .0), open-named .ensures .1)
+    let open-string = c .before .before .before .before .open-string in
+    (answers-as h _ 7 (kinds .keys4) (open-string .ensures .0), open-string .ensures .1)
 
 same-length-9 : tie.Need-same-length-9
 same-length-9 c = search needs
@@ -154,8 +165,8 @@ returns-5 : tie.Need-returns-5
 returns-5 c =
     let h = place (c .before .before .before .before .before .before .before .before .before .before .before .before .before .before .before) in
     let kinds = c .before .before .before .before .before .before .before .before .match in
-    let open-string = c .before .before .before .before .open-string in
-    (answers-as h _ 7 (kinds .keys4) (open-string .ensures .0), open-string .ensures .1)
+    let open-user-defined = c .before .before .before .before .open-user-defined in
+    (answers-as h _ 8 (kinds .keys5) (open-user-defined .ensures .0), open-user-defined .ensures .1)
 
 same-length-11 : tie.Need-same-length-11
 same-length-11 c = search needs
@@ -165,10 +176,11 @@ same-length-12 c = search needs
 
 returns-6 : tie.Need-returns-6
 returns-6 c =
-    let h = place (c .before .before .before .before .before .before .before .before .before .before .before .before .before .before .before) in
-    let kinds = c .before .before .before .before .before .before .before .before .match in
-    let open-user-defined = c .before .before .before .before .open-user-defined in
-    (answers-as h _ 8 (kinds .keys5) (open-user-defined .ensures .0), open-user-defined .ensures .1)
+    let h = place (c .before .before .before .before .before .before .before .before .before .before .before .before .before .before .before .before) in
+    let kinds = c .before .before .before .before .before .before .before .before .before .match in
+    let open-text = c .before .before .before .before .before .open-text in
+    let w = c .whole .ensures in
+    (λ A room limit l li b. head-whole (w .0 .0) (w .0 .1) (float-first h (kinds .keys6) (open-text .ensures) A room limit l li b), λ A l b e. absurd (w .1 e))
 
 same-length-13 : tie.Need-same-length-13
 same-length-13 c = search needs
@@ -179,11 +191,13 @@ same-length-14 c = search needs
 returns-7 : tie.Need-returns-7
 returns-7 c =
     let a = c .before .before .before .before .before .before .before .before .before .before .before .before .before .before .before .before .args in
-    let kinds = c .before .before .before .before .before .before .before .before .before .match in
+    let r = c .before .before .before .before .before .before .before .before .before .match .rest in
     let write-scalar = c .before .before .before .before .before .write-scalar in
-    let r = kinds .rest in (
-      λ A room limit l li b. linked (lead-goes (c .if2 .left) (write-scalar .ensures A room limit (write-level limit (a .levels)) (write-value room A limit (a .levels)) l b (low-kind (l .noded) (a .v) b (r .0 .0 .0 .0 .1) (r .0 .0 .0 .1) (r .0 .0 .1) (r .0 .1) (r .1)))),
-      λ A l b e. absurd (omega (arith, e)),
+    let w = c .whole2 .ensures in (
+      λ A room limit l li b.
+          head-whole (w .0 .0) (w .0 .1)
+          (lead-head (write-scalar .ensures A room limit (write-level limit (a .levels)) (write-value room A limit (a .levels)) l b (low-kind (l .noded) (a .v) b (r .0 .0 .0 .0 .0 .1) (r .0 .0 .0 .0 .1) (r .0 .0 .0 .1) (r .0 .0 .1) (r .0 .1) (r .1)))),
+      λ A l b e. absurd (w .1 e),
     )
 
 pub open-value-spec : {M : Type 1} → statement M
@@ -210,7 +224,10 @@ open-value-spec =
     open-named-requires
     open-string-requires
     open-user-defined-requires
+    open-text-requires
+    whole-requires
     write-scalar-requires
+    whole-requires-2
     same-length
     same-length-2
     returns

@@ -4,12 +4,12 @@ use native.Mathlib.Omega.{arith}
 use mathlib.Core.Bool.{true, false}
 use mathlib.Core.Path.{refl, ap}
 use Rattle.definition.specs.Run.{pick}
-use Rattle.definition.specs.Node.{nil, bool, string, absent, words}
-use Rattle.definition.specs.Load.{head, value-of, read-string, Nil, True, False, Fixnum, Symbol, SymbolLink, ObjectLink, String, UserDefined, Unknown}
+use Rattle.definition.specs.Node.{nil, bool, words}
+use Rattle.definition.specs.Load.{head, value-of, Nil, True, False, Fixnum, Symbol, SymbolLink, ObjectLink, UserDefined, Unknown}
 use Rattle.definition.specs.declared.Refusal.the-variants.{InvalidKind}
 use Rattle.reader.specs.Answers.{at-kind}
 use Rattle.loader.proofs.Laws.{refuses}
-use Rattle.loader.proofs.Readers.{headed, other}
+use Rattle.loader.proofs.Readers.{headed, text-headed, other}
 use Rattle.loader.proofs.read_leaf.Statement.{statement}
 use Rattle.loader.proofs.read_leaf.Tie as tie
 
@@ -18,6 +18,9 @@ read-fixnum-requires c κs = search needs
 
 read-symbol-link-requires : tie.Need-read-symbol-link-requires
 read-symbol-link-requires c κs = search needs
+
+text-kind-requires : tie.Need-text-kind-requires
+text-kind-requires c κs = search needs
 
 read-text-requires : tie.Need-read-text-requires
 read-text-requires c κs = search needs
@@ -75,13 +78,12 @@ same-length-5 : tie.Need-same-length-5
 same-length-5 c = search needs
 
 returns-3 : tie.Need-returns-3
-unfolding head pick value-of read-string words
 returns-3 c =
     let c6 = c .before .before .before .before .before .before in
     let c-read-text = c6 .read-text in
-    let c11 = c6 .before .before .before .before .before in
-    let c17 = c11 .before .before .before .before .before .before in
-    (λ room limit inner re l. headed inner (c17 .args .k) String (ap head (c11 .match .keys3)) (c-read-text .ensures .0 room limit (λ start n. string start n absent) _ _ (λ start n. refl) (λ start n. tt)), c-read-text .ensures .1)
+    let c-text-kind = c6 .before .text-kind in
+    let c12 = c6 .before .before .before .before .before .before in
+    (λ room limit inner re l. text-headed inner (c12 .match .keys3) (c-text-kind .ensures .0) (c-text-kind .ensures .1) (λ row. c-read-text .ensures .0 room limit row _ _), c-read-text .ensures .1)
 
 same-length-6 : tie.Need-same-length-6
 same-length-6 c = search needs
@@ -186,6 +188,7 @@ read-leaf-spec =
     (tie.spec
     read-fixnum-requires
     read-symbol-link-requires
+    text-kind-requires
     read-text-requires
     read-symbol-requires
     add-node-requires

@@ -4,7 +4,7 @@ use native.Mathlib.Omega.{arith}
 use Prim.Native.Nat.{ℕ}
 use mathlib.Core.Path.{ap, _∙_}
 use mathlib.Core.List.{[], _∷_}
-use Rattle.definition.specs.Load.{read-byte-string, add-bytes}
+use Rattle.definition.specs.Load.{read-text, read-byte-string, add-bytes}
 use Rattle.loader.proofs.Laws.{held, lead-first, lead-after, lead-stop}
 use Rattle.loader.proofs.Steps.{span-length}
 use Rattle.loader.proofs.read_text.Statement.{statement}
@@ -14,6 +14,7 @@ read-byte-string-requires : tie.Need-read-byte-string-requires
 read-byte-string-requires c κs = search needs
 
 returns : tie.Need-returns
+unfolding read-text
 returns c =
     (λ room limit row re sy ws pl. lead-stop (c .if1 .taken) (lead-first _ (c .before .read-byte-string .ensures .0 room limit _)), λ l. absurd (omega arith))
 
@@ -31,6 +32,7 @@ same-length : tie.Need-same-length
 same-length c = search needs
 
 returns-2 : tie.Need-returns-2
+unfolding read-text
 returns-2 c =
     let c3 = c .before .before .before in
     let c6 = c3 .before .before .before in (
@@ -67,6 +69,7 @@ same-length-4 : tie.Need-same-length-4
 same-length-4 c = search needs
 
 returns-3 : tie.Need-returns-3
+unfolding read-text
 returns-3 c =
     let c4 = c .before .before .before .before in
     let c-add-object-node = c4 .add-object-node in

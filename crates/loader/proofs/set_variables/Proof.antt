@@ -19,6 +19,10 @@ returns : tie.Need-returns
 returns c =
     (λ input room limit re by sy ob k l. variables-refused _ _ _ l (omega arith) (omega arith), λ h. absurd (omega arith))
 
+returns-2 : tie.Need-returns-2
+returns-2 c =
+    (λ input room limit re by sy ob k l. variables-refused _ _ _ l (omega arith) (omega arith), λ h. absurd (omega arith))
+
 add-a : tie.Need-add-a
 add-a c = search needs
 
@@ -52,10 +56,10 @@ put-node-requires c κs = search needs
 same-length : tie.Need-same-length
 same-length c = search needs
 
-returns-2 : tie.Need-returns-2
-returns-2 c =
+returns-3 : tie.Need-returns-3
+returns-3 c =
     let c7 = c .before .before .before .before .before .before .before in
-    (λ input room limit re by sy ob k l. variables-set _ _ _ l (c7 .if1 .left) (c .before .before .put-node .ensures), λ h. refl)
+    (λ input room limit re by sy ob k l. variables-set _ _ _ l (c7 .before .if1 .left) (c7 .if2 .left) (c .before .before .put-node .ensures), λ h. refl)
 
 pub set-variables-spec : {M : Type 1} → statement M
 set-variables-spec =
@@ -65,6 +69,7 @@ set-variables-spec =
     mul-kind
     slice-read-kind
     returns
+    returns-2
     add-a
     mul-a
     slice-read-a
@@ -76,4 +81,4 @@ set-variables-spec =
     slice-read-name
     put-node-requires
     same-length
-    returns-2)
+    returns-3)

@@ -1,14 +1,18 @@
 // Runs load and dump of the Rattle crates and of the Rust crate on the same inputs and compares what they answer: the refusal
 // and its details, the bytes used, the arena node by node, the bytes dumped, and that these load and dump to themselves.
 //
-// usage: differential [CORPUS]    after tools/rust/build; CORPUS is a folder with saved.jsonl and load-list.jsonl
+// usage: differential [CORPUS ..]    after tools/rust/build; a CORPUS is a folder with saved, load-list or load .jsonl
 //
 // Allowed, and counted apart: ours refuses with 11 an input of more bytes than the limit has levels (the Rust has no limit),
-// or with 12 counts of more references than the larger table has, where the Rust refuses later. No input is left out.
+// or with 12 counts of more references than the larger table has, where the Rust refuses later. Left out of the comparison,
+// and counted apart: inputs in which load comes to a Float, which the Rust refuses as an unknown kind. What can be asked of
+// them: with strings for its Floats such an input is compared, and ours must answer to both alike but for the kind and for `I`;
+// with empty arrays for them, on which `I` is refused as on a Float, the Rust must give our answer.
 use beside_rust::random::{damaged, value, Random, ALPHABET};
 use beside_rust::room::Room;
 use beside_rust::{inputs, Answer, Tables};
 use ruby_marshal::{Error, SymbolValue, TypedValueHandle, Value, ValueArena, ValueHandle};
+use std::collections::HashSet;
 use std::panic::{catch_unwind, AssertUnwindSafe};
 
 #[global_allocator]
@@ -19,10 +23,10 @@ const REFERENCES: [usize; 2] = [4096, 1 << 18];
 const SHOWN: usize = 20;
 const STACK: usize = 512 << 20;
 
-const LETTERS: &[u8] = b"0i:;@I[}o\"u\x00\x06\x07\xFA";
+const LETTERS: &[u8] = b"0i:;@I[}o\"uf\x00\x06\x07\xFA";
 const PIECES: &[&[u8]] = &[
     b"0", b"T", b"i\x06", b":\x06a", b":\x06b", b";\x00", b";\x06", b"@\x00", b"@\x06", b"I", b"[\x06", b"[\x07", b"{\x06", b"}\x00",
-    b"o", b"\"\x06x", b"u", b"\x00", b"\x06",
+    b"o", b"\"\x06x", b"u", b"f\x061", b"\x00", b"\x06",
 ];
 
 // How an input came out where nothing disagrees.
@@ -32,6 +36,8 @@ enum Outcome {
     Refused(u64),
     TooDeep,
     NoSpace,
+    /// load comes to a Float: the number of our answer
+    Float(u64),
     Panic,
 }
 
@@ -142,6 +148,88 @@ impl Lent {
     }
 }
 
+// What an accepted load leaves: counts and bytes used, the used part of each table; and its dump.
+#[derive(PartialEq)]
+struct Held {
+    counts: [usize; 4],
+    used: usize,
+    nodes: Vec<u32>,
+    references: Vec<u32>,
+    bytes: Vec<u8>,
+    dumped: Answer,
+    written: Vec<u8>,
+}
+
+impl Held {
+    fn of(tables: &mut Tables) -> Held {
+        let dumped = tables.dump(LIMIT);
+        let [nodes, references, bytes, _] = tables.counts;
+        Held {
+            counts: tables.counts,
+            used: tables.used,
+            nodes: tables.nodes[..nodes * 7].to_vec(),
+            references: tables.references[..references].to_vec(),
+            bytes: tables.bytes[..bytes].to_vec(),
+            dumped,
+            written: tables.output[..tables.written].to_vec(),
+        }
+    }
+
+    // Strings for Floats; how many they were.
+    fn exchange_floats(&mut self) -> usize {
+        self.written = with_strings(&self.written);
+        let floats = self.nodes.iter_mut().step_by(7).filter(|kind| **kind == FLOAT_NODE);
+        floats.map(|kind| *kind = STRING_NODE).count()
+    }
+}
+
+// The input, changed at each Float that load comes to until there is none: the Rust stops right after the kind byte.
+fn exchanged(input: &[u8], exchange: impl Fn(&mut Vec<u8>, usize)) -> Vec<u8> {
+    let mut out = input.to_vec();
+    loop {
+        let mut rest = &out[..];
+        let Err(Error::InvalidValueKind { kind: FLOAT }) = ruby_marshal::load(&mut rest) else { return out };
+        let place = out.len() - rest.len() - 1;
+        exchange(&mut out, place);
+    }
+}
+
+fn with_strings(input: &[u8]) -> Vec<u8> {
+    exchanged(input, |out, place| out[place] = STRING)
+}
+
+// Empty arrays; a string where the Float is not whole, since load ends there.
+fn with_arrays(input: &[u8]) -> Vec<u8> {
+    exchanged(input, |out, place| match byte_string_end(out, place + 1) {
+        Some(end) => drop(out.splice(place..end, *b"[\x00")),
+        None => out[place] = STRING,
+    })
+}
+
+// Where the byte string at a place ends, if it is whole.
+fn byte_string_end(input: &[u8], place: usize) -> Option<usize> {
+    let size = *input.get(place)? as i8;
+    let data = match size {
+        -4..=4 => input.get(place + 1..place + 1 + size.unsigned_abs() as usize)?,
+        _ => &[],
+    };
+    let mut bytes = if size < 0 { [0xFF; 4] } else { [0; 4] };
+    bytes[..data.len()].copy_from_slice(data);
+    let length = match size {
+        5.. => size as i32 - 5,
+        ..=-5 => size as i32 + 5,
+        _ => i32::from_le_bytes(bytes),
+    };
+    let end = place + 1 + data.len() + usize::try_from(length).ok()?;
+    (end <= input.len()).then_some(end)
+}
+
+const FLOAT: u8 = b'f';
+const STRING: u8 = b'"';
+const FLOAT_NODE: u32 = 9;
+const STRING_NODE: u32 = 7;
+const ACCEPTED: Answer = Answer { number: 0, first: 0, second: 0 };
+const NOT_AN_OBJECT: Answer = Answer { number: 10, first: 0, second: 0 };
 const TOO_DEEP: Answer = Answer { number: 11, first: LIMIT as i64, second: 0 };
 const NO_REFERENCES: Answer = Answer { number: 12, first: 2, second: 0 };
 
@@ -150,12 +238,14 @@ struct Run {
     again: Lent,
     /// nodes compared, by kind
     kinds: [usize; 9],
+    /// Floats in accepted inputs
+    floats: usize,
     /// refusals that agree, by number
     refused: [usize; 11],
     inputs: usize,
     disagree: usize,
-    /// of the class: inputs, accepted, refused, too deep, no space, panics, disagreeing
-    row: [usize; 7],
+    /// of the class: inputs, accepted, refused, too deep, no space, with a Float, panics, disagreeing
+    row: [usize; 8],
 }
 
 impl Run {
@@ -174,6 +264,7 @@ impl Run {
         });
         match loaded {
             Err(_) => Ok(Outcome::Panic),
+            Ok((Err(Error::InvalidValueKind { kind: FLOAT }), _)) => self.compare_floats(input, room, ours),
             _ if ours == TOO_DEEP && input.len() > LIMIT as usize => Ok(Outcome::TooDeep),
             Ok((Err(_), _)) if ours == NO_REFERENCES => Ok(Outcome::NoSpace),
             Ok((Err(e), _)) if refusal(&e, ours) == Some(ours) => Ok(Outcome::Refused(ours.number)),
@@ -181,6 +272,40 @@ impl Run {
             Ok((Ok(_), used)) => Err(format!("load: {ours:?} with {} used, the Rust accepts with {used}", self.lent[room].tables.used)),
             Ok((Err(e), _)) => Err(format!("load: {ours:?}, the Rust {e:?}")),
         }
+    }
+
+    // What ours answers to an input with Floats, beside the same input with strings and with empty arrays for them.
+    fn compare_floats(&mut self, input: &[u8], room: usize, ours: Answer) -> Result<Outcome, String> {
+        let held = (ours.number == 0).then(|| Held::of(&mut self.lent[room].tables));
+        let made = catch_unwind(|| {
+            let arrays = ruby_marshal::load(&with_arrays(input)[..]).map(|_| ());
+            (with_strings(input), arrays)
+        });
+        let Ok((plain, arrays)) = made else { return Ok(Outcome::Panic) };
+        let known = ours == TOO_DEEP || ours == NO_REFERENCES;
+        let theirs = arrays.map_or_else(|e| refusal(&e, ours), |()| Some(ACCEPTED));
+        if theirs != Some(ours) && !known {
+            return Err(format!("load: {ours:?}, the Rust with arrays for Floats {theirs:?}"));
+        }
+        if self.compare(&plain)? == Outcome::Panic {
+            return Ok(Outcome::Panic);
+        }
+        let answer = self.lent[room].load(&plain);
+        if ours != answer && ours != NOT_AN_OBJECT {
+            return Err(format!("load: {ours:?}, with strings for Floats {answer:?}"));
+        }
+        if let Some(mut held) = held {
+            if held.dumped.number == 0 {
+                self.comes_back(&held.written)?;
+            }
+            let floats = held.exchange_floats();
+            self.floats += floats;
+            let exchanged = input.iter().zip(&plain).filter(|(a, b)| a != b).count();
+            if floats != exchanged || held != Held::of(&mut self.lent[room].tables) {
+                return Err(format!("tables or dump: not as with strings for Floats; {floats} Floats of {exchanged}"));
+            }
+        }
+        Ok(Outcome::Float(ours.number))
     }
 
     fn compare_accepted(&mut self, mut arena: ValueArena, room: usize) -> Result<Outcome, String> {
@@ -238,16 +363,22 @@ impl Run {
         if ours.number != 0 || written != theirs {
             return Err(format!("dump: {ours:?} {}, the Rust {}", hex(written), hex(theirs)));
         }
-        let again = self.again.load(theirs);
+        self.comes_back(theirs)?;
+        Ok(Outcome::Accepted)
+    }
+
+    // What was dumped loads and dumps to itself.
+    fn comes_back(&mut self, written: &[u8]) -> Result<(), String> {
+        let again = self.again.load(written);
         let tables = &mut self.again.tables;
-        if again.number != 0 || tables.used != theirs.len() {
-            return Err(format!("load of what was dumped: {again:?}, {} used of {}", tables.used, hex(theirs)));
+        if again.number != 0 || tables.used != written.len() {
+            return Err(format!("load of what was dumped: {again:?}, {} used of {}", tables.used, hex(written)));
         }
         let again = tables.dump(LIMIT);
-        if again.number != 0 || tables.output[..tables.written] != *theirs {
-            return Err(format!("dump again: {again:?} {} of {}", hex(&tables.output[..tables.written]), hex(theirs)));
+        if again.number != 0 || tables.output[..tables.written] != *written {
+            return Err(format!("dump again: {again:?} {} of {}", hex(&tables.output[..tables.written]), hex(written)));
         }
-        Ok(Outcome::Accepted)
+        Ok(())
     }
 
     // Compares and counts; a disagreement is named.
@@ -261,8 +392,9 @@ impl Run {
             }
             Ok(Outcome::TooDeep) => 3,
             Ok(Outcome::NoSpace) => 4,
-            Ok(Outcome::Panic) => 5,
-            Err(_) => 6,
+            Ok(Outcome::Float(_)) => 5,
+            Ok(Outcome::Panic) => 6,
+            Err(_) => 7,
         };
         self.row[0] += 1;
         self.row[column] += 1;
@@ -278,8 +410,8 @@ impl Run {
 
     // The class that was run, as a line of the table.
     fn end_class(&mut self, name: &str) {
-        let [all, accepted, refused, deep, space, panics, disagree] = std::mem::take(&mut self.row);
-        println!("{name:<34}{all:>9}{accepted:>9}{refused:>9}{deep:>9}{space:>9}{panics:>7}{disagree:>9}");
+        let [all, accepted, refused, deep, space, floats, panics, disagree] = std::mem::take(&mut self.row);
+        println!("{name:<34}{all:>9}{accepted:>9}{refused:>9}{deep:>9}{space:>9}{floats:>9}{panics:>7}{disagree:>9}");
     }
 
     // Every word of that length over the letters, after what is there.
@@ -301,7 +433,7 @@ impl Run {
         for piece in pieces {
             row.extend(*piece);
             let outcome = self.input(row);
-            if most > 1 && outcome == Some(Outcome::Refused(4)) {
+            if most > 1 && matches!(outcome, Some(Outcome::Refused(4) | Outcome::Float(4))) {
                 self.undecided(row, pieces, most - 1);
             }
             row.truncate(length);
@@ -321,7 +453,7 @@ impl Run {
             self.words(&mut vec![4, 8], &bytes, length);
         }
         self.end_class("2 bytes");
-        for kind in b"i[{}@;:\"" {
+        for kind in b"i[{}@;:\"f" {
             for size in [1, 2, 3, 4, -1, -2, -3, -4_i8] {
                 let length = size.unsigned_abs() as usize;
                 self.words(&mut vec![4, 8, *kind, size as u8], b"\x00\x01\x7A\x7B\x7F\x80\x84\xFF", length);
@@ -331,12 +463,12 @@ impl Run {
         for length in 0..=5 {
             self.words(&mut vec![4, 8], ALPHABET, length);
         }
-        self.end_class("5 of 23 bytes");
+        self.end_class("5 of 24 bytes");
         let letters: Vec<&[u8]> = LETTERS.chunks(1).collect();
         self.undecided(&mut vec![4, 8], &letters, 7);
-        self.end_class("7 of 15 bytes, till decided");
+        self.end_class("7 of 16 bytes, till decided");
         self.undecided(&mut vec![4, 8], PIECES, 7);
-        self.end_class("7 of 19 pieces, till decided");
+        self.end_class("7 of 20 pieces, till decided");
     }
 
     // Inputs as they are, then each damaged that many times.
@@ -358,47 +490,57 @@ fn hex(bytes: &[u8]) -> String {
     bytes.iter().map(|b| format!("{b:02X}")).collect()
 }
 
-// The bytes of the field "in" of each line.
+// The bytes of the field "in" of each line that has one, each input once.
 fn saved(path: &str) -> Vec<Vec<u8>> {
     let text = std::fs::read_to_string(path).unwrap_or_else(|e| panic!("{path}: {e}"));
-    let field = |line: &str| -> Vec<u8> {
-        let (_, rest) = line.split_once("\"in\":\"").expect("field in");
+    let field = |line: &str| -> Option<Vec<u8>> {
+        let (_, rest) = line.split_once("\"in\":\"")?;
         let digits = rest.split('"').next().unwrap_or("").as_bytes();
-        digits.chunks(2).map(|d| u8::from_str_radix(std::str::from_utf8(d).unwrap(), 16).expect("hex")).collect()
+        Some(digits.chunks(2).map(|d| u8::from_str_radix(std::str::from_utf8(d).unwrap(), 16).expect("hex")).collect())
     };
-    text.lines().map(field).collect()
+    let mut met = HashSet::new();
+    text.lines().filter_map(field).filter(|input| met.insert(input.clone())).collect()
 }
 
 fn made() -> Vec<Vec<u8>> {
     let mut all = vec![inputs::recipes(300), inputs::batches(300), inputs::objects(300), inputs::names(130)];
+    all.push(inputs::setpoints(300, FLOAT));
     all.extend(["arrays", "hashes", "defaults", "objects", "variables"].map(inputs::nested));
     all
 }
 
-fn run(corpus: Option<String>) -> usize {
+fn run(corpora: Vec<String>) -> usize {
     let lent = REFERENCES.map(Lent::new);
     let again = Lent::new(REFERENCES[0]);
-    let mut run = Run { lent, again, kinds: [0; 9], refused: [0; 11], inputs: 0, disagree: 0, row: [0; 7] };
+    let mut run = Run { lent, again, kinds: [0; 9], floats: 0, refused: [0; 11], inputs: 0, disagree: 0, row: [0; 8] };
     let mut random = Random(48);
-    println!("{:<34}{:>9}{:>9}{:>9}{:>9}{:>9}{:>7}{:>9}", "", "inputs", "accepted", "refused", "too deep", "no space", "panics", "disagree");
+    println!(
+        "{:<34}{:>9}{:>9}{:>9}{:>9}{:>9}{:>9}{:>7}{:>9}",
+        "", "inputs", "accepted", "refused", "too deep", "no space", "Float", "panics", "disagree"
+    );
     run.exhaustive();
-    let values: Vec<Vec<u8>> = (0..400_000).map(|_| value(&mut random)).collect();
-    run.with_damage("random", &values, 4, &mut random);
+    for (name, number, floats) in [("random", 400_000, false), ("random with Floats", 100_000, true)] {
+        let values: Vec<Vec<u8>> = (0..number).map(|_| value(&mut random, floats)).collect();
+        run.with_damage(name, &values, 4, &mut random);
+    }
     run.with_damage("made", &made(), 20_000, &mut random);
-    if let Some(folder) = corpus {
-        for name in ["saved", "load-list"] {
-            run.with_damage(name, &saved(&format!("{folder}/{name}.jsonl")), 100, &mut random);
+    for folder in corpora {
+        for name in ["saved", "load-list", "load"] {
+            let path = format!("{folder}/{name}.jsonl");
+            if std::path::Path::new(&path).exists() {
+                run.with_damage(name, &saved(&path), 100, &mut random);
+            }
         }
     }
-    println!("nodes compared, kinds 0 to 8: {:?}", run.kinds);
+    println!("nodes compared, kinds 0 to 8: {:?}; Floats as strings: {}", run.kinds, run.floats);
     println!("refusals 3 to 10 that agree: {:?}", &run.refused[3..]);
     println!("{} inputs, {} disagree", run.inputs, run.disagree);
     run.disagree
 }
 
 fn main() {
-    let corpus = std::env::args().nth(1);
-    let thread = std::thread::Builder::new().stack_size(STACK).spawn(|| run(corpus));
+    let corpora = std::env::args().skip(1).collect();
+    let thread = std::thread::Builder::new().stack_size(STACK).spawn(|| run(corpora));
     let disagree = thread.expect("a thread").join().expect("a run to the end");
     std::process::exit((disagree > 0) as i32);
 }

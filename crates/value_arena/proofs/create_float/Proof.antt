@@ -1,0 +1,27 @@
+-- The proof of create_float.
+use borrow.Author.Needs.{needs}
+use mathlib.Core.Path.{refl}
+use lib.ListN.{length}
+use Rattle.definition.specs.Node.{float, words}
+use Rattle.definition.specs.Build.{create-float}
+use Rattle.value_arena.specs.Calls.{text}
+use Rattle.value_arena.proofs.create_float.Statement.{statement}
+use Rattle.value_arena.proofs.create_float.Tie as tie
+
+create-text-requires : tie.Need-create-text-requires
+create-text-requires c κs = search needs
+
+same-length : tie.Need-same-length
+same-length c = search needs
+
+same-length-2 : tie.Need-same-length-2
+same-length-2 c = search needs
+
+returns : tie.Need-returns
+unfolding create-float text words
+returns c =
+    let a = c .before .before .before .before .before .before .before .before .before .before .before .args in
+    c .before .before .before .before .create-text .ensures (λ b r. float b (length (a .value .now))) (λ l. refl)
+
+pub create-float-spec : {M : Type 1} → statement M
+create-float-spec = tie.close (tie.spec create-text-requires same-length same-length-2 returns)
