@@ -77,7 +77,7 @@ fn all_zero(a: u32, b: u32, s: u32, n: u32, c: u32, f: u32) -> bool
 }
 
 // Unused words are zero, flags are 0 or 1; an integer's node is tested before. A kind has an arm of its own here and in
-// row_right_at, also where another kind's is the same: the compiler then makes one jump of the two.
+// row_right_at, also where another kind's is the same: the compiler then makes one jump of the two matches.
 fn is_row_of(k: u32, a: u32, b: u32, s: u32, n: u32, c: u32, f: u32) -> bool
     requires { ⌜ (k ≡ 2 → ⊥) ⌝ }
     ensures { λ r. ⌜ r ≡ is-row (k ∷ a ∷ b ∷ s ∷ n ∷ c ∷ f ∷ []) ⌝ }

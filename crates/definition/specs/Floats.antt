@@ -1,13 +1,13 @@
 -- What 02, 2.1 says of Floats, shown of the definitions: bytes with known outcomes, computed, and when two Floats are the same graph.
 use Prim.Native.Nat.{ℕ}
+use native.Mathlib.Omega.{arith}
 use mathlib.Core.Path.{_≡_, refl, sym, ap, _∙_}
 use mathlib.Core.Bool.{false}
 use mathlib.Core.List.{List, [], _∷_}
-use mathlib.Core.Option.{none, some}
 use lib.IntN.{pos, negsuc}
-use Rattle.definition.specs.Node.{float, kind}
+use Rattle.definition.specs.Node.{Vars, string, float}
 use Rattle.definition.specs.Arena.{Arena, node, range}
-use Rattle.definition.specs.Graph.{Header, header, header-of, links, Reachable, root, Paired, none as no-pairs, Pairing, SameGraph}
+use Rattle.definition.specs.Graph.{Header, header, header-of, links, root, none as no-pairs, Pairing, SameGraph}
 use Rattle.definition.specs.Starred.{Result, dumped, not-loaded, load-and-dump, holds}
 
 abbrev outcomes : List (List ℕ × Result)
@@ -38,7 +38,12 @@ pub paired-floats : {P Q : Arena} {R : ℕ → ℕ → Type 0} → Pairing P Q R
 unfolding header
 paired-floats {P} {Q} p a b s l t m r e f = ap (λ (h : Header). h .bytes) (sym (ap (header P) e) ∙ p .headers a b r ∙ ap (header Q) f)
 
--- and two that have the same bytes can be paired
+-- a Float is not paired with a string, whatever their bytes
+pub float-no-string : {P Q : Arena} {R : ℕ → ℕ → Type 0} → Pairing P Q R → (a b s l t m : ℕ) (v : Vars) → R a b → node P a ≡ float s l → node Q b ≡ string t m v → ⊥
+unfolding header
+float-no-string {P} {Q} p a b s l t m v r e f = let z : _≡_ {A = ℕ} 9 7 = ap (λ (h : Header). h .kind) (sym (ap (header P) e) ∙ p .headers a b r ∙ ap (header Q) f) in omega (arith, z)
+
+-- and two Floats that are the roots, with the same bytes, are the same graph
 pub same-floats : (P Q : Arena) (s l t m : ℕ) → node P (P .root) ≡ float s l → node Q (Q .root) ≡ float t m → range (P .bytes) s l ≡ range (Q .bytes) t m → SameGraph P Q
 unfolding header links
 same-floats P Q s l t m e f b = (
