@@ -75,7 +75,7 @@ enum ruby_marshal_slice {
  * slice. The number of words is the caller's own, so a caller that passes what is stated here never sees this.
  */
 #define RUBY_MARSHAL_ANSWER_WORDS 9u /* enough for every function */
-#define RUBY_MARSHAL_LOAD_WORDS 7u
+#define RUBY_MARSHAL_LOAD_WORDS 8u
 #define RUBY_MARSHAL_DUMP_WORDS 3u
 #define RUBY_MARSHAL_NEW_WORDS 6u
 #define RUBY_MARSHAL_ROOT_WORDS 3u
@@ -91,7 +91,8 @@ enum ruby_marshal_answer {
     RUBY_MARSHAL_REFERENCES = 3,
     RUBY_MARSHAL_BYTES = 4,
     RUBY_MARSHAL_ROOT = 5,
-    RUBY_MARSHAL_USED = 6,       /* load: bytes of input used */
+    RUBY_MARSHAL_USED = 6,       /* load: bytes of input used, */
+    RUBY_MARSHAL_DUMP_FORM = 7,  /*       and 1 where they are in dump form, else 0 */
     RUBY_MARSHAL_HANDLE = 6,     /* create_: the node; replace_root: the old root */
     RUBY_MARSHAL_WRITTEN = 2,    /* dump: bytes of output written */
     RUBY_MARSHAL_VALUE = 2,      /* root: the root's node; kind: the node's kind */
@@ -144,7 +145,9 @@ enum ruby_marshal_kind {
  * Each node but the first, each reference, byte and list entry takes at least one byte of input of its own. So an input of n
  * bytes that any tables accept is accepted by tables of n nodes, n references, n bytes, and n entries of each list.
  *
- * Answers: details, counts, bytes used.
+ * Answers: details, counts, bytes used, dump form.
+ * Dump form is 1 exactly where ruby_marshal_dump of the arena, under the same limit and with enough output, writes the very
+ * bytes that were used. It does not depend on the tables or the limit.
  * Accepted: the tables hold the arena, zeros past the counts; both lists are zero. Node 0 is nil.
  * Refused with 1 (slices 1 2 3 4 5 7 8): nothing is touched; counts 0, 0, 0, 0.
  * Refused with 3 to 12: tables and lists are zero; counts 1, 0, 0, 0, which with them are an arena that holds nil.

@@ -41,6 +41,102 @@ def settle(case):
         case["answer"][1] = min(case["faulty"])
 
 
+# Of the integers with data bytes that dump writes: the last data byte, by the first byte.
+LAST = {0x01: range(0x7B, 0x100), 0x02: range(0x01, 0x100), 0x03: range(0x01, 0x100), 0x04: range(0x01, 0x80),
+        0xFF: range(0x00, 0x85), 0xFE: range(0x00, 0xFF), 0xFD: range(0x00, 0xFF), 0xFC: range(0x80, 0xFF)}
+
+
+class Walk:
+    """A walk over an input that load accepts, which knows document 02's reasons for no, and nothing of dump: `form` is whether
+    it met none of them, `used` where it ended."""
+
+    def __init__(self, text):
+        self.text, self.names = text, set()
+        self.form, self.used = text[1] == 8, 2
+        self.value()
+
+    def take(self, n=1):
+        part = self.text[self.used:self.used + n]
+        self.used += n
+        return part
+
+    def meet(self, written):
+        """Something that dump writes, or doesn't."""
+        self.form = self.form and written
+
+    def integer(self):
+        size = self.take()[0]
+        data = self.take(size if size <= 4 else 256 - size if size >= 0xFC else 0)
+        self.meet(data[-1] in LAST[size] if data else size not in (0x05, 0xFB))
+        if data:
+            return int.from_bytes(data.ljust(4, b"\xFF" if size > 4 else b"\x00"), "little", signed=True)
+        return 0 if size == 0 else size - 5 if size < 0x80 else size - 251
+
+    def name(self, kind):
+        if kind == b";":
+            self.integer()
+        else:
+            name = self.take(self.integer())
+            self.meet(name not in self.names)
+            self.names.add(name)
+
+    def variables(self):
+        for _ in range(self.integer()):
+            self.name(self.take())
+            self.value()
+
+    def value(self):
+        kind = self.take()
+        if kind in (b"i", b"@"):
+            self.integer()
+        elif kind in (b":", b";"):
+            self.name(kind)
+        elif kind in (b'"', b"f", b"u"):
+            if kind == b"u":
+                self.name(self.take())
+            self.take(self.integer())
+        elif kind == b"[":
+            for _ in range(self.integer()):
+                self.value()
+        elif kind in (b"{", b"}"):
+            for _ in range(2 * self.integer() + (kind == b"}")):
+                self.value()
+        elif kind == b"o":
+            self.name(self.take())
+            self.variables()
+        elif kind == b"I":
+            self.meet(self.text[self.used:self.used + 1] not in (b"I", b"@"))
+            self.value()
+            self.variables()
+
+
+def form(case):
+    """Load's yes or no, 1 or 0, for a case of load."""
+    if case["answer"][0]:
+        return 0
+    walk = Walk(bytes.fromhex(case["in"]))
+    if walk.used != case["used"]:
+        raise SystemExit("%s: %d bytes used, walked over %d" % (case["id"], case["used"], walk.used))
+    return int(walk.form)
+
+
+def settle_form(case):
+    """What a corpus says of dump form must be what the walk finds; where it says nothing, that is expected."""
+    found = form(case)
+    if case.setdefault("dump_form", found) != found:
+        raise SystemExit("%s: dump form %d, walked %d" % (case["id"], case["dump_form"], found))
+
+
+def forms(pair):
+    """Both inputs of a pair, each with whether it is in dump form: whether it begins with its dump. The walk must find it so."""
+    for x in "ab":
+        text = bytes.fromhex(pair[x])
+        found = text.startswith(bytes.fromhex(pair["dump_" + x]))
+        if Walk(text).form != found:
+            raise SystemExit("%s: dump form of %s %d, walked %d" % (pair["id"], x, found, not found))
+        yield text, found
+
+
 def by_file(folders):
     """The cases of each file: by its name for the first folder, after the folder's name for the others."""
     found = {}
@@ -52,9 +148,11 @@ def by_file(folders):
         if not any(added.values()):
             raise SystemExit("no cases in " + folder)
         found.update({label: cases for label, cases in added.items() if cases})
-    for cases in found.values():
+    for label, cases in found.items():
         for c in cases:
             settle(c)
+            if call(label) == "load":
+                settle_form(c)
     return found
 
 
@@ -76,6 +174,22 @@ def of(wanted, folders):
 def listings(folders):
     """The cases of load that say what the program list prints, or the SHA-256 of it."""
     return [c for label, cases in by_file(folders).items() if call(label) == "load" for c in cases if "list_sha256" in c]
+
+
+def refusals(folders):
+    """Of those, for each refusal and slice without space, the shortest input."""
+    shortest = {}
+    for c in listings(folders):
+        kind = tuple(c["answer"][:2]) if c["answer"][0] == 12 else c["answer"][0]
+        if c["answer"][0] and (kind not in shortest or len(c["in"]) < len(shortest[kind]["in"])):
+            shortest[kind] = c
+    return shortest.values()
+
+
+def samples():
+    """The sample files, each as dump writes it: the fewest bytes in integers, links for what was met before, no trailing byte."""
+    folder = os.path.join(TOP, "samples")
+    return [open(os.path.join(folder, name), "rb").read() for name in sorted(os.listdir(folder)) if name.endswith(".bin")]
 
 
 def words(numbers):
@@ -101,6 +215,11 @@ def write_inputs(crate, chosen):
     with open(os.path.join(crate, "stdout"), "w") as f:
         f.write("".join(shown for _, shown in chosen))
     print(len(chosen), "inputs")
+
+
+def yes_or_no(form):
+    """What the program form prints for an accepted input."""
+    return "yes\n" if form else "no\n"
 
 
 def row(numbers):

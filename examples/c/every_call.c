@@ -359,7 +359,7 @@ static void build_dump_load(void)
     accepted(DUMP, &l, give(RUBY_MARSHAL_LIMIT));
     memcpy(l.input.at, l.output.at, written);
     accepted(LOAD, &l, give(RUBY_MARSHAL_LIMIT));
-    EXPECT(l.answer[RUBY_MARSHAL_USED] == written);
+    EXPECT(l.answer[RUBY_MARSHAL_USED] == written && l.answer[RUBY_MARSHAL_DUMP_FORM] == 1);
     EXPECT(zero(l.symbols.at, l.symbols.length * 4) && zero(l.objects.at, l.objects.length * 4));
     accepted(DUMP, &l, give(RUBY_MARSHAL_LIMIT));
     EXPECT(l.answer[RUBY_MARSHAL_WRITTEN] == written && memcmp(l.input.at, l.output.at, written) == 0);
@@ -374,6 +374,41 @@ static void cycle(void)
     EXPECT(l.counts.nodes == 2 && l.counts.root == 1 && l.references.at[0] == 1);
     accepted(DUMP, &l, give(2));
     EXPECT(l.answer[RUBY_MARSHAL_WRITTEN] == 6 && memcmp(l.output.at, "\x04\x08[\x06@\x00", 6) == 0);
+}
+
+/* Dump form: 1 exactly where dump, under load's limit, writes the bytes that were used. */
+static void dump_form(void)
+{
+    static const struct {
+        const char *input;
+        size_t length, used;
+        uint32_t limit;
+        uint64_t form;
+    } cases[] = {
+        { "\x04\x08" "0", 3, 3, 1, 1 },
+        { "\x04\x08" "0\xFF", 4, 3, 1, 1 },
+        { "\x04\x07" "0", 3, 3, 1, 0 },
+        { "\x04\x08i\x01\x7B", 5, 5, 1, 1 },
+        { "\x04\x08i\x01\x7A", 5, 5, 1, 0 },
+        { "\x04\x08\"\x05", 4, 4, 1, 0 },
+        { "\x04\x08[\x07:\x06" "a;\x00", 9, 9, 2, 1 },
+        { "\x04\x08[\x07:\x06" "a:\x06" "a", 10, 10, 2, 0 },
+        { "\x04\x08I\"\0\0", 6, 6, 2, 1 },
+        { "\x04\x08II\"\0\0\0", 8, 8, 3, 0 },
+        { "\x04\x08[\x07\"\0I@\x06\0", 10, 10, 3, 0 },
+        { "\x04\x08[\x07[\x06\"\0I@\x07\0", 12, 12, 3, 0 }, /* dump wants a fourth level */
+    };
+    size_t i;
+    for (i = 0; i < sizeof cases / sizeof cases[0]; i++) {
+        struct lent l = lend(cases[i].length, 4 * 7, 3, 2, 3, 4, 12);
+        bool same;
+        put(&l, cases[i].input);
+        accepted(LOAD, &l, give(cases[i].limit));
+        EXPECT(l.answer[RUBY_MARSHAL_USED] == cases[i].used && l.answer[RUBY_MARSHAL_DUMP_FORM] == cases[i].form);
+        same = call(DUMP, &l, give(cases[i].limit)) == RUBY_MARSHAL_ACCEPTED && l.answer[RUBY_MARSHAL_WRITTEN] == cases[i].used
+            && memcmp(l.input.at, l.output.at, cases[i].used) == 0;
+        EXPECT(same == (cases[i].form == 1));
+    }
 }
 
 /* Each refusal of load, with its details and their signs. */
@@ -403,8 +438,9 @@ static void refusals(void)
     for (i = 0; i < sizeof cases / sizeof cases[0]; i++) {
         struct lent l = lend(cases[i].length, 3 * 7, 2, 2, 2, 0, 0);
         put(&l, cases[i].input);
+        l.answer[RUBY_MARSHAL_DUMP_FORM] = 1;
         refused(LOAD, &l, give(cases[i].limit), cases[i].number, cases[i].first, cases[i].second);
-        EXPECT(l.answer[RUBY_MARSHAL_USED] == 0);
+        EXPECT(l.answer[RUBY_MARSHAL_USED] == 0 && l.answer[RUBY_MARSHAL_DUMP_FORM] == 0);
         EXPECT(l.answer[RUBY_MARSHAL_NODES] == (cases[i].number == RUBY_MARSHAL_BAD_TABLES ? 0u : 1u));
         EXPECT(strcmp(ruby_marshal_name(cases[i].number), "?") != 0);
     }
@@ -489,6 +525,7 @@ int main(void)
     answer_room = (uint64_t *)slice(ROOM * 8);
     build_dump_load();
     cycle();
+    dump_form();
     refusals();
     few_words();
     lengths();

@@ -49,7 +49,8 @@ pub fn load_prefix<'t>(input: &[u8], tables: Tables<'t>, lists: Lists<'_>, limit
     let Tables { nodes, references, bytes } = tables;
     let loaded = calls::load(input, nodes, references, bytes, lists.symbols, lists.objects, limit);
     loaded.answer?;
-    Ok((Arena::well_formed(nodes, references, bytes, loaded.counts), loaded.used))
+    let arena = Arena { dump_form: loaded.dump_form, ..Arena::well_formed(nodes, references, bytes, loaded.counts) };
+    Ok((arena, loaded.used))
 }
 
 /// An arena that is well formed, over tables that nothing changes while it lives.
@@ -59,6 +60,7 @@ pub struct Arena<'t> {
     pub(crate) references: &'t [u32],
     pub(crate) bytes: &'t [u8],
     counts: Counts,
+    dump_form: bool,
 }
 
 impl<'t> Arena<'t> {
@@ -71,7 +73,7 @@ impl<'t> Arena<'t> {
     // Only after the archive has accepted a call that leaves this arena: an accepted load, new, or builder's call leaves it well
     // formed, which is proved, and an accepted check says that it is. The node table is then a whole number of nodes.
     pub(crate) fn well_formed(nodes: &'t [u32], references: &'t [u32], bytes: &'t [u8], counts: Counts) -> Arena<'t> {
-        Arena { rows: nodes.as_chunks().0, references, bytes, counts }
+        Arena { rows: nodes.as_chunks().0, references, bytes, counts, dump_form: false }
     }
 
     /// The root.
@@ -94,6 +96,12 @@ impl<'t> Arena<'t> {
     /// How much of the tables is used, and the root.
     pub fn counts(&self) -> Counts {
         self.counts
+    }
+
+    /// Whether the input that this was loaded from was in dump form: [`Arena::dump`], under the limit of the load and with
+    /// enough output, writes the very bytes that the load used. False of an arena that was not loaded.
+    pub fn dump_form(&self) -> bool {
+        self.dump_form
     }
 
     /// The node table, whole: seven words a node, of which the counts say how many are used.

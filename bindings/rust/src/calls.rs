@@ -13,6 +13,9 @@ pub struct Loaded {
     pub counts: Counts,
     /// Bytes of input used, 0 when refused.
     pub used: usize,
+    /// Whether [`dump`] of the arena, under the same limit and with enough output, writes the very bytes that were used. It
+    /// does not depend on the tables or the limit; false when refused.
+    pub dump_form: bool,
 }
 
 /// What [`new`] answers.
@@ -62,7 +65,8 @@ pub fn load(
 ) -> Loaded {
     let told = sys::load(input, nodes, references, bytes, symbols, objects, limit);
     let words = &told.words;
-    Loaded { answer: Refusal::of(told.number, words), counts: counts(words), used: words[6] as usize }
+    let answer = Refusal::of(told.number, words);
+    Loaded { answer, counts: counts(words), used: words[6] as usize, dump_form: words[7] == 1 }
 }
 
 /// Writes the arena's root into output; the number of bytes written.

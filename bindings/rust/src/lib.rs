@@ -4,8 +4,9 @@
 //! This crate is not proved: it declares them, calls them, and reads the tables that they fill.
 //!
 //! [`load`] reads bytes into [`Tables`] and gives an [`Arena`]; [`Arena::root`] and the views below it ([`Node`], [`Value`])
-//! read it in place; [`Arena::dump`] writes it; a [`Builder`] makes one node by node. Nothing is allocated, except by what the
-//! feature `alloc` adds (`OwnedTables`, `Arena::dump_to_vec`). [`calls`] has the functions themselves, on slices and counts.
+//! read it in place; [`Arena::dump`] writes it, and [`Arena::dump_form`] tells whether the input was already as it writes; a
+//! [`Builder`] makes one node by node. Nothing is allocated, except by what the feature `alloc` adds (`OwnedTables`,
+//! `Arena::dump_to_vec`). [`calls`] has the functions themselves, on slices and counts.
 //!
 //! An [`Arena`] is well formed: only an accepted load or builder call, or the archive's own check, makes one, and while it lives
 //! its tables are borrowed. So a view looks at the words of its node alone, and the archive is not called.

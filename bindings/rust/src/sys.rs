@@ -208,8 +208,8 @@ pub fn load(
     symbols: &mut [u32],
     objects: &mut [u32],
     limit: u32,
-) -> Told<7> {
-    let mut words = [0; 7];
+) -> Told<8> {
+    let mut words = [0; 8];
     // SAFETY: each pointer and length are those of one live reference; `nodes`, `references`, `bytes`, `symbols`, `objects` are `&mut`, `words` is a local.
     let number = unsafe {
         archive::ruby_marshal_load(

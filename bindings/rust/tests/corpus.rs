@@ -14,8 +14,8 @@ const LIMIT: u32 = 64;
 
 // ---- load
 
-// Every lent entry is junk before the call.
-fn load_case(case: &Case) -> bool {
+// Every lent entry is junk before the call. Whether the input is in dump form; None where it is refused.
+fn load_case(case: &Case) -> Option<bool> {
     let input = case.bytes("in");
     let sizes: Vec<usize> = case.field("sizes").words().iter().map(|&n| n as usize).collect();
     let [node_words, references, bytes, symbols, objects] = sizes[..] else { panic!("five sizes") };
@@ -25,6 +25,7 @@ fn load_case(case: &Case) -> bool {
     let loaded = calls::load(&input, n, r, b, s, o, case.limit());
     assert_eq!(numbers(&loaded.answer), case.answer(), "{}", case.id());
     assert_eq!((loaded.counts, loaded.used), (case.counts("counts"), case.size("used")), "{}", case.id());
+    assert!(!case.has("dump_form") || loaded.dump_form == (case.size("dump_form") == 1), "{}: dump form", case.id());
     let after = if case.answer().0 == 1 {
         before
     } else {
@@ -45,16 +46,24 @@ fn load_case(case: &Case) -> bool {
     match load_prefix(&input, tables, lists, case.limit()) {
         Ok((arena, used)) => {
             assert_eq!((Ok(()), arena.counts(), used), (loaded.answer, loaded.counts, loaded.used), "{}", case.id());
+            form_agrees(&arena, &loaded, &input, case);
             views_agree(&arena, case);
             dump_and_back(&arena, case.id());
-            ample(&input, case);
-            true
+            ample(&input, case, loaded.dump_form);
+            Some(loaded.dump_form)
         }
         Err(refusal) => {
-            assert_eq!(Err(refusal), loaded.answer, "{}", case.id());
-            false
+            assert_eq!((Err(refusal), false), (loaded.answer, loaded.dump_form), "{}", case.id());
+            None
         }
     }
+}
+
+// In dump form exactly where dump, under load's limit, writes the bytes used; the arena says what load answered.
+fn form_agrees(arena: &Arena, loaded: &calls::Loaded, input: &[u8], case: &Case) {
+    let written = arena.dump_to_vec(case.limit());
+    assert_eq!(loaded.dump_form, written.as_deref() == Ok(&input[..loaded.used]), "{}: dump form", case.id());
+    assert_eq!(arena.dump_form(), loaded.dump_form, "{}: dump form", case.id());
 }
 
 // What each view says is what the corpus's words and bytes say.
@@ -128,18 +137,20 @@ fn dump_and_back(arena: &Arena, id: &str) {
             let mut tables = OwnedTables::for_input(bytes.len());
             let (lent, lists) = tables.lend();
             let (again, used) = load_prefix(&bytes, lent, lists, MAX_LIMIT).unwrap_or_else(|e| panic!("{id}: {e}"));
-            assert_eq!(used, bytes.len(), "{id}");
+            assert_eq!((used, again.dump_form()), (bytes.len(), true), "{id}");
             assert!(again.dump_to_vec(MAX_LIMIT) == Ok(bytes.clone()), "{id}: dump of the dump");
         }
         Err(refusal) => assert_eq!(refusal, Refusal::TooDeep(MAX_LIMIT), "{id}"),
     }
 }
 
-// An accepted input fits tables of its own length.
-fn ample(input: &[u8], case: &Case) {
+// An accepted input fits tables of its own length, and its form is the same under the greatest limit.
+fn ample(input: &[u8], case: &Case, form: bool) {
     let mut tables = OwnedTables::for_input(input.len());
-    let arena = tables.load(input, case.limit()).unwrap_or_else(|e| panic!("{}: {e}", case.id()));
-    assert_eq!(arena.counts(), case.counts("counts"), "{}", case.id());
+    for limit in [case.limit(), MAX_LIMIT] {
+        let arena = tables.load(input, limit).unwrap_or_else(|e| panic!("{}: {e}", case.id()));
+        assert_eq!((arena.counts(), arena.dump_form()), (case.counts("counts"), form), "{}", case.id());
+    }
 }
 
 // A slice of so many entries that are not touched, if the system gives it.
@@ -156,24 +167,26 @@ fn huge_case(case: &Case) -> Option<()> {
     let (mut symbols, mut objects) = (huge::<u32>(sizes[3])?, huge::<u32>(sizes[4])?);
     let loaded = calls::load(&input, &mut nodes, &mut references, &mut bytes, &mut symbols, &mut objects, case.limit());
     assert_eq!(numbers(&loaded.answer), case.answer(), "{}", case.id());
-    assert_eq!((loaded.counts, loaded.used), (Counts::default(), 0), "{}", case.id());
+    assert_eq!((loaded.counts, loaded.used, loaded.dump_form), (Counts::default(), 0, false), "{}", case.id());
     Some(())
 }
 
 fn load_file(file: &str) {
-    let (mut accepted, mut refused, mut large, mut left) = (0, 0, 0, 0);
+    let (mut accepted, mut formed, mut refused, mut large, mut left) = (0, 0, 0, 0, 0);
     for case in corpus(file) {
         if case.has("huge") {
             large += usize::from(huge_case(&case).is_some());
         } else if file == "load-list" && case.bytes("in").len() > 16384 {
             left += 1; // the program's answer, not load's
-        } else if load_case(&case) {
+        } else if let Some(form) = load_case(&case) {
             accepted += 1;
+            formed += usize::from(form);
         } else {
             refused += 1;
         }
     }
-    println!("{file}: {accepted} accepted, {refused} refused, {large} with slices past the greatest length, {left} left out");
+    print!("{file}: {accepted} accepted, of them {formed} in dump form, {refused} refused");
+    println!(", {large} with slices past the greatest length, {left} left out");
 }
 
 #[test]

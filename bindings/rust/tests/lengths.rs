@@ -40,6 +40,7 @@ fn load_into_every_length() {
                     let (n, r, b, s, o) = (&mut lent.0, &mut lent.1, &mut lent.2, &mut lent.3, &mut lent.4);
                     let loaded = calls::load(INPUT, n, r, b, s, o, 2);
                     calls_made += 1;
+                    assert_eq!(loaded.dump_form, loaded.answer.is_ok());
                     if wrong_nodes(nodes) {
                         assert_eq!(loaded.answer, Err(Refusal::BadTables(Slice::Nodes)));
                         assert_eq!((loaded.counts, loaded.used), (Counts::default(), 0));

@@ -110,6 +110,29 @@ fn views_of_every_kind() {
     assert!(format!("{arena:?}").starts_with("Arena { counts: Counts"));
 }
 
+// Of an arena that was loaded, whether its input was as dump writes it, whatever follows; false of any other.
+#[test]
+fn dump_form() {
+    let cases: &[(&[u8], bool)] = &[
+        (EVERY_KIND, true),
+        (b"\x04\x080rest", true),
+        (b"\x04\x070", false),
+        (b"\x04\x08[\x06i\xfb", false),
+        (b"\x04\x08[\x07:\x06a:\x06a", false),
+        (b"\x04\x08II\"\x00\x00\x00", false),
+        (b"\x04\x08[\x07\"\x00I@\x06\x00", false),
+    ];
+    for &(input, expected) in cases {
+        let mut tables = OwnedTables::for_input(input.len());
+        let arena = tables.load(input, MAX_LIMIT).unwrap();
+        assert_eq!(arena.dump_form(), expected, "{input:02X?}");
+        let checked = Arena::check(arena.node_table(), arena.reference_table(), arena.byte_table(), arena.counts());
+        assert!(checked.is_ok_and(|checked| !checked.dump_form()));
+    }
+    let mut tables = OwnedTables::new(1, 0, 0);
+    assert!(tables.builder().is_ok_and(|builder| !builder.arena().dump_form()));
+}
+
 // A walk that guards itself by handle meets each node once, also where an array is its own member.
 #[test]
 fn a_recipe_that_holds_itself() {

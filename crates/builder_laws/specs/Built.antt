@@ -12,7 +12,7 @@ use Rattle.definition.specs.Node.{Row, symbol, words, row, is-row}
 use Rattle.definition.specs.Arena.{Arena, arena, node, range, row-right, node-right, fault, find-symbol}
 use Rattle.definition.specs.Build.{Lent, held, words-at, exchange-root}
 use Rattle.definition.specs.Graph.{header, links}
-use Rattle.definition.specs.Load.{State}
+use Rattle.definition.specs.Load.{State, begin}
 use Rattle.lists.specs.Lists.{At, at-lt}
 use Rattle.lists.specs.Tables.{words-faulty, counts-fit-yes, fault-none}
 use Rattle.graph.specs.View.{arena-of}
@@ -162,7 +162,7 @@ module _ (L : Lent) (bs ms : List ℕ) (r : Row) (e : fault (L .tables) (L .coun
 -- the node found has the name
 pub known-row : (A : Arena) (name : List ℕ) (h : ℕ) → find-symbol (A .bytes) name (A .nodes) 0 ≡ some h → (a : ℕ) × (l : ℕ) × At (A .nodes) h (symbol a l) × (range (A .bytes) a l ≡ name)
 known-row A name h e =
-    let s : State = record { at = 0; nodes = A .nodes; references = A .references; bytes = A .bytes; symbols = []; objects = [] } in
+    let s : State = record { at = 0; nodes = A .nodes; references = A .references; bytes = A .bytes; symbols = []; objects = []; notes = begin .notes } in
     let (r, p, q) = seen-at-inv s h _ (found s name h e) in
     let (a, l, z, y) = symbol-of (arena-of s 0) name r q in
     (a, l, rw (← z) p, y)

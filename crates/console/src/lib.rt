@@ -1,11 +1,19 @@
-// Standard input and output as the programs over an input share them: reading, buffered text in columns, the refusal's row.
+// What the programs over an input share: reading it, its load, and buffered text in columns, the refusal's row among it.
 //
 // Text is put into a buffer that is written when it is full. A position past the buffer's end says that a write failed:
 // nothing more is put then.
 use definition::Answer;
+use definition::Counts;
+use definition::Loaded;
 use definition::Node;
+use definition::Refusal;
+use load::load;
 use refusal::answer_numbers;
+ghost use mathlib.Core.Path.{_≡_};
 ghost use Prim.Native.Nat.{_<_};
+ghost use Rattle.definition.specs.Load.{lists};
+ghost use Rattle.load.specs.Call.{call};
+ghost use Rattle.console.specs.Call.{input-call};
 
 // The longest input that is taken.
 pub const LONGEST: usize = 16384;
@@ -121,6 +129,23 @@ pub fn put_refusal(out: &mut [u8], at: usize, answer: Answer) -> usize {
     end_row(out, r)
 }
 
+// Whether dump writes what load used, or load's refusal: a row.
+pub fn put_form(out: &mut [u8], at: usize, r: Loaded) -> usize {
+    let answer = r.answer;
+    let form = r.form;
+    match answer {
+        Answer::Accepted => put_yes_or_no(out, at, form),
+        Answer::Refused(q) => put_refusal(out, at, Answer::Refused(q)),
+    }
+}
+
+fn put_yes_or_no(out: &mut [u8], at: usize, b: bool) -> usize {
+    if b {
+        return put_all(out, at, b"yes\n");
+    }
+    put_all(out, at, b"no\n")
+}
+
 pub enum Input {
     Read(usize),
     Failed,
@@ -193,4 +218,39 @@ pub fn read_next(data: &mut [u8]) -> Input {
         return Input::Read(n);
     }
     Input::Failed
+}
+
+// An input loaded under the programs' limit, if it is not too long.
+pub fn load_input(
+    input: &[u8],
+    nodes: &mut [u32],
+    references: &mut [u32],
+    bytes: &mut [u8],
+    symbols: &mut [u32],
+    objects: &mut [u32],
+) -> Loaded
+    ensures { λ r. ⌜ call r (lists (now (nodes .exit)) (now (references .exit)) (now (bytes .exit)) (now (symbols .exit)) (now (objects .exit))) ≡ input-call (now (input .entry)) (lists (now (nodes .entry)) (now (references .entry)) (now (bytes .entry)) (now (symbols .entry)) (now (objects .entry))) ⌝ }
+{
+    if LONGEST < input.len() {
+        return Loaded {
+            answer: Answer::Refused(Refusal::NoSpace(8)),
+            counts: Counts {
+                nodes: 0,
+                references: 0,
+                bytes: 0,
+                root: 0,
+            },
+            used: 0,
+            form: false,
+        };
+    }
+    load(
+        &input[..],
+        nodes,
+        references,
+        bytes,
+        symbols,
+        objects,
+        LIMIT,
+    )
 }

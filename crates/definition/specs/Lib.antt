@@ -12,3 +12,4 @@ pub mod Build
 pub mod Graph
 pub mod Starred
 pub mod Floats
+pub mod DumpForm

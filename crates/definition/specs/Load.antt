@@ -1,15 +1,15 @@
--- What load answers and what it leaves in the tables: a reader over growing lists (01, "load"; 02, 2.1).
+-- What load answers and what it leaves in the tables: a reader over growing lists (01, "load"; 02, 2.1 and 2.2).
 use Prim.Native.Nat.{ℕ, zero, suc, _+_, _-_, _*_, _/_}
-use mathlib.Core.Bool.{Bool, true, false, _&&_}
+use mathlib.Core.Bool.{Bool, true, false, _&&_, _||_}
 use mathlib.Core.List.{List, [], _∷_, _++_}
 use mathlib.Core.Option.{Option, none, some}
 use lib.Dec.{ltb, leb, eqb}
 use lib.ListN.{length, getD, set, replicate}
-use Rattle.definition.specs.Run.{Run, Outcome, ok, refused, pure, refuse, next, _>>=_, look, pick}
-use Rattle.definition.specs.Integer.{Form, value as form-value, data-bytes, form, little}
+use Rattle.definition.specs.Run.{Run, Outcome, ok, refused, pure, refuse, _>>=_, look, pick}
+use Rattle.definition.specs.Integer.{Form, value as form-value, data-bytes, form, little, integer-bytes}
 use Rattle.definition.specs.Kind.{NIL, TRUE, FALSE, FIXNUM, SYMBOL, SYMBOL-LINK, OBJECT-LINK, INSTANCE-VARIABLES, ARRAY, HASH, HASH-DEFAULT, OBJECT, STRING, USER-DEFINED, FLOAT}
-use Rattle.definition.specs.Node.{Row, Vars, nil, bool, fixnum, symbol, array, hash, object, string, user, float, absent, present, width, flat}
-use Rattle.definition.specs.Arena.{Tables, range, too-long, bad-nodes, lowest, padded, zeroed, find-symbol}
+use Rattle.definition.specs.Node.{Row, nil, bool, fixnum, symbol, array, hash, object, string, user, float, absent, present, width, flat, equal}
+use Rattle.definition.specs.Arena.{range, too-long, bad-nodes, lowest, padded, zeroed, find-symbol}
 use Rattle.definition.specs.declared.Answer.the-variants.{Accepted, Refused}
 use Rattle.definition.specs.declared.Counts.{Counts}
 use Rattle.definition.specs.declared.Loaded.{Loaded}
@@ -24,7 +24,11 @@ pub record Room : Type 0 where
   pub symbols : ℕ
   pub objects : ℕ
 
--- the offset in the input, and what the tables and lists hold so far
+-- what load notes that no table holds: is all that was read so far as dump writes it?
+pub record Notes : Type 0 where
+  pub form : Bool
+
+-- the offset in the input, what the tables and lists hold so far, and what is noted
 pub record State : Type 0 where
   pub at : ℕ
   pub nodes : List Row
@@ -32,29 +36,42 @@ pub record State : Type 0 where
   pub bytes : List ℕ
   pub symbols : List ℕ
   pub objects : List ℕ
+  pub notes : Notes
 
 -- a step of load that gives an A
 abbrev pub Reader : Type 0 → Type 0
 Reader A = Run State A
 
--- a state with one part changed: the offset, the nodes, the references, the bytes, either list
+-- a state with one part changed: the offset, the nodes, the references, the bytes, either list, the notes
 abbrev pub at-set : ℕ → State → State
-at-set x s = record { at = x; nodes = s .nodes; references = s .references; bytes = s .bytes; symbols = s .symbols; objects = s .objects }
+at-set x s = record { at = x; nodes = s .nodes; references = s .references; bytes = s .bytes; symbols = s .symbols; objects = s .objects; notes = s .notes }
 
 abbrev pub nodes-set : List Row → State → State
-nodes-set x s = record { at = s .at; nodes = x; references = s .references; bytes = s .bytes; symbols = s .symbols; objects = s .objects }
+nodes-set x s = record { at = s .at; nodes = x; references = s .references; bytes = s .bytes; symbols = s .symbols; objects = s .objects; notes = s .notes }
 
 abbrev pub references-set : List ℕ → State → State
-references-set x s = record { at = s .at; nodes = s .nodes; references = x; bytes = s .bytes; symbols = s .symbols; objects = s .objects }
+references-set x s = record { at = s .at; nodes = s .nodes; references = x; bytes = s .bytes; symbols = s .symbols; objects = s .objects; notes = s .notes }
 
 abbrev pub bytes-set : List ℕ → State → State
-bytes-set x s = record { at = s .at; nodes = s .nodes; references = s .references; bytes = x; symbols = s .symbols; objects = s .objects }
+bytes-set x s = record { at = s .at; nodes = s .nodes; references = s .references; bytes = x; symbols = s .symbols; objects = s .objects; notes = s .notes }
 
 abbrev pub symbols-set : List ℕ → State → State
-symbols-set x s = record { at = s .at; nodes = s .nodes; references = s .references; bytes = s .bytes; symbols = x; objects = s .objects }
+symbols-set x s = record { at = s .at; nodes = s .nodes; references = s .references; bytes = s .bytes; symbols = x; objects = s .objects; notes = s .notes }
 
 abbrev pub objects-set : List ℕ → State → State
-objects-set x s = record { at = s .at; nodes = s .nodes; references = s .references; bytes = s .bytes; symbols = s .symbols; objects = x }
+objects-set x s = record { at = s .at; nodes = s .nodes; references = s .references; bytes = s .bytes; symbols = s .symbols; objects = x; notes = s .notes }
+
+abbrev pub notes-set : Notes → State → State
+notes-set x s = record { at = s .at; nodes = s .nodes; references = s .references; bytes = s .bytes; symbols = s .symbols; objects = s .objects; notes = x }
+
+-- ---- dump form
+
+-- as dump writes it so far, if the test holds too
+abbrev pub noted : Bool → State → State
+noted b s = notes-set (record { form = b && s .notes .form }) s
+
+unfoldable pub note : Bool → Reader (Unit {0})
+note b s = ok tt (noted b s)
 
 -- ---- the input
 
@@ -66,18 +83,22 @@ read-byte input s = pick (ltb (s .at) (length input)) (ok (getD input (s .at) 0)
 unfoldable pub read-bytes : List ℕ → ℕ → Reader (List ℕ)
 read-bytes input n s = pick (leb n (length input - s .at)) (ok (range input (s .at) n) (at-set (s .at + n) s)) (refused ShortInput)
 
--- "Header: both bytes are read, then major must be 4 and minor at most 8"
+-- "Header: both bytes are read, then major must be 4 and minor at most 8"; "a minor version under 8" is not dump's
 unfoldable pub read-header : List ℕ → Reader (Unit {0})
-read-header input = read-byte input >>= λ major. read-byte input >>= λ minor. pick (eqb major 4 && leb minor 8) (pure tt) (refuse (InvalidVersion major minor))
+read-header input = read-byte input >>= λ major. read-byte input >>= λ minor. pick (eqb major 4 && leb minor 8) (note (eqb minor 8)) (refuse (InvalidVersion major minor))
 
--- "Integer": after the first byte
-unfoldable pub read-form : List ℕ → Form → Reader ℕ
-read-form input (form-value w) = pure w
-read-form input (data-bytes n above) = read-bytes input n >>= λ bs. pure (little bs above)
+-- the word that an integer's bytes say; "The integer reader must therefore tell whether its form was the one dump writes"
+unfoldable pub tell : List ℕ → ℕ → Reader ℕ
+tell bs w s = ok w (noted (equal bs (integer-bytes w)) s)
+
+-- "Integer": after the first byte, which is given
+unfoldable pub read-form : List ℕ → ℕ → Form → Reader ℕ
+read-form input b (form-value w) = tell (b ∷ []) w
+read-form input b (data-bytes n above) = read-bytes input n >>= λ bs. tell (b ∷ bs) (little bs above)
 
 -- "Integer": the first byte and what it asks for
 unfoldable pub read-integer : List ℕ → Reader ℕ
-read-integer input = read-byte input >>= λ b. read-form input (form b)
+read-integer input = read-byte input >>= λ b. read-form input b (form b)
 
 -- a length, count or index; "negative is 6"
 unfoldable pub read-count : List ℕ → Reader ℕ
@@ -123,9 +144,9 @@ put-reference i v s = ok tt (references-set (set (s .references) i v) s)
 
 -- ---- symbols and links
 
--- "interned to the lowest symbol node with that name, else bytes then node are added"
+-- "interned to the lowest symbol node with that name, else bytes then node are added"; "A repeated `:` name" is not dump's
 unfoldable pub intern-as : Room → List ℕ → Option ℕ → Reader ℕ
-intern-as room name (some h) = pure h
+intern-as room name (some h) = note false >>= λ _. pure h
 intern-as room name none = add-bytes room name >>= λ start. add-node room (symbol start (length name))
 
 -- a name's node, searched in what there is so far
@@ -245,9 +266,13 @@ set-variables h start n (hash s m d) = refuse NotAnObject
 set-variables h start n (object s m c) = refuse NotAnObject
 set-variables h start n (float s l) = refuse NotAnObject
 
+-- dump writes `I` directly before `"` or `u`: "an `I` on `I` or on `@`" is not dump's, and on any other kind it is refused
+unfoldable pub takes-variables : ℕ → Bool
+takes-variables k = eqb k STRING || eqb k USER-DEFINED
+
 -- `I`: "a value, then a count, its reference words reserved, pairs of symbol-like name and value, then 10 unless .."
 unfoldable pub read-variables : List ℕ → Room → Reader ℕ → Reader ℕ
-read-variables input room inner = inner >>= λ h. read-instance-variables input room inner λ start n. look λ s. set-variables h start n (getD (s .nodes) h nil)
+read-variables input room inner = look λ s. note (takes-variables (getD input (s .at) 0)) >>= λ _. inner >>= λ h. read-instance-variables input room inner λ start n. look λ s. set-variables h start n (getD (s .nodes) h nil)
 
 -- a value after its kind byte; inner is a value one level deeper
 unfoldable pub value-of : List ℕ → Room → Reader ℕ → ℕ → Head → Reader ℕ
@@ -277,7 +302,7 @@ read-value input room limit (suc levels) = read-byte input >>= λ k. value-of in
 
 -- "Node 0 is nil, the first root, and stays"
 abbrev pub begin : State
-begin = record { at = 0; nodes = nil ∷ []; references = []; bytes = []; symbols = []; objects = [] }
+begin = record { at = 0; nodes = nil ∷ []; references = []; bytes = []; symbols = []; objects = []; notes = record { form = true } }
 
 -- the header and the root value
 unfoldable pub load : List ℕ → Room → ℕ → Outcome State ℕ
@@ -312,15 +337,15 @@ pub record LoadCall : Type 0 where
 abbrev pub counts : ℕ → ℕ → ℕ → ℕ → Counts
 counts n r b root = record { nodes = n; references = r; bytes = b; root = root }
 
--- "otherwise 1, 0, 0, 0 over zeroed tables; bytes used are then 0"; accepted: the lists laid out, then zeros, and "both lists are zero at the end"
+-- "otherwise 1, 0, 0, 0 over zeroed tables; bytes used are then 0", "A refused load says no"; accepted: the lists laid out, then zeros, and "both lists are zero at the end"
 unfoldable pub load-done : Lists → Outcome State ℕ → LoadCall
-load-done T (refused r) = record { answer = record { answer = Refused r; counts = counts 1 0 0 0; used = 0 }; lent = lists (zeroed (T .nodes)) (zeroed (T .references)) (zeroed (T .bytes)) (zeroed (T .symbols)) (zeroed (T .objects)) }
-load-done T (ok h s) = record { answer = record { answer = Accepted; counts = counts (length (s .nodes)) (length (s .references)) (length (s .bytes)) h; used = s .at }; lent = lists (padded (T .nodes) (flat (s .nodes))) (padded (T .references) (s .references)) (padded (T .bytes) (s .bytes)) (zeroed (T .symbols)) (zeroed (T .objects)) }
+load-done T (refused r) = record { answer = record { answer = Refused r; counts = counts 1 0 0 0; used = 0; form = false }; lent = lists (zeroed (T .nodes)) (zeroed (T .references)) (zeroed (T .bytes)) (zeroed (T .symbols)) (zeroed (T .objects)) }
+load-done T (ok h s) = record { answer = record { answer = Accepted; counts = counts (length (s .nodes)) (length (s .references)) (length (s .bytes)) h; used = s .at; form = s .notes .form }; lent = lists (padded (T .nodes) (flat (s .nodes))) (padded (T .references) (s .references)) (padded (T .bytes) (s .bytes)) (zeroed (T .symbols)) (zeroed (T .objects)) }
 
 -- "After 1, nothing is touched"; "A load refused with 1 returns counts 0, 0, 0, 0"
 unfoldable pub load-if : ℕ → List ℕ → Lists → ℕ → LoadCall
 load-if zero input T limit = load-done T (load input (room-of T) limit)
-load-if (suc slice) input T limit = record { answer = record { answer = Refused (BadTables (suc slice)); counts = counts 0 0 0 0; used = 0 }; lent = T }
+load-if (suc slice) input T limit = record { answer = record { answer = Refused (BadTables (suc slice)); counts = counts 0 0 0 0; used = 0; form = false }; lent = T }
 
 -- load's whole call
 unfoldable pub load-call : List ℕ → Lists → ℕ → LoadCall

@@ -1,5 +1,6 @@
--- What a reader answers: an input slice with an offset, from which it reads on (01, "Reader").
+-- What a reader answers: an input slice with an offset, from which it reads on (01, "Reader"; 02, 2.2).
 use Prim.Native.Nat.{ℕ, _+_, _-_}
+use mathlib.Core.Bool.{false}
 use mathlib.Core.List.{List}
 use lib.ListN.{length, drop}
 use Rattle.definition.specs.Run.{Outcome, ok, refused}
@@ -12,20 +13,20 @@ use Rattle.definition.specs.declared.Text.{Text}
 abbrev pub starting : ℕ → State
 starting offset = at-set offset begin
 
--- a value read from the offset given; "refused: it stays"
+-- a value read from the offset given, and whether its bytes are those that dump writes; "refused: it stays"
 unfoldable pub taken : ℕ → Outcome State ℕ → Taken
-taken offset (ok v s) = record { answer = Accepted; value = v; offset = s .at }
-taken offset (refused r) = record { answer = Refused r; value = 0; offset = offset }
+taken offset (ok v s) = record { answer = Accepted; value = v; offset = s .at; form = s .notes .form }
+taken offset (refused r) = record { answer = Refused r; value = 0; offset = offset; form = false }
 
 -- nothing to answer
 unfoldable pub passed : ℕ → Outcome State (Unit {0}) → Taken
-passed offset (ok v s) = record { answer = Accepted; value = 0; offset = s .at }
-passed offset (refused r) = record { answer = Refused r; value = 0; offset = offset }
+passed offset (ok v s) = record { answer = Accepted; value = 0; offset = s .at; form = s .notes .form }
+passed offset (refused r) = record { answer = Refused r; value = 0; offset = offset; form = false }
 
 -- bytes, which stand before the offset then
 unfoldable pub spanned : ℕ → Outcome State (List ℕ) → Text
-spanned offset (ok bs s) = record { answer = Accepted; start = s .at - length bs; length = length bs; offset = s .at }
-spanned offset (refused r) = record { answer = Refused r; start = 0; length = 0; offset = offset }
+spanned offset (ok bs s) = record { answer = Accepted; start = s .at - length bs; length = length bs; offset = s .at; form = s .notes .form }
+spanned offset (refused r) = record { answer = Refused r; start = 0; length = 0; offset = offset; form = false }
 
 -- the bytes left; "an offset past the end reads as nothing left"
 abbrev pub left : List ℕ → ℕ → ℕ

@@ -1,5 +1,6 @@
 -- The bytes that document 01 marks with a star, computed (01, "Bytes with known outcomes").
 use Prim.Native.Nat.{ℕ, _*_}
+use mathlib.Core.Bool.{Bool}
 use mathlib.Core.Path.{_≡_, refl}
 use mathlib.Core.List.{List, [], _∷_, map}
 use lib.Count.{leadingZeros}
@@ -23,7 +24,7 @@ said (ok w s) = signed w
 said (refused r) = pos 4294967296
 
 read : List ℕ → ℤ
-unfolding said signed L.read-integer L.read-form L.read-bytes L.read-byte A.range form little pure next _>>=_ pick
+unfolding said signed L.read-integer L.read-form L.tell L.read-bytes L.read-byte A.range N.equal form little integer-bytes low-bytes fewest leadingZeros pure next _>>=_ pick
 read bytes = said (L.read-integer bytes L.begin)
 
 abbrev integers : List (List ℕ × ℤ)
@@ -60,12 +61,17 @@ result c Accepted = dumped (take (c .answer .counts .nodes * N.width) (c .lent .
 result c (Refused r) = not-loaded (numbers r)
 
 call : List ℕ → L.LoadCall
-unfolding lent L.load-call L.load-if L.load-done L.load-wrong L.room-of L.load L.read-header L.read-value L.value-of L.read-variables L.set-variables L.read-float L.read-user-defined L.read-string L.read-text L.read-object L.read-hash L.read-default L.read-array L.read-fixnum L.read-instance-variables L.read-pairs L.read-elements L.counted L.read-symbol-like L.head L.read-object-link L.read-symbol-link L.entry L.read-symbol L.intern L.intern-as L.put-reference L.fill L.add-object-node L.add-object L.add-symbol L.add-bytes L.reserve L.add-node L.read-byte-string L.read-count L.read-integer L.read-form L.read-bytes L.read-byte A.find-symbol A.named A.name-of A.lowest A.bad-nodes A.too-long A.range A.zeroed A.padded N.equal N.flat N.words N.kind form little pure refuse next _>>=_ look pick
+unfolding lent L.load-call L.load-if L.load-done L.load-wrong L.room-of L.load L.read-header L.read-value L.value-of L.read-variables L.set-variables L.read-float L.read-user-defined L.read-string L.read-text L.read-object L.read-hash L.read-default L.read-array L.read-fixnum L.read-instance-variables L.read-pairs L.read-elements L.counted L.read-symbol-like L.head L.read-object-link L.read-symbol-link L.entry L.read-symbol L.intern L.intern-as L.put-reference L.fill L.add-object-node L.add-object L.add-symbol L.add-bytes L.reserve L.add-node L.read-byte-string L.read-count L.read-integer L.read-form L.tell L.read-bytes L.read-byte L.takes-variables L.note A.find-symbol A.named A.name-of A.lowest A.bad-nodes A.too-long A.range A.zeroed A.padded N.equal N.flat N.words N.kind form little integer-bytes low-bytes fewest leadingZeros pure refuse next _>>=_ look pick
 call input = L.load-call input lent 64
 
 unfoldable pub load-and-dump : List ℕ → Result
 unfolding result call
 load-and-dump input = result (call input) (call input .answer .answer)
+
+-- is the load's answer yes?
+unfoldable pub in-dump-form : List ℕ → Bool
+unfolding call
+in-dump-form input = call input .answer .form
 
 abbrev outcomes : List (List ℕ × Result)
 outcomes =

@@ -134,26 +134,30 @@ pub struct Counts {
     pub root: u32,
 }
 
-// load: the counts of the arena it filled, and the bytes of input used.
+// load: the counts of the arena it filled, the bytes of input used, and whether dump writes just these.
 pub struct Loaded {
     pub answer: Answer,
     pub counts: Counts,
     pub used: usize,
+    pub form: bool,
 }
 
-// A reader's byte, header or integer: its value, for the header 0, and the offset then.
+// A reader's byte, header or integer: its value, for the header 0, the offset then, and whether dump writes these bytes.
 pub struct Taken {
     pub answer: Answer,
     pub value: u32,
     pub offset: usize,
+    pub form: bool,
 }
 
-// A reader's byte string: where its bytes start in the input, how many they are, and the offset then.
+// A reader's byte string: where its bytes start in the input, how many they are, the offset then, and whether dump writes
+// its length so.
 pub struct Text {
     pub answer: Answer,
     pub start: usize,
     pub length: usize,
     pub offset: usize,
+    pub form: bool,
 }
 
 // dump: the number of bytes written.

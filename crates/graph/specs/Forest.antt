@@ -1,5 +1,6 @@
 -- Forests: what a dump says, and the nodes that it says it of.
-use Prim.Native.Nat.{ℕ, zero, suc, _+_, _*_, _<_}
+use Prim.Native.Nat.{ℕ, zero, suc, _+_, _*_, _≤_, _<_}
+use native.Mathlib.Omega.{arith}
 use mathlib.Core.Path.{_≡_}
 use mathlib.Core.Bool.{Bool, true, false}
 use mathlib.Core.List.{List, [], _∷_, _++_}
@@ -146,6 +147,10 @@ IsValue (name-pairs n) = ⊥
 pub data Texted : ℕ → ℕ → Type 0 where
   text-string : Texted STRING 7
   text-float : Texted FLOAT 9
+
+pub high-text : {k n : ℕ} → Texted k n → 7 ≤ n
+high-text text-string = omega arith
+high-text text-float = omega arith
 
 -- `Text m l g x`: the forest g has the shape that the mode asks, needs no more than l levels, and x is its bytes as dump writes them
 pub data Text : Mode → ℕ → F → List ℕ → Type 0 where

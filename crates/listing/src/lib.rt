@@ -3,6 +3,7 @@
 use console::LIMIT;
 use console::LONGEST;
 use console::end_row;
+use console::load_input;
 use console::put_number;
 use console::put_refusal;
 use definition::Answer;
@@ -10,7 +11,6 @@ use definition::Counts;
 use definition::Loaded;
 use definition::Node;
 use definition::Refusal;
-use load::load;
 use load::load_at;
 
 fn put_counts(out: &mut [u8], at: usize, counts: Counts, used: usize) -> usize {
@@ -142,18 +142,7 @@ pub fn put_listing(
     symbols: &mut [u32],
     objects: &mut [u32],
 ) -> usize {
-    if LONGEST < input.len() {
-        return put_refusal(out, at, Answer::Refused(Refusal::NoSpace(8)));
-    }
-    let r = load(
-        &input[..],
-        nodes,
-        references,
-        bytes,
-        symbols,
-        objects,
-        LIMIT,
-    );
+    let r = load_input(&input[..], nodes, references, bytes, symbols, objects);
     put_answer(out, at, r, nodes, references, bytes)
 }
 

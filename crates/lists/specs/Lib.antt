@@ -3,6 +3,7 @@ pub mod Lists
 pub mod Joined
 pub mod Ranges
 pub mod Words
+pub mod Integers
 pub mod Rows
 pub mod Tables
 pub mod Slices

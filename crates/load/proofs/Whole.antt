@@ -4,7 +4,7 @@ use native.Mathlib.Omega.{arith}
 use mathlib.Core.Path.{_≡_, refl, sym, ap, _∙_, subst}
 use mathlib.Core.Bool.{Bool, true, false}
 use mathlib.Core.List.{List, [], _∷_, _++_}
-use lib.Dec.{leb}
+use lib.Dec.{leb, eqb}
 use lib.ListN.{length, set, replicate, take, drop, length-drop, drop-of-length-le}
 use lib.Seq.{sets, take-all}
 use borrow.Author.Tests.{leb-true, leb-false}
@@ -19,7 +19,7 @@ use Rattle.definition.specs.declared.Answer.the-variants.{Accepted, Refused}
 use Rattle.lists.specs.Words.{length-flat}
 use Rattle.store.specs.Laws.{cleared, cleared-whole}
 use Rattle.reader.specs.Answers.{refusal-at}
-use Rattle.loader.specs.Holds.{Begins, Holds, Held, Meets, AllFit, Allowed, Names, find-listed, wrong, at-of, nodes-of, references-of, bytes-of}
+use Rattle.loader.specs.Holds.{Begins, Holds, Held, Meets, AllFit, Allowed, Names, find-listed, wrong, at-of, nodes-of, references-of, bytes-of, form-of}
 use Rattle.loader.proofs.Stores.{none, push, padded}
 use Rattle.value_reader.specs.Root.{whole}
 use Rattle.load.specs.Call.{call, loaded-as}
@@ -37,7 +37,7 @@ emptied t t₀ e l = e ∙ cleared-whole t ∙ ap (λ (n : ℕ). replicate n 0) 
 -- ---- the start
 
 abbrev pub first-counts : List ℕ
-first-counts = set (replicate 6 0) 1 1
+first-counts = set (replicate 7 0) 1 1
 
 first-fit : AllFit 0 (nil ∷ [])
 first-fit zero l = tt
@@ -73,6 +73,7 @@ module _ (input : List ℕ) (T : Lists) (F : Fine T) {no : List ℕ} (e : no ≡
     count-bytes = refl;
     count-symbols = refl;
     count-objects = refl;
+    form = refl;
     below = λ i l. absurd (omega arith);
     fit = first-fit;
     symbolic = λ i l. absurd (omega arith);
@@ -88,7 +89,7 @@ module _ (input : List ℕ) (T : Lists) (limit : ℕ) where
   abbrev bad : ℕ
   bad = wrong (length (T .nodes)) (length (T .references)) (length (T .bytes)) (length (T .symbols)) (length (T .objects)) limit (length input)
 
-  pub not-taken : (w : ℕ) {r : _} → r ≡ loaded-as (Refused (BadTables w)) 0 0 0 0 0 → w ≡ bad → (w ≡ 0 → ⊥) → call r T ≡ load-call input T limit
+  pub not-taken : (w : ℕ) {r : _} → r ≡ loaded-as (Refused (BadTables w)) 0 0 0 0 0 false → w ≡ bad → (w ≡ 0 → ⊥) → call r T ≡ load-call input T limit
   unfolding load-call load-wrong load-if
   not-taken zero q e n = absurd (n refl)
   not-taken (suc w) q e n = ap (λ r. call r T) q ∙ ap (λ (k : ℕ). load-if k input T limit) e
@@ -98,22 +99,22 @@ module _ (input : List ℕ) (T : Lists) (limit : ℕ) where
   taken w e z = ap (λ (k : ℕ). load-if k input T limit) (sym z ∙ e)
 
   module _ (w : ℕ) (e : w ≡ bad) (z : w ≡ 0) (F : Fine T) {no₁ : List ℕ} (first : no₁ ≡ sets (T .nodes) 0 (0 ∷ 0 ∷ 0 ∷ 0 ∷ 0 ∷ 0 ∷ 0 ∷ [])) {no re by sy ob c : List ℕ} {h : ℕ} (m : Meets input (room-of T) limit (whole input (room-of T) limit) (lists no₁ (T .references) (T .bytes) (T .symbols) (T .objects)) first-counts h (lists no re by sy ob) c) where
-    pub loaded : {no' re' by' sy' ob' : List ℕ} → h < 4294967296 → no' ≡ cleared (nodes-of c * 7) no → re' ≡ cleared (references-of c) re → by' ≡ cleared (bytes-of c) by → sy' ≡ zeroed (T .symbols) → ob' ≡ zeroed (T .objects) → call (loaded-as Accepted (nodes-of c) (references-of c) (bytes-of c) h (at-of c)) (lists no' re' by' sy' ob') ≡ load-call input T limit
+    pub loaded : {no' re' by' sy' ob' : List ℕ} → h < 4294967296 → no' ≡ cleared (nodes-of c * 7) no → re' ≡ cleared (references-of c) re → by' ≡ cleared (bytes-of c) by → sy' ≡ zeroed (T .symbols) → ob' ≡ zeroed (T .objects) → call (loaded-as Accepted (nodes-of c) (references-of c) (bytes-of c) h (at-of c) (eqb (form-of c) 0)) (lists no' re' by' sy' ob') ≡ load-call input T limit
     unfolding load load-done pure A.padded room-of
     loaded l p q r u v =
         let g = m .goes l .goes begin (begins input T F first) in
         let H = g .holds in
         let s = g .state in
         let a = padded (nodes-of c * 7) (H .nodes) (ap (λ (n : ℕ). n * 7) (H .count-nodes) ∙ sym (length-flat (s .nodes))) p ∙ ap (λ (n : ℕ). flat (s .nodes) ++ replicate (n - length (flat (s .nodes))) 0) (F .whole) in
-        (λ i. call (loaded-as Accepted (H .count-nodes i) (H .count-references i) (H .count-bytes i) h (H .count-at i)) (lists (a i) (padded (references-of c) (H .references) (H .count-references) q i) (padded (bytes-of c) (H .bytes) (H .count-bytes) r i) (u i) (v i)))
+        (λ i. call (loaded-as Accepted (H .count-nodes i) (H .count-references i) (H .count-bytes i) h (H .count-at i) (H .form i)) (lists (a i) (padded (references-of c) (H .references) (H .count-references) q i) (padded (bytes-of c) (H .bytes) (H .count-bytes) r i) (u i) (v i)))
         ∙ sym (ap (λ o. load-done T o) (g .same))
         ∙ taken w e z
 
-    pub load-refused : {T' : Lists} {q : Refusal} {r : _} → 4294967296 ≤ h → q ≡ refusal-at limit h → r ≡ loaded-as (Refused q) 1 0 0 0 0 → T' ≡ lists (zeroed (T .nodes)) (zeroed (T .references)) (zeroed (T .bytes)) (zeroed (T .symbols)) (zeroed (T .objects)) → call r T' ≡ load-call input T limit
+    pub load-refused : {T' : Lists} {q : Refusal} {r : _} → 4294967296 ≤ h → q ≡ refusal-at limit h → r ≡ loaded-as (Refused q) 1 0 0 0 0 false → T' ≡ lists (zeroed (T .nodes)) (zeroed (T .references)) (zeroed (T .bytes)) (zeroed (T .symbols)) (zeroed (T .objects)) → call r T' ≡ load-call input T limit
     unfolding load load-done
     load-refused {T'} {q} l k f t =
         (λ i. call (f i) (t i))
-        ∙ ap (λ x. call (loaded-as (Refused x) 1 0 0 0 0) (lists (zeroed (T .nodes)) (zeroed (T .references)) (zeroed (T .bytes)) (zeroed (T .symbols)) (zeroed (T .objects)))) k
+        ∙ ap (λ x. call (loaded-as (Refused x) 1 0 0 0 0 false) (lists (zeroed (T .nodes)) (zeroed (T .references)) (zeroed (T .bytes)) (zeroed (T .symbols)) (zeroed (T .objects)))) k
         ∙ sym (ap (λ o. load-done T o) (m .stops l .refuses begin (begins input T F first)))
         ∙ taken w e z
 

@@ -6,6 +6,7 @@ use definition::Node;
 use definition::Refusal;
 use loader::AT;
 use loader::BYTES;
+use loader::FORM;
 use loader::NODES;
 use loader::REFERENCES;
 use loader::wrong_slice;
@@ -18,15 +19,16 @@ use store::zero_bytes;
 use store::zero_words;
 use value_reader::read_root;
 ghost use mathlib.Core.Path.{_≡_};
+ghost use mathlib.Core.Bool.{false};
 ghost use Prim.Native.Nat.{_<_, _≤_};
 ghost use Rattle.definition.specs.Load.{lists, load-call};
 ghost use Rattle.definition.specs.Reader.{load-next};
 ghost use Rattle.definition.specs.declared.Answer.the-variants.{Refused};
 ghost use Rattle.load.specs.Call.{call, loaded-as};
 
-// The answer of a refused load: this node count, and zeros.
+// The answer of a refused load: this node count, zeros, and no.
 fn refused(q: Refusal, nodes: usize) -> Loaded
-    ensures { λ r. ⌜ r ≡ loaded-as (Refused q) nodes 0 0 0 0 ⌝ }
+    ensures { λ r. ⌜ r ≡ loaded-as (Refused q) nodes 0 0 0 0 false ⌝ }
 {
     Loaded {
         answer: Answer::Refused(q),
@@ -37,6 +39,7 @@ fn refused(q: Refusal, nodes: usize) -> Loaded
             root: 0,
         },
         used: 0,
+        form: false,
     }
 }
 
@@ -65,7 +68,7 @@ fn load_whole(
     if w != 0 {
         return refused(Refusal::BadTables(w), 0);
     }
-    let mut c = [0usize; 6];
+    let mut c = [0usize; 7];
     c[NODES] = 1;
     put_node(nodes, 0, Node::NIL, 0, 0, 0, 0, 0, 0);
     let h = read_root(
@@ -98,6 +101,7 @@ fn load_whole(
             root: h as u32,
         },
         used: c[AT],
+        form: c[FORM] == 0,
     }
 }
 

@@ -11,19 +11,19 @@ use native.Mathlib.Omega.{arith}
 use native.Mathlib.Nat.{mod-lt, pow-suc, mul-assoc}
 use native.Mathlib.Bridge.{le-by-compare, IsLe}
 use borrow.Author.Tests.{leb-true, leb-false}
-use Rattle.definition.specs.Run.{ok, pick, pure, _>>=_}
+use Rattle.definition.specs.Run.{ok, pick, _>>=_}
 use Rattle.definition.specs.Integer.{Form, value as form-value, data-bytes, form, little}
 use Rattle.definition.specs.Node.{Row, nil, fixnum, symbol}
 use Rattle.definition.specs.Arena.{range}
 use Rattle.definition.specs.Load as L
-use Rattle.definition.specs.Load.{State, Room, at-set, begin, load}
+use Rattle.definition.specs.Load.{State, Room, at-set, noted, begin, load}
 use Rattle.lists.specs.Lists.{At, at-snoc-inv, at-set-inv, apart, at-getD, Below, below-join}
 use Rattle.lists.specs.Ranges.{range-at, length-range-in}
 use Rattle.graph.specs.Forest.{Texted, text-string, text-float}
 use Rattle.graph.specs.View.{text-row}
-use Rattle.load_forest.specs.Trace.{Mode, Part, Plain, plain-nil, plain-bool, plain-fixnum, Trace, reading, reading-after, plain, known, new, symbol-link, object-link, list, hash-default, object-pairs, text-bytes, user-bytes, variables, no-elements, element, no-pairs, pair}
+use Rattle.load_forest.specs.Trace.{Mode, Part, Plain, plain-nil, plain-true, plain-false, plain-fixnum, Trace, reading, plain, known, new, symbol-link, object-link, list, hash-default, object-pairs, text-bytes, user-bytes, stored, variables, no-elements, element, no-pairs, pair}
 use Rattle.load_forest.specs.Readers.{load-traced, read-byte-then, read-bytes-then}
-use Rattle.states.specs.States.{with-node, with-symbol, with-object-node, with-bytes, with-word, with-row, with-room}
+use Rattle.states.specs.States.{read-to, with-node, with-symbol, with-object-node, with-bytes, with-word, with-row, with-room}
 use Rattle.states.specs.Rows.{list-length, Listed, is-array, is-hash, Varied, varied-string, varied-user}
 
 pub part-bytes : (input b : List ℕ) → Below 256 input → Part input b → Below 256 b
@@ -77,10 +77,10 @@ form-fits b h =
     (λ e₂. choose (leb b 251) _ _ (λ e. mod-lt (2 ^ 32 + b - 251) (omega arith))
     (λ e₃. let l = leb-false b 251 e₃ in ones-fit (b - 252) b (omega arith) (omega arith)))))
 
-form-below : (input : List ℕ) → Below 256 input → (f : Form) → Fits f → (s t : State) (w : ℕ) → L.read-form input f s ≡ ok w t → w < 4294967296
-unfolding L.read-form _>>=_ pure Fits
-form-below input h (form-value x) g s t w e = let z : x ≡ w = cc in omega arith
-form-below input h (data-bytes n above) g s t w e =
+form-below : (input : List ℕ) → Below 256 input → (b : ℕ) (f : Form) → Fits f → (s t : State) (w : ℕ) → L.read-form input b f s ≡ ok w t → w < 4294967296
+unfolding L.read-form L.tell _>>=_ Fits
+form-below input h b (form-value x) g s t w e = let z : x ≡ w = cc in omega arith
+form-below input h b (data-bytes n above) g s t w e =
     read-bytes-then input n s _ w t e λ l e₁.
     let bs = range input (s .at) n in
     let z : little bs above ≡ w = cc in
@@ -91,7 +91,7 @@ pub integer-below : (input : List ℕ) → Below 256 input → (s t : State) (w 
 unfolding L.read-integer _>>=_
 integer-below input h s t w e =
     read-byte-then input s _ w t e λ l e₁.
-    form-below input h (form (getD input (s .at) 0)) (form-fits _ (h (s .at) (getD input (s .at) 0) (at-getD input (s .at) 0 l))) (at-set (s .at + 1) s) t w e₁
+    form-below input h (getD input (s .at) 0) (form (getD input (s .at) 0)) (form-fits _ (h (s .at) (getD input (s .at) 0) (at-getD input (s .at) 0 l))) (at-set (s .at + 1) s) t w e₁
 
 -- ---- the arena
 
@@ -119,9 +119,10 @@ small-row i r s h x = record { fixnums = λ k w a. go k w (at-set-inv (s .nodes)
     go k w (inl a) = absurd (h w (psym (a .1)))
     go k w (inr a) = x .fixnums k w (a .1)
 
-plain-small : {input : List ℕ} → Below 256 input → (r : Row) → Plain input r → (w : ℕ) → r ≡ fixnum w → w < 4294967296
+plain-small : {input p : List ℕ} → Below 256 input → (r : Row) → Plain input p r → (w : ℕ) → r ≡ fixnum w → w < 4294967296
 plain-small h r plain-nil w e = apart (cc)
-plain-small h r (plain-bool b) w e = apart (cc)
+plain-small h r plain-true w e = apart (cc)
+plain-small h r plain-false w e = apart (cc)
 plain-small {input = input} h r (plain-fixnum v s t x) w e = let z : v ≡ w = cc in rw (← z) (integer-below input h s t v x)
 
 listed-no-fixnum : {p : ℕ} (r : Row) → Listed p r → (w : ℕ) → r ≡ fixnum w → ⊥
@@ -139,28 +140,29 @@ text-no-fixnum text-float a l w e = apart (cc)
 small-opened : (r : Row) (s : State) → ((w : ℕ) → r ≡ fixnum w → ⊥) → Small s → Small (with-object-node r s)
 small-opened r s h x = small-same (with-node r s) (with-object-node r s) refl refl (small-node r s (λ w e. absurd (h w e)) x)
 
-small : {input : List ℕ} {room : Room} {m : Mode} {s t : State} {vs : List ℕ} → Trace input room m s vs t → Below 256 input → Small s → Small t
-small {s = s} (reading k a b x) h y = small x h (small-same s (at-set k s) refl refl y)
-small (reading-after {t = t} k a b x) h y = small-same t (at-set k t) refl refl (small x h y)
+small : {input : List ℕ} {room : Room} {l : ℕ} {m : Mode} {p : List ℕ} {s t : State} {vs : List ℕ} → Trace input room l m p s vs t → Below 256 input → Small s → Small t
+small {s = s} (reading k n a x) h y = small x h (small-same s (read-to k n s) refl refl y)
 small {s = s} (plain r p l) h y = small-node r s (plain-small h r p) y
-small {s = s} (known b v o a l) h y = small-same s (with-symbol v s) refl refl y
-small {input = input} {s = s} {t = t} (new b o n p l₁ l₂ l₃) h y =
+small {s = s} (known b v o a l) h y = small-same s (with-symbol v (noted false s)) refl refl y
+small {input = input} {s = s} {t = t} (new b e o n p l₁ l₂ l₃) h y =
     let r = symbol (length (s .bytes)) (length b) in
     small-same (with-node r (with-bytes b s)) t refl refl (small-node r (with-bytes b s) (λ w e. apart (cc)) (small-bytes b s (part-bytes input b h p) y))
-small (symbol-link i v o a) h y = y
-small (object-link i v a) h y = y
-small {s = s} (list {t = t} r q l₁ l₂ l₃ x) h y =
+small (symbol-link i v e o a) h y = y
+small (object-link i v e a) h y = y
+small {s = s} (list {t = t} r q e l₁ l₂ l₃ x) h y =
     let s₁ = with-object-node nil s in
     small-row (length (s .nodes)) r t (listed-no-fixnum r q) (small x h (small-same s₁ (with-room (list-length r) s₁) refl refl (small-opened nil s (λ w e. apart (cc)) y)))
-small {s = s} (hash-default {u = u} n l₁ l₂ l₃ x z) h y =
+small {s = s} (hash-default {u = u} n e l₁ l₂ l₃ x z) h y =
     let s₁ = with-object-node nil s in
     small-row (length (s .nodes)) _ u (λ w e. apart (cc)) (small z h (small x h (small-same s₁ (with-room (n * 2) s₁) refl refl (small-opened nil s (λ w e. apart (cc)) y))))
-small {s = s} (object-pairs {t = t} {u = u} n l₁ l₂ x l₃ z) h y =
-    small-row (length (s .nodes)) _ u (λ w e. apart (cc)) (small z h (small-same t (with-room (n * 2) t) refl refl (small x h (small-opened nil s (λ w e. apart (cc)) y))))
-small {input = input} {s = s} (text-bytes q b p l₁ l₂ l₃) h y = small-opened _ (with-bytes b s) (text-no-fixnum q _ _) (small-bytes b s (part-bytes input b h p) y)
-small {input = input} (user-bytes {t = t} b x p l₁ l₂ l₃) h y = small-opened _ (with-bytes b t) (λ w e. apart (cc)) (small-bytes b t (part-bytes input b h p) (small x h y))
-small (variables {t = t} {u = u} {h = v} {r = r} {r′ = r′} n x l z a q) h y =
-    small-row v r′ u (varied-no-fixnum r r′ q) (small z h (small-same t (with-room (n * 2) t) refl refl (small x h y)))
+small {s = s} (object-pairs {t = t} {u = u} n k a e l₁ l₂ x b l₃ z) h y =
+    small-row (length (s .nodes)) _ u (λ w e. apart (cc)) (small z h (small-same t (with-room (n * 2) (read-to k a t)) refl refl (small x h (small-opened nil s (λ w e. apart (cc)) y))))
+small {input = input} {s = s} (text-bytes q b e p l₁ l₂ l₃) h y = small-opened _ (with-bytes b s) (text-no-fixnum q _ _) (small-bytes b s (part-bytes input b h p) y)
+small {input = input} (user-bytes {t = t} b k a e x d p l₁ l₂ l₃) h y =
+    small-opened _ (with-bytes b (read-to k a t)) (λ w e. apart (cc)) (small-bytes b (read-to k a t) (part-bytes input b h p) (small-same t (read-to k a t) refl refl (small x h y)))
+small (stored x) h y = small x h y
+small (variables {t = t} {u = u} {h = v} {r = r} {r′ = r′} n k a e i x b l z c q) h y =
+    small-row v r′ u (varied-no-fixnum r r′ q) (small z h (small-same t (with-room (n * 2) (read-to k a t)) refl refl (small x h y)))
 small no-elements h y = y
 small (element {t = t} {i = i} {v = v} x z) h y = small z h (small-same t (with-word i v t) refl refl (small x h y))
 small no-pairs h y = y
@@ -174,4 +176,4 @@ begin-small = record { fixnums = λ i w a. one i w a; bytes = λ k v a. apart (c
     one (suc i) w a = apart (cc)
 
 pub load-small : (input : List ℕ) (room : Room) (limit h : ℕ) (s : State) → Below 256 input → load input room limit ≡ ok h s → Small s
-load-small input room limit h s b e = small (load-traced input room limit s h e) b begin-small
+load-small input room limit h s b e = small (load-traced input room limit s h e .trace) b (small-same begin _ refl refl begin-small)

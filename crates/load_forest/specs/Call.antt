@@ -12,7 +12,7 @@ use borrow.Author.Tests.{ltb-false}
 use Rattle.definition.specs.Run.{Outcome, ok, refused, pick}
 use Rattle.definition.specs.Node.{Row, nil, bool, fixnum, symbol, array, hash, object, string, user, float, absent, present, width, words, flat, vars, row-of, row, rows, is-row}
 use Rattle.definition.specs.Arena.{Tables, Arena, arena, padded, zeroed, row-right, node-right, counts-fit, faulty, fault}
-use Rattle.definition.specs.Load.{State, Room, Lists, lists, room-of, load, load-wrong, LoadCall, counts, load-done, load-if, load-call, at-set}
+use Rattle.definition.specs.Load.{State, Room, Lists, lists, room-of, load, load-wrong, LoadCall, counts, load-done, load-if, load-call}
 use Rattle.definition.specs.declared.Answer.the-variants.{Accepted, Refused}
 use Rattle.definition.specs.declared.Counts.{Counts}
 use Rattle.definition.specs.declared.Refusal.{Refusal}
@@ -21,7 +21,7 @@ use Rattle.lists.specs.Lists.{At, apart}
 use Rattle.lists.specs.Words.{equal-self, length-words, length-flat}
 use Rattle.lists.specs.Tables.{counts-fit-yes, fault-none}
 use Rattle.graph.specs.View.{arena-of}
-use Rattle.load_forest.specs.Trace.{Mode, Trace, reading, reading-after, plain, known, new, symbol-link, object-link, list, hash-default, object-pairs, text-bytes, user-bytes, variables, no-elements, element, no-pairs, pair}
+use Rattle.load_forest.specs.Trace.{forwards}
 use Rattle.load_forest.specs.Readers.{load-traced}
 use Rattle.load_forest.specs.Right.{LoadRight, load-right}
 use Rattle.load_forest.specs.Space.{Within, load-within}
@@ -69,56 +69,11 @@ faulty-none A (r ∷ rs) i x h =
     rw (append-assoc (words r) (flat rs) x, take-words r (flat rs ++ x), drop-words r (flat rs ++ x), is-row-words r, row-words-back r, h 0 r refl)
     (faulty-none A rs (suc i) x (λ k q e. h (suc k) q e))
 
--- ---- the input is read forwards, and not past its end
-
-record Forwards (input : List ℕ) (s t : State) : Type 0 where
-  on : s .at ≤ t .at
-  ends : s .at ≤ length input → t .at ≤ length input
-
-forwards-refl : (input : List ℕ) (s t : State) → t .at ≡ s .at → Forwards input s t
-forwards-refl input s t e = record { on = omega arith; ends = λ h. omega arith }
-
-forwards-trans : {input : List ℕ} {s t u : State} → Forwards input s t → Forwards input t u → Forwards input s u
-forwards-trans x y = record { on = omega (arith, x .on, y .on); ends = λ h. y .ends (x .ends h) }
-
-forwards-to : (input : List ℕ) (k : ℕ) (s : State) → s .at ≤ k → k ≤ length input → Forwards input s (at-set k s)
-forwards-to input k s a b = record { on = a; ends = λ h. b }
-
-forwards : {input : List ℕ} {room : Room} {m : Mode} {s t : State} {vs : List ℕ} → Trace input room m s vs t → Forwards input s t
-forwards {input = input} {s = s} (reading k a b x) = forwards-trans (forwards-to input k s a b) (forwards x)
-forwards {input = input} (reading-after {t = t} k a b x) = forwards-trans (forwards x) (forwards-to input k t a b)
-forwards {input = input} {s = s} {t = t} (plain r p l) = forwards-refl input s t refl
-forwards {input = input} {s = s} {t = t} (known b h o a l) = forwards-refl input s t refl
-forwards {input = input} {s = s} {t = t} (new b o n p l₁ l₂ l₃) = forwards-refl input s t refl
-forwards {input = input} {s = s} {t = t} (symbol-link i h o a) = forwards-refl input s t refl
-forwards {input = input} {s = s} {t = t} (object-link i h a) = forwards-refl input s t refl
-forwards (list r q l₁ l₂ l₃ x) = let f = forwards x in record { on = f .on; ends = f .ends }
-forwards (hash-default n l₁ l₂ l₃ x y) = let f = forwards-trans (forwards x) (forwards y) in record { on = f .on; ends = f .ends }
-forwards {input = input} {s = s} (object-pairs {t = t} n l₁ l₂ x l₃ y) =
-    let f = forwards x in
-    let g = forwards y in
-    record { on = omega (arith, f .on, g .on); ends = λ h. g .ends (f .ends h) }
-forwards {input = input} {s = s} {t = t} (text-bytes q b p l₁ l₂ l₃) = forwards-refl input s t refl
-forwards {input = input} {t = t} (user-bytes {t = u} b x p l₁ l₂ l₃) = forwards-trans (forwards x) (forwards-refl input u t refl)
-forwards (variables n x l y a q) =
-    let f = forwards x in
-    let g = forwards y in
-    record { on = omega (arith, f .on, g .on); ends = λ h. g .ends (f .ends h) }
-forwards {input = input} {s = s} no-elements = forwards-refl input s s refl
-forwards (element x y) =
-    let f = forwards x in
-    let g = forwards y in
-    record { on = omega (arith, f .on, g .on); ends = λ h. g .ends (f .ends h) }
-forwards {input = input} {s = s} no-pairs = forwards-refl input s s refl
-forwards (pair x y z) =
-    let f = forwards x in
-    let g = forwards y in
-    let k = forwards z in
-    record { on = omega (arith, f .on, g .on, k .on); ends = λ h. k .ends (g .ends (f .ends h)) }
-
 -- the bytes used are bytes of the input
 pub load-used : (input : List ℕ) (room : Room) (limit h : ℕ) (s : State) → load input room limit ≡ ok h s → s .at ≤ length input
-load-used input room limit h s e = forwards (load-traced input room limit s h e) .ends (omega arith)
+load-used input room limit h s e =
+    let x = load-traced input room limit s h e in
+    forwards (x .trace) .ends (x .header .inside (omega arith))
 
 -- ---- what is lent is allowed
 
@@ -161,7 +116,7 @@ pub record AcceptedLoad (input : List ℕ) (T : Lists) (limit : ℕ) : Type 0 wh
   pub root : ℕ
   pub state : State
   pub loads : load input (room-of T) limit ≡ ok root state
-  pub answered : load-call input T limit .answer ≡ record { answer = Accepted; counts = counts (length (state .nodes)) (length (state .references)) (length (state .bytes)) root; used = state .at }
+  pub answered : load-call input T limit .answer ≡ record { answer = Accepted; counts = counts (length (state .nodes)) (length (state .references)) (length (state .bytes)) root; used = state .at; form = state .notes .form }
   pub left : load-call input T limit .lent ≡ lists (padded (T .nodes) (flat (state .nodes))) (padded (T .references) (state .references)) (padded (T .bytes) (state .bytes)) (zeroed (T .symbols)) (zeroed (T .objects))
 
 no-accept : {A : Type 0} (r : Refusal) → Refused r ≡ Accepted → A

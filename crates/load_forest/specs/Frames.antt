@@ -2,24 +2,26 @@
 use Prim.Native.Nat.{ℕ, suc, _+_, _*_, _≤_}
 use mathlib.Core.Path.{_≡_, subst}
 use mathlib.Core.Path.{sym as psym}
+use mathlib.Core.Bool.{false}
 use mathlib.Core.Logic.{inl}
 use mathlib.Core.List.{List, [], _∷_}
 use lib.ListN.{length, set, replicate, length-append, length-set, length-replicate}
 use native.Mathlib.Omega.{arith}
 use Rattle.definition.specs.Node.{Row, nil, hash, object, user, absent}
 use Rattle.definition.specs.Arena.{range}
-use Rattle.definition.specs.Load.{State, Room, at-set}
+use Rattle.definition.specs.Load.{State, Notes, Room, noted}
 use Rattle.lists.specs.Lists.{At}
 use Rattle.lists.specs.Ranges.{range-none}
 use Rattle.graph.specs.Forest.{Texted}
 use Rattle.graph.specs.View.{text-row}
-use Rattle.load_forest.specs.Trace.{Mode, value, name, elements, pairs, One, Plain, plain-nil, plain-bool, plain-fixnum, Trace, reading, reading-after, plain, known, new, symbol-link, object-link, list, hash-default, object-pairs, text-bytes, user-bytes, variables, no-elements, element, no-pairs, pair}
+use Rattle.load_forest.specs.Trace.{Mode, value, text, name, elements, pairs, One, as-value, as-name, Plain, plain-nil, plain-true, plain-false, plain-fixnum, Inner, inner-text, inner-value, Trace, reading, plain, known, new, symbol-link, object-link, list, hash-default, object-pairs, text-bytes, user-bytes, stored, variables, no-elements, element, no-pairs, pair}
 use Rattle.states.specs.Rows.{list-length, Listed, Varied}
-use Rattle.states.specs.States.{ranged-stored, frame-stored, Inside, Ranged, Free, Above, Frame, with-node, with-symbol, with-object-node, with-bytes, with-word, with-row, ranged-node, ranged-row, ranged-words, ranged-word, inside-nil, inside-bool, inside-fixnum, frame-refl, frame-trans, frame-below, frame-at-set, frame-symbol, frame-words, frame-word, frame-node, frame-row, free-new, free-part, range-written, with-room, inside-text, inside-user, inside-listed, inside-hash, inside-object, inside-varied, opened-ranged, above-nil, above-text, above-user, above-listed, above-hash, above-object, above-varied, with-new-symbol, ranged-new-symbol, above-bool, above-fixnum, frame-new-symbol, frame-opened}
+use Rattle.states.specs.States.{read-to, ranged-stored, frame-stored, Inside, Ranged, Free, Above, Frame, with-node, with-symbol, with-object-node, with-bytes, with-word, with-row, ranged-node, ranged-row, ranged-words, ranged-word, inside-nil, inside-bool, inside-fixnum, frame-refl, frame-trans, frame-below, frame-read-to, frame-symbol, frame-words, frame-word, frame-node, frame-row, free-new, free-part, range-written, with-room, inside-text, inside-user, inside-listed, inside-hash, inside-object, inside-varied, opened-ranged, above-nil, above-text, above-user, above-listed, above-hash, above-object, above-varied, with-new-symbol, ranged-new-symbol, above-bool, above-fixnum, frame-new-symbol, frame-opened}
 
 -- the word from which on a read may write, where n words are used so far
 abbrev pub from : Mode → ℕ → ℕ
 from value n = n
+from text n = n
 from name n = n
 from (elements m i) n = i
 from (pairs m i) n = i
@@ -27,6 +29,7 @@ from (pairs m i) n = i
 -- the words that it is to fill there
 abbrev pub slots : Mode → ℕ
 slots value = 0
+slots text = 0
 slots name = 0
 slots (elements n i) = n
 slots (pairs n i) = n * 2
@@ -40,6 +43,7 @@ pub record Ready (m : Mode) (s : State) : Type 0 where
 -- the words filled hold what was read
 abbrev pub Words : Mode → State → List ℕ → Type 0
 Words value t vs = Unit {0}
+Words text t vs = Unit {0}
 Words name t vs = Unit {0}
 Words (elements n i) t vs = range (t .references) i n ≡ vs
 Words (pairs n i) t vs = range (t .references) i (n * 2) ≡ vs
@@ -57,6 +61,14 @@ ready-value s h = record { ranged = h; fits = omega arith; free = λ i r e. inl 
 pub ready-name : (s : State) → Ranged s → Ready name s
 ready-name s h = record { ranged = h; fits = omega arith; free = λ i r e. inl (h i r e .list-inside) }
 
+-- a byte string is read as a value is
+pub ready-text : {s : State} → Ready value s → Ready text s
+ready-text h = record { ranged = h .ranged; fits = h .fits; free = h .free }
+
+pub ready-inner : {m : Mode} {s t : State} → Inner t m → Ready value s → Ready m s
+ready-inner inner-text h = ready-text h
+ready-inner (inner-value o) h = h
+
 -- n words just reserved
 pub ready-elements : (n : ℕ) (s : State) → Ranged s → Ready (elements n (length (s .references))) (with-room n s)
 ready-elements n s h = record {
@@ -70,62 +82,57 @@ ready-pairs n s h = let r = ready-elements (n * 2) s h in record { ranged = r .r
 
 -- ---- rows
 
-inside-plain : {input : List ℕ} (s : State) (r : Row) → Plain input r → Inside s r
+inside-plain : {input p : List ℕ} (s : State) (r : Row) → Plain input p r → Inside s r
 inside-plain s r plain-nil = inside-nil s
-inside-plain s r (plain-bool b) = inside-bool b s
+inside-plain s r plain-true = inside-bool _ s
+inside-plain s r plain-false = inside-bool _ s
 inside-plain s r (plain-fixnum w u t e) = inside-fixnum w s
 
-above-plain : {input : List ℕ} (p : ℕ) (r : Row) → Plain input r → Above p r
+above-plain : {input q : List ℕ} (p : ℕ) (r : Row) → Plain input q r → Above p r
 above-plain p r plain-nil = above-nil p
-above-plain p r (plain-bool b) = above-bool p b
+above-plain p r plain-true = above-bool p _
+above-plain p r plain-false = above-bool p _
 above-plain p r (plain-fixnum w u t e) = above-fixnum p w
 
 -- ---- the steps
 
-pub ready-reading : (m : Mode) (s : State) (k : ℕ) → Ready m s → Ready m (at-set k s)
-ready-reading m s k h = record { ranged = h .ranged; fits = h .fits; free = h .free }
+pub ready-reading : (m : Mode) (s : State) (k : ℕ) (n : Notes) → Ready m s → Ready m (read-to k n s)
+ready-reading m s k n h = record { ranged = h .ranged; fits = h .fits; free = h .free }
 
-left-reading : (m : Mode) (s t : State) (vs : List ℕ) (k : ℕ) → Left m (at-set k s) vs t → Left m s vs t
-left-reading m s t vs k h = record { ranged = h .ranged; frame = frame-trans (frame-at-set (from m (length (s .references))) k s) (h .frame); words = h .words }
+left-reading : (m : Mode) (s t : State) (vs : List ℕ) (k : ℕ) (n : Notes) → Left m (read-to k n s) vs t → Left m s vs t
+left-reading m s t vs k n h = record { ranged = h .ranged; frame = frame-trans (frame-read-to (from m (length (s .references))) k n s) (h .frame); words = h .words }
 
-words-at-set : (m : Mode) (t : State) (vs : List ℕ) (k : ℕ) → Words m t vs → Words m (at-set k t) vs
-words-at-set value t vs k h = h
-words-at-set name t vs k h = h
-words-at-set (elements n i) t vs k h = h
-words-at-set (pairs n i) t vs k h = h
+-- a name or a value was read, and then more of the input
+left-then : (s t : State) (vs : List ℕ) (k : ℕ) (n : Notes) → Left name s vs t → Left name s vs (read-to k n t)
+left-then s t vs k n h = record { ranged = h .ranged; frame = frame-trans (h .frame) (frame-read-to (length (s .references)) k n t); words = tt }
 
-left-reading-after : (m : Mode) (s t : State) (vs : List ℕ) (k : ℕ) → Left m s vs t → Left m s vs (at-set k t)
-left-reading-after m s t vs k h = record {
-  ranged = h .ranged;
-  frame = frame-trans (h .frame) (frame-at-set (from m (length (s .references))) k t);
-  words = words-at-set m t vs k (h .words);
-}
+left-inner : {m : Mode} (s t : State) (vs : List ℕ) (k : ℕ) (n : Notes) → Inner t m → Left m s vs t → Left value s vs (read-to k n t)
+left-inner s t vs k n inner-text h = record { ranged = h .ranged; frame = frame-trans (h .frame) (frame-read-to (length (s .references)) k n t); words = tt }
+left-inner s t vs k n (inner-value o) h = record { ranged = h .ranged; frame = frame-trans (h .frame) (frame-read-to (length (s .references)) k n t); words = tt }
 
-left-plain : {input : List ℕ} (s : State) (r : Row) (vs : List ℕ) → Plain input r → Ready value s → Left value s vs (with-node r s)
+left-plain : {input p : List ℕ} (s : State) (r : Row) (vs : List ℕ) → Plain input p r → Ready value s → Left value s vs (with-node r s)
 left-plain s r vs p h = record { ranged = ranged-node r s (inside-plain s r p) (h .ranged); frame = frame-node (length (s .references)) r s (above-plain _ r p); words = tt }
 
-one-words : (m : Mode) → One m → (t : State) (vs : List ℕ) → Words m t vs
-one-words value o t vs = tt
-one-words name o t vs = tt
-one-words (elements n i) o t vs = absurd o
-one-words (pairs n i) o t vs = absurd o
+one-words : {l : ℕ} {m : Mode} → One l m → (t : State) (vs : List ℕ) → Words m t vs
+one-words as-value t vs = tt
+one-words as-name t vs = tt
 
-left-known : (m : Mode) → One m → (s : State) (h : ℕ) (vs : List ℕ) → Ready m s → Left m s vs (with-symbol h s)
+left-known : {l : ℕ} (m : Mode) → One l m → (s : State) (h : ℕ) (vs : List ℕ) → Ready m s → Left m s vs (with-symbol h (noted false s))
 left-known m o s h vs x = record {
   ranged = x .ranged;
-  frame = frame-symbol _ h s;
-  words = one-words m o (with-symbol h s) vs;
+  frame = frame-trans (frame-read-to _ (s .at) _ s) (frame-symbol _ h (noted false s));
+  words = one-words o (with-symbol h (noted false s)) vs;
 }
 
-left-new : (m : Mode) → One m → (s : State) (b vs : List ℕ) → Ready m s → Left m s vs (with-new-symbol b s)
+left-new : {l : ℕ} (m : Mode) → One l m → (s : State) (b vs : List ℕ) → Ready m s → Left m s vs (with-new-symbol b s)
 left-new m o s b vs x = record {
   ranged = ranged-new-symbol b s (x .ranged);
   frame = frame-new-symbol _ b s;
-  words = one-words m o (with-new-symbol b s) vs;
+  words = one-words o (with-new-symbol b s) vs;
 }
 
-left-same : (m : Mode) → One m → (s : State) (vs : List ℕ) → Ready m s → Left m s vs s
-left-same m o s vs x = record { ranged = x .ranged; frame = frame-refl _ s; words = one-words m o s vs }
+left-same : {l : ℕ} (m : Mode) → One l m → (s : State) (vs : List ℕ) → Ready m s → Left m s vs s
+left-same m o s vs x = record { ranged = x .ranged; frame = frame-refl _ s; words = one-words o s vs }
 
 -- a node opened as nil, and words reserved
 opened-frame : (n : ℕ) (s : State) → Frame (length (s .references)) s (with-room n (with-object-node nil s))
@@ -180,14 +187,14 @@ left-object s t u n c ns ms vs h x y z =
       words = tt;
     }
 
-left-text : {k n : ℕ} (q : Texted k n) (s : State) (b vs : List ℕ) → Ready value s → Left value s vs (with-object-node (text-row q (length (s .bytes)) (length b)) (with-bytes b s))
+left-text : {k n : ℕ} (q : Texted k n) (s : State) (b vs : List ℕ) → Ready text s → Left text s vs (with-object-node (text-row q (length (s .bytes)) (length b)) (with-bytes b s))
 left-text q s b vs x = record {
   ranged = ranged-stored _ b s (inside-text q (with-bytes b s) (length (s .bytes)) (length b) (omega (arith, length-append (s .bytes) b))) (x .ranged);
   frame = frame-stored _ _ b s (above-text q _ (length (s .bytes)) (length b));
   words = tt;
 }
 
-left-user : (s t : State) (c : ℕ) (b ns vs : List ℕ) → Left name s ns t → Left value s vs (with-object-node (user (length (t .bytes)) (length b) c absent) (with-bytes b t))
+left-user : (s t : State) (c : ℕ) (b ns vs : List ℕ) → Left name s ns t → Left text s vs (with-object-node (user (length (t .bytes)) (length b) c absent) (with-bytes b t))
 left-user s t c b ns vs y = record {
   ranged = ranged-stored _ b t (inside-user (with-bytes b t) (length (t .bytes)) (length b) c (omega (arith, length-append (t .bytes) b))) (y .ranged);
   frame = frame-trans (y .frame) (frame-stored _ _ b t (above-user _ (length (t .bytes)) (length b) c));
@@ -264,26 +271,26 @@ left-pair n i c v s t u w ns us vs x y₁ y₂ z =
 
 -- ---- any trace
 
-pub left : {input : List ℕ} {room : Room} {m : Mode} {s t : State} {vs : List ℕ} → Trace input room m s vs t → Ready m s → Left m s vs t
-left {m = m} {s = s} {t = t} {vs = vs} (reading k a b x) h = left-reading m s t vs k (left x (ready-reading m s k h))
-left {m = m} {s = s} {vs = vs} (reading-after {t = t} k a b x) h = left-reading-after m s t vs k (left x h)
+pub left : {input : List ℕ} {room : Room} {l : ℕ} {m : Mode} {p : List ℕ} {s t : State} {vs : List ℕ} → Trace input room l m p s vs t → Ready m s → Left m s vs t
+left {m = m} {s = s} {t = t} {vs = vs} (reading k n a x) h = left-reading m s t vs k n (left x (ready-reading m s k n h))
 left {s = s} {vs = vs} (plain r p l) h = left-plain s r vs p h
 left {m = m} {s = s} {vs = vs} (known b v o a l) h = left-known m o s v vs h
-left {m = m} {s = s} {vs = vs} (new b o n p l₁ l₂ l₃) h = left-new m o s b vs h
-left {m = m} {s = s} {vs = vs} (symbol-link i v o a) h = left-same m o s vs h
-left {m = m} {s = s} {vs = vs} (object-link i v a) h = left-same value tt s vs h
-left {s = s} {vs = vs} (list {t = t} {ms = ms} r q l₁ l₂ l₃ x) h = left-list s t r ms vs (length (s .nodes)) q h (left x (ready-opened (list-length r) s (h .ranged)))
-left {s = s} {vs = vs} (hash-default {t = t} {u = u} {ms = ms} {d = d} n l₁ l₂ l₃ x y) h =
+left {m = m} {s = s} {vs = vs} (new b e o n p l₁ l₂ l₃) h = left-new m o s b vs h
+left {m = m} {s = s} {vs = vs} (symbol-link i v e o a) h = left-same m o s vs h
+left {l = l} {s = s} {vs = vs} (object-link i v e a) h = left-same {l = l} value as-value s vs h
+left {s = s} {vs = vs} (list {t = t} {ms = ms} r q e l₁ l₂ l₃ x) h = left-list s t r ms vs (length (s .nodes)) q h (left x (ready-opened (list-length r) s (h .ranged)))
+left {s = s} {vs = vs} (hash-default {t = t} {u = u} {ms = ms} {d = d} n e l₁ l₂ l₃ x y) h =
     let z = left x (ready-opened (n * 2) s (h .ranged)) in
     left-hash-default s t u n d ms (d ∷ []) vs (length (s .nodes)) h z (left y (ready-value t (z .ranged)))
-left {s = s} {vs = vs} (object-pairs {t = t} {u = u} {ms = ms} {c = c} n l₁ l₂ x l₃ y) h =
+left {s = s} {vs = vs} (object-pairs {t = t} {u = u} {ms = ms} {c = c} n k a e l₁ l₂ x b l₃ y) h =
     let z = left x (ready-name (with-object-node nil s) (opened-ranged s (h .ranged))) in
-    left-object s t u n c (c ∷ []) ms vs (length (s .nodes)) h z (left y (ready-pairs n t (z .ranged)))
-left {s = s} {vs = vs} (text-bytes q b p l₁ l₂ l₃) h = left-text q s b vs h
-left {s = s} {vs = vs} (user-bytes {t = t} {c = c} b x p l₁ l₂ l₃) h = left-user s t c b (c ∷ []) vs (left x (ready-name s (h .ranged)))
-left {s = s} {vs = vs} (variables {t = t} {u = u} {ms = ms} {h = v} {r = r} {r′ = r′} n x l y a q) h =
-    let z = left x h in
-    left-variables s t u n v r r′ (v ∷ []) ms vs z (left y (ready-pairs n t (z .ranged))) a q
+    left-object s (read-to k a t) u n c (c ∷ []) ms vs (length (s .nodes)) h (left-then _ t (c ∷ []) k a z) (left y (ready-pairs n (read-to k a t) (z .ranged)))
+left {s = s} {vs = vs} (text-bytes q b e p l₁ l₂ l₃) h = left-text q s b vs h
+left {s = s} {vs = vs} (user-bytes {t = t} {c = c} b k a e x d p l₁ l₂ l₃) h = left-user s (read-to k a t) c b (c ∷ []) vs (left-then s t (c ∷ []) k a (left x (ready-name s (h .ranged))))
+left (stored x) h = let z = left x (ready-text h) in record { ranged = z .ranged; frame = z .frame; words = tt }
+left {s = s} {vs = vs} (variables {t = t} {u = u} {ms = ms} {h = v} {r = r} {r′ = r′} n k a e i x b l y c q) h =
+    let z = left-inner s t (v ∷ []) k a i (left x (ready-inner i h)) in
+    left-variables s (read-to k a t) u n v r r′ (v ∷ []) ms vs z (left y (ready-pairs n (read-to k a t) (z .ranged))) c q
 left {s = s} (no-elements {i = i}) h = left-no-elements s i h
 left {s = s} (element {t = t} {u = u} {n = n} {i = i} {v = v} {vs = vs} x y) h =
     let z = left x (ready-value s (h .ranged)) in

@@ -2,10 +2,11 @@
 pub mod Trace
 pub mod Readers
 pub mod Frames
+pub mod Bytes
+pub mod Spelling
 pub mod Sound
 pub mod Kept
 pub mod Right
 pub mod Space
 pub mod Names
-pub mod Bytes
 pub mod Call

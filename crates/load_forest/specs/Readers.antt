@@ -2,26 +2,31 @@
 use Prim.Native.Nat.{ℕ, zero, suc, _+_, _-_, _*_, _≤_, _<_}
 use mathlib.Core.Path.{_≡_, refl, ap, subst}
 use mathlib.Core.Path.{sym as psym, _∙_}
-use mathlib.Core.Bool.{Bool, true, false}
+use mathlib.Core.Bool.{Bool, true, false, _&&_, _||_}
 use mathlib.Core.Option.{Option, none, some}
-use mathlib.Core.List.{List, [], _∷_}
-use lib.Dec.{eqb}
-use lib.ListN.{length, getD}
+use mathlib.Core.List.{List, [], _∷_, _++_}
+use lib.Dec.{eqb, leb}
+use lib.ListN.{length, getD, drop, take-append-drop}
+use lib.Seq.{drop-cons, drop-drop}
 use native.Mathlib.Omega.{arith}
-use borrow.Author.Tests.{ltb-true, leb-true}
+use borrow.Author.Tests.{ltb-true, leb-true, eqb-true}
 use Rattle.definition.specs.declared.Refusal.{Refusal}
 use Rattle.definition.specs.Run.{Outcome, ok, refused, pure, refuse, next, _>>=_, look, pick}
-use Rattle.definition.specs.Integer.{Form, value as form-value, data-bytes, form}
-use Rattle.definition.specs.Node.{Row, nil, bool, fixnum, symbol, array, hash, object, string, user, float, absent, present}
+use Rattle.definition.specs.Integer.{Form, value as form-value, data-bytes, form, little, integer-bytes}
+use Rattle.definition.specs.Kind.{NIL, TRUE, FALSE, FIXNUM, SYMBOL, SYMBOL-LINK, OBJECT-LINK, INSTANCE-VARIABLES, ARRAY, HASH, HASH-DEFAULT, OBJECT, STRING, USER-DEFINED, FLOAT}
+use Rattle.definition.specs.Node.{Row, nil, bool, fixnum, symbol, array, hash, object, string, user, float, absent, present, equal}
 use Rattle.definition.specs.Arena.{range, find-symbol}
 use Rattle.definition.specs.Load as L
-use Rattle.definition.specs.Load.{State, Room, Reader, at-set, begin}
+use Rattle.definition.specs.Load.{State, Notes, Room, Reader, at-set, noted, begin}
+use Rattle.definition.specs.Dump.{byte-string-bytes}
 use Rattle.lists.specs.Lists.{At, apart, at-getD}
+use Rattle.lists.specs.Ranges.{length-range-in}
+use Rattle.lists.specs.Words.{equal-true}
 use Rattle.graph.specs.Forest.{Texted, text-string, text-float}
 use Rattle.graph.specs.View.{text-row}
-use Rattle.load_forest.specs.Trace.{Mode, value, name, elements, pairs, One, Part, Plain, plain-nil, plain-bool, plain-fixnum, Trace, reading, reading-after, plain, known, new, symbol-link, object-link, list, hash-default, object-pairs, text-bytes, user-bytes, variables, no-elements, element, no-pairs, pair}
+use Rattle.load_forest.specs.Trace.{Spelt, Read, spelt-join, Mode, value, text, name, elements, pairs, One, as-value, as-name, Part, Plain, plain-nil, plain-true, plain-false, plain-fixnum, Inner, inner-text, inner-value, Trace, reading, plain, known, new, symbol-link, object-link, list, hash-default, object-pairs, text-bytes, user-bytes, stored, variables, no-elements, element, no-pairs, pair, forwards}
 use Rattle.states.specs.Rows.{list-length, is-array, is-hash, Varied, varied-string, varied-user}
-use Rattle.states.specs.States.{with-node, with-object, with-symbol, with-object-node, with-bytes, with-word, with-row, with-room}
+use Rattle.states.specs.States.{read-to, with-node, with-object, with-symbol, with-object-node, with-bytes, with-word, with-row, with-room}
 use Rattle.states.specs.Symbols.{found, missed}
 
 -- ---- taking work apart
@@ -104,144 +109,256 @@ pub read-bytes-then : {B G : Type 0} (input : List ℕ) (n : ℕ) (s : State) (k
 unfolding L.read-bytes
 read-bytes-then input n s k b t e g = picked _ _ _ _ k b t e λ x y. g (leb-true _ _ x) y
 
--- ---- reading the input moves on in it and does nothing else
+-- ---- reading the input moves on in it and does nothing else, and where it stays in dump form the bytes are known
 
-abbrev Moved : List ℕ → State → State → Type 0
-Moved input s u = (a : ℕ) × (s .at ≤ a) × (a ≤ length input) × (u ≡ at-set a s)
+-- both tests hold
+both-hold : (x y : Bool) → (x && y) ≡ true → (x ≡ true) × (y ≡ true)
+both-hold true y e = (refl, e)
+both-hold false y e = apart (cc)
 
-form-moves : (input : List ℕ) (f : Form) (s : State) (w : ℕ) (u : State) → s .at < length input → L.read-form input f (at-set (s .at + 1) s) ≡ ok w u → Moved input s u
-unfolding L.read-form _>>=_ pure
-form-moves input (form-value x) s w u l e = (s .at + 1, omega arith, omega arith, psym (ok-state e))
-form-moves input (data-bytes n above) s w u l e =
+and-off : (x y : Bool) → y ≡ false → (x && y) ≡ false
+and-off true y e = e
+and-off false y e = refl
+
+byte-spelt : (input : List ℕ) (s : State) → s .at < length input → Spelt input s (s .at + 1) (s .notes) (getD input (s .at) 0 ∷ [])
+byte-spelt input s l = record {
+  on = omega arith;
+  inside = λ h. omega arith;
+  off = λ o. o;
+  text = λ f. let z : suc (s .at) ≡ s .at + 1 = omega arith in drop-cons input (s .at) 0 l ∙ ap (λ (k : ℕ). getD input (s .at) 0 ∷ drop k input) z;
+}
+
+bytes-spelt : (input : List ℕ) (n : ℕ) (s : State) → n ≤ length input - s .at → Spelt input s (s .at + n) (s .notes) (range input (s .at) n)
+unfolding range
+bytes-spelt input n s l = record {
+  on = omega arith;
+  inside = λ h. omega arith;
+  off = λ o. o;
+  text = λ f. psym (take-append-drop n (drop (s .at) input)) ∙ ap (λ (x : List ℕ). range input (s .at) n ++ x) (drop-drop n (s .at) input);
+}
+
+-- only the offset and the notes of a state matter; nothing is read
+spelt-before : {input : List ℕ} {s : State} {k : ℕ} {n : Notes} {y : List ℕ} → Spelt input (with-object-node nil s) k n y → Spelt input s k n y
+spelt-before a = record { on = a .on; inside = a .inside; off = a .off; text = a .text }
+
+-- bytes that are an integer's where they are the ones that dump writes
+told-spelt : {input : List ℕ} {s : State} {k : ℕ} (bs : List ℕ) (w : ℕ) → Spelt input s k (s .notes) bs → Spelt input s k (record { form = equal bs (integer-bytes w) && s .notes .form }) (integer-bytes w)
+told-spelt {input} {s} {k} bs w a = record {
+  on = a .on;
+  inside = a .inside;
+  off = λ o. and-off (equal bs (integer-bytes w)) (s .notes .form) o;
+  text = λ f.
+      let (x, y) = both-hold (equal bs (integer-bytes w)) (s .notes .form) f in
+      a .text y ∙ ap (λ (z : List ℕ). z ++ drop k input) (equal-true bs (integer-bytes w) x);
+}
+
+form-read : (input : List ℕ) (f : Form) (s : State) (w : ℕ) (u : State) → s .at < length input → L.read-form input (getD input (s .at) 0) f (at-set (s .at + 1) s) ≡ ok w u → Read input integer-bytes w s u
+unfolding L.read-form L.tell _>>=_
+form-read input (form-value x) s w u l e =
+    let b = getD input (s .at) 0 in
+    rw (← (ok-result e)) (s .at + 1, _, told-spelt (b ∷ []) x (byte-spelt input s l), psym (ok-state e))
+form-read input (data-bytes n above) s w u l e =
+    let b = getD input (s .at) 0 in
     read-bytes-then input n (at-set (s .at + 1) s) _ w u e λ h e₁.
-    (s .at + 1 + n, omega arith, omega arith, psym (ok-state e₁))
+    let bs = range input (s .at + 1) n in
+    rw (← (ok-result e₁)) (s .at + 1 + n, _, told-spelt (b ∷ bs) (little bs above) (spelt-join (byte-spelt input s l) (bytes-spelt input n (at-set (s .at + 1) s) h)), psym (ok-state e₁))
 
-integer-moves : (input : List ℕ) (s : State) (w : ℕ) (u : State) → L.read-integer input s ≡ ok w u → Moved input s u
+integer-read : (input : List ℕ) (s : State) (w : ℕ) (u : State) → L.read-integer input s ≡ ok w u → Read input integer-bytes w s u
 unfolding L.read-integer _>>=_
-integer-moves input s w u e = read-byte-then input s _ w u e λ l e₁. form-moves input (form (getD input (s .at) 0)) s w u l e₁
+integer-read input s w u e = read-byte-then input s _ w u e λ l e₁. form-read input (form (getD input (s .at) 0)) s w u l e₁
 
-count-moves : (input : List ℕ) (s : State) (w : ℕ) (u : State) → L.read-count input s ≡ ok w u → Moved input s u
+count-read : (input : List ℕ) (s : State) (w : ℕ) (u : State) → L.read-count input s ≡ ok w u → Read input integer-bytes w s u
 unfolding L.read-count _>>=_ pure
-count-moves input s w u e =
+count-read input s w u e =
     un e λ x v e₁ e₂. picked-reader _ _ _ v w u e₂ λ p e₃.
-    let (a, l, h, q) = integer-moves input s x v e₁ in
-    (a, l, h, psym (ok-state e₃) ∙ q)
+    let (k, n, a, q) = integer-read input s x v e₁ in
+    rw (← (ok-result e₃)) (k, n, a, psym (ok-state e₃) ∙ q)
 
 -- a byte string is a part of the input
-byte-string-moves : (input : List ℕ) (s : State) (bs : List ℕ) (u : State) → L.read-byte-string input s ≡ ok bs u → Moved input s u × Part input bs
-unfolding L.read-byte-string _>>=_ pure
-byte-string-moves input s bs u e =
+byte-string-read : (input : List ℕ) (s : State) (bs : List ℕ) (u : State) → L.read-byte-string input s ≡ ok bs u → Read input byte-string-bytes bs s u × Part input bs
+unfolding L.read-byte-string byte-string-bytes _>>=_ pure
+byte-string-read input s bs u e =
     un e λ n v e₁ e₂. read-bytes-then input n v pure bs u (last _ _ _ e₂) λ h e₃.
-    after n v (count-moves input s n v e₁) h e₃
+    after n v (count-read input s n v e₁) h e₃
   where
-    after : (n : ℕ) (v : State) → Moved input s v → n ≤ length input - v .at → pure (range input (v .at) n) (at-set (v .at + n) v) ≡ ok bs u → Moved input s u × Part input bs
-    after n v (a, l, m, q) h e₃ =
-        let z : v .at ≡ a = ap (λ (x : State). x .at) q in
-        ((a + n, omega arith, omega arith, psym (ok-state e₃) ∙ ap (λ (x : State). at-set (x .at + n) x) q), (v .at, n, psym (ok-result e₃)))
+    after : (n : ℕ) (v : State) → Read input integer-bytes n s v → n ≤ length input - v .at → pure (range input (v .at) n) (at-set (v .at + n) v) ≡ ok bs u → Read input byte-string-bytes bs s u × Part input bs
+    after n v (k, a, x, q) h e₃ =
+        let z : v .at ≡ k = ap (λ (y : State). y .at) q in
+        let h′ : n ≤ length input - k = omega arith in
+        let r : range input k n ≡ bs = ap (λ (i : ℕ). range input i n) (psym z) ∙ ok-result e₃ in
+        let m : length bs ≡ n = ap length (psym r) ∙ length-range-in input k n h′ in
+        let y = spelt-join x (bytes-spelt input n (read-to k a s) h′) in (
+          (
+            k + n,
+            a,
+            subst (λ (c : List ℕ). Spelt input s (k + n) a c) (λ i. integer-bytes (psym m i) ++ r i) y,
+            psym (ok-state e₃) ∙ ap (λ (y : State). at-set (y .at + n) y) q,
+          ),
+          (v .at, n, psym (ok-result e₃)),
+        )
 
 -- a reader that moves on, then the rest
-moved-then : {A B G : Type 0} (input : List ℕ) (m : Reader A) (s : State) (k : A → Reader B) (b : B) (t : State) → next (m s) k ≡ ok b t
-    → ((w : A) (u : State) → m s ≡ ok w u → Moved input s u)
-    → ((w : A) (a : ℕ) → s .at ≤ a → a ≤ length input → m s ≡ ok w (at-set a s) → k w (at-set a s) ≡ ok b t → G) → G
-moved-then input m s k b t e h g =
+read-then : {A B G : Type 0} (input : List ℕ) (f : A → List ℕ) (m : Reader A) (s : State) (c : A → Reader B) (b : B) (t : State) → next (m s) c ≡ ok b t
+    → ((w : A) (u : State) → m s ≡ ok w u → Read input f w s u)
+    → ((w : A) (k : ℕ) (n : Notes) → Spelt input s k n (f w) → m s ≡ ok w (read-to k n s) → c w (read-to k n s) ≡ ok b t → G) → G
+read-then input f m s c b t e h g =
     un e λ w u e₁ e₂.
-    let (a, l, n, q) = h w u e₁ in
-    g w a l n (e₁ ∙ ap (ok w) q) (subst (λ (x : State). k w x ≡ ok b t) q e₂)
+    let (k, n, a, q) = h w u e₁ in
+    g w k n a (e₁ ∙ ap (ok w) q) (subst (λ (x : State). c w x ≡ ok b t) q e₂)
 
-count-then : {B G : Type 0} (input : List ℕ) (s : State) (k : ℕ → Reader B) (b : B) (t : State) → next (L.read-count input s) k ≡ ok b t
-    → ((w a : ℕ) → s .at ≤ a → a ≤ length input → k w (at-set a s) ≡ ok b t → G) → G
-count-then input s k b t e g = moved-then input (L.read-count input) s k b t e (count-moves input s) (λ w a l h x y. g w a l h y)
+count-then : {B G : Type 0} (input : List ℕ) (s : State) (c : ℕ → Reader B) (b : B) (t : State) → next (L.read-count input s) c ≡ ok b t
+    → ((w k : ℕ) (n : Notes) → Spelt input s k n (integer-bytes w) → c w (read-to k n s) ≡ ok b t → G) → G
+count-then input s c b t e g = read-then input integer-bytes (L.read-count input) s c b t e (count-read input s) (λ w k n a x y. g w k n a y)
 
-byte-string-then : {B G : Type 0} (input : List ℕ) (s : State) (k : List ℕ → Reader B) (b : B) (t : State) → next (L.read-byte-string input s) k ≡ ok b t
-    → ((bs : List ℕ) (a : ℕ) → s .at ≤ a → a ≤ length input → Part input bs → k bs (at-set a s) ≡ ok b t → G) → G
-byte-string-then input s k b t e g =
-    moved-then input (L.read-byte-string input) s k b t e (λ w u x. byte-string-moves input s w u x .0)
-    (λ bs a l h x y. g bs a l h (byte-string-moves input s bs (at-set a s) x .1) y)
+byte-string-then : {B G : Type 0} (input : List ℕ) (s : State) (c : List ℕ → Reader B) (b : B) (t : State) → next (L.read-byte-string input s) c ≡ ok b t
+    → ((bs : List ℕ) (k : ℕ) (n : Notes) → Spelt input s k n (byte-string-bytes bs) → Part input bs → c bs (read-to k n s) ≡ ok b t → G) → G
+byte-string-then input s c b t e g =
+    read-then input byte-string-bytes (L.read-byte-string input) s c b t e (λ w u x. byte-string-read input s w u x .0)
+    (λ bs k n a x y. g bs k n a (byte-string-read input s bs (read-to k n s) x .1) y)
 
 -- n entries of so many words: the count is read and the words are reserved
 counted-then : {B G : Type 0} (input : List ℕ) (room : Room) (each : ℕ) (rest : ℕ → ℕ → Reader B) (s : State) (b : B) (t : State) → L.counted input room each rest s ≡ ok b t
-    → ((n a : ℕ) → s .at ≤ a → a ≤ length input → n * each ≤ room .references - length (s .references) → rest (length (s .references)) n (with-room (n * each) (at-set a s)) ≡ ok b t → G) → G
+    → ((n k : ℕ) (a : Notes) → Spelt input s k a (integer-bytes n) → n * each ≤ room .references - length (s .references) → rest (length (s .references)) n (with-room (n * each) (read-to k a s)) ≡ ok b t → G) → G
 unfolding L.counted _>>=_
 counted-then input room each rest s b t e g =
-    count-then input s _ b t e λ n a l h e₁.
-    reserve-then room (n * each) (at-set a s) _ b t e₁ λ r e₂.
-    g n a l h r e₂
+    count-then input s _ b t e λ n k a x e₁.
+    reserve-then room (n * each) (read-to k a s) _ b t e₁ λ r e₂.
+    g n k a x r e₂
+
+-- ---- kind bytes
+
+-- what a head says of the kind byte
+abbrev Kinded : ℕ → L.Head → Type 0
+Kinded k L.Nil = k ≡ NIL
+Kinded k L.True = k ≡ TRUE
+Kinded k L.False = k ≡ FALSE
+Kinded k L.Fixnum = k ≡ FIXNUM
+Kinded k L.Symbol = k ≡ SYMBOL
+Kinded k L.SymbolLink = k ≡ SYMBOL-LINK
+Kinded k L.ObjectLink = k ≡ OBJECT-LINK
+Kinded k L.InstanceVariables = k ≡ INSTANCE-VARIABLES
+Kinded k L.Array = k ≡ ARRAY
+Kinded k L.Hash = k ≡ HASH
+Kinded k L.HashDefault = k ≡ HASH-DEFAULT
+Kinded k L.Object = k ≡ OBJECT
+Kinded k L.String = k ≡ STRING
+Kinded k L.UserDefined = k ≡ USER-DEFINED
+Kinded k L.Float = k ≡ FLOAT
+Kinded k L.Unknown = Unit {0}
+
+kind-else : (k b : ℕ) (x y : L.Head) → (k ≡ b → Kinded k x) → Kinded k y → Kinded k (pick (eqb k b) x y)
+unfolding pick
+kind-else k b x y f g = go (eqb k b) refl
+  where
+    go : (t : Bool) → eqb k b ≡ t → Kinded k (pick t x y)
+    go true e = f (eqb-true k b e)
+    go false e = g
+
+kinded : (k : ℕ) → Kinded k (L.head k)
+unfolding L.head
+kinded k =
+    kind-else k NIL _ _ (λ e. e)
+    (kind-else k TRUE _ _ (λ e. e)
+    (kind-else k FALSE _ _ (λ e. e)
+    (kind-else k FIXNUM _ _ (λ e. e)
+    (kind-else k SYMBOL _ _ (λ e. e)
+    (kind-else k SYMBOL-LINK _ _ (λ e. e)
+    (kind-else k OBJECT-LINK _ _ (λ e. e)
+    (kind-else k INSTANCE-VARIABLES _ _ (λ e. e)
+    (kind-else k ARRAY _ _ (λ e. e)
+    (kind-else k HASH _ _ (λ e. e)
+    (kind-else k HASH-DEFAULT _ _ (λ e. e)
+    (kind-else k OBJECT _ _ (λ e. e)
+    (kind-else k STRING _ _ (λ e. e)
+    (kind-else k USER-DEFINED _ _ (λ e. e)
+    (kind-else k FLOAT _ _ (λ e. e) tt))))))))))))))
+
+same-kind : {p : List ℕ} {k b : ℕ} → k ≡ b → p ≡ k ∷ [] → p ≡ b ∷ []
+same-kind q e = e ∙ ap (λ (x : ℕ). x ∷ []) q
+
+-- the kind byte, and more after it
+kind-more : {p : List ℕ} {k : ℕ} (y : List ℕ) → p ≡ k ∷ [] → p ++ y ≡ k ∷ y
+kind-more y e = ap (λ (l : List ℕ). l ++ y) e
 
 -- ---- symbols and links
 
 module _ (input : List ℕ) (room : Room) where
-  TraceOf : Mode → State → Outcome State ℕ → Type 0
-  TraceOf m s (ok v t) = Trace input room m s (v ∷ []) t
-  TraceOf m s (refused r) = ⊥
+  TraceOf : ℕ → Mode → List ℕ → State → Outcome State ℕ → Type 0
+  TraceOf l m p s (ok v t) = Trace input room l m p s (v ∷ []) t
+  TraceOf l m p s (refused r) = ⊥
 
-  ended : {m : Mode} {s t u : State} {a v : ℕ} → Trace input room m s (a ∷ []) u → ok a u ≡ ok v t → Trace input room m s (v ∷ []) t
+  ended : {l : ℕ} {m : Mode} {p : List ℕ} {s t u : State} {a v : ℕ} → Trace input room l m p s (a ∷ []) u → ok a u ≡ ok v t → Trace input room l m p s (v ∷ []) t
   unfolding TraceOf
-  ended {m = m} {s = s} x e = subst (TraceOf m s) e x
+  ended {l} {m} {p} {s} x e = subst (TraceOf l m p s) e x
 
-  known-traced : (m : Mode) → One m → (b : List ℕ) (s t : State) (v h : ℕ) → find-symbol (s .bytes) b (s .nodes) 0 ≡ some h
-      → next (L.intern-as room b (some h) s) (L.add-symbol room) ≡ ok v t → Trace input room m s (v ∷ []) t
-  unfolding L.intern-as next pure
-  known-traced m one b s t v h q e =
-      add-symbol-then room h s pure v t (last _ _ _ e) λ l e₁.
-      ended (known b h one (found s b h q) l) e₁
+  module _ (l : ℕ) (m : Mode) (one : One l m) where
+    known-traced : (p b : List ℕ) (s t : State) (v h : ℕ) → find-symbol (s .bytes) b (s .nodes) 0 ≡ some h
+        → next (L.intern-as room b (some h) s) (L.add-symbol room) ≡ ok v t → Trace input room l m p s (v ∷ []) t
+    unfolding L.intern-as L.note next pure _>>=_
+    known-traced p b s t v h q e =
+        add-symbol-then room h (noted false s) pure v t (last _ _ _ e) λ j e₁.
+        ended (known b h one (found s b h q) j) e₁
 
-  new-traced : (m : Mode) → One m → (b : List ℕ) → Part input b → (s t : State) (v : ℕ) → find-symbol (s .bytes) b (s .nodes) 0 ≡ none
-      → next (L.intern-as room b none s) (L.add-symbol room) ≡ ok v t → Trace input room m s (v ∷ []) t
-  unfolding L.intern-as pure _>>=_
-  new-traced m one b p s t v q e =
-      un e λ i u e₁ e₂.
-      add-bytes-then room b s _ i u e₁ λ l₁ e₃.
-      add-node-then room _ (with-bytes b s) pure i u (last _ _ _ e₃) λ l₂ e₄.
-      add-symbol-then room (length (s .nodes)) _ pure v t (last _ _ _ (onward (L.add-symbol room) e₄ e₂)) λ l₃ e₆.
-      ended (new b one (missed s b q) p l₁ l₂ l₃) e₆
+    new-traced : (p b : List ℕ) → p ≡ SYMBOL ∷ byte-string-bytes b → Part input b → (s t : State) (v : ℕ) → find-symbol (s .bytes) b (s .nodes) 0 ≡ none
+        → next (L.intern-as room b none s) (L.add-symbol room) ≡ ok v t → Trace input room l m p s (v ∷ []) t
+    unfolding L.intern-as pure _>>=_
+    new-traced p b f x s t v q e =
+        un e λ i u e₁ e₂.
+        add-bytes-then room b s _ i u e₁ λ l₁ e₃.
+        add-node-then room _ (with-bytes b s) pure i u (last _ _ _ e₃) λ l₂ e₄.
+        add-symbol-then room (length (s .nodes)) _ pure v t (last _ _ _ (onward (L.add-symbol room) e₄ e₂)) λ l₃ e₆.
+        ended (new b f one (missed s b q) x l₁ l₂ l₃) e₆
 
-  intern-traced : (m : Mode) → One m → (b : List ℕ) → Part input b → (s t : State) (v : ℕ) (x : Option ℕ) → find-symbol (s .bytes) b (s .nodes) 0 ≡ x
-      → next (L.intern-as room b x s) (L.add-symbol room) ≡ ok v t → Trace input room m s (v ∷ []) t
-  intern-traced m one b p s t v (some h) q e = known-traced m one b s t v h q e
-  intern-traced m one b p s t v none q e = new-traced m one b p s t v q e
+    intern-traced : (p b : List ℕ) → p ≡ SYMBOL ∷ byte-string-bytes b → Part input b → (s t : State) (v : ℕ) (x : Option ℕ) → find-symbol (s .bytes) b (s .nodes) 0 ≡ x
+        → next (L.intern-as room b x s) (L.add-symbol room) ≡ ok v t → Trace input room l m p s (v ∷ []) t
+    intern-traced p b f x s t v (some h) q e = known-traced p b s t v h q e
+    intern-traced p b f x s t v none q e = new-traced p b f x s t v q e
 
-  symbol-traced : (m : Mode) → One m → (s t : State) (v : ℕ) → L.read-symbol input room s ≡ ok v t → Trace input room m s (v ∷ []) t
-  unfolding L.read-symbol L.intern look _>>=_
-  symbol-traced m one s t v e =
-      byte-string-then input s _ v t e λ b a l h p e₁.
-      reading a l h (intern-traced m one b p (at-set a s) t v (find-symbol (s .bytes) b (s .nodes) 0) refl e₁)
+    symbol-traced : (p : List ℕ) → p ≡ SYMBOL ∷ [] → (s t : State) (v : ℕ) → L.read-symbol input room s ≡ ok v t → Trace input room l m p s (v ∷ []) t
+    unfolding L.read-symbol L.intern look _>>=_
+    symbol-traced p f s t v e =
+        byte-string-then input s _ v t e λ b k n a x e₁.
+        reading k n a (intern-traced _ b (kind-more _ f) x (read-to k n s) t v (find-symbol (s .bytes) b (s .nodes) 0) refl e₁)
 
-  entry-then : {G : Type 0} (l : List ℕ) (i : ℕ) (r : Refusal) (s t : State) (v : ℕ) → L.entry l i r s ≡ ok v t → (At l i (getD l i 0) → ok (getD l i 0) s ≡ ok v t → G) → G
-  unfolding L.entry pure
-  entry-then l i r s t v e g = picked _ _ s _ pure v t (last _ _ _ e) λ x y. g (at-getD l i 0 (ltb-true _ _ x)) y
+    entry-then : {G : Type 0} (j : List ℕ) (i : ℕ) (r : Refusal) (s t : State) (v : ℕ) → L.entry j i r s ≡ ok v t → (At j i (getD j i 0) → ok (getD j i 0) s ≡ ok v t → G) → G
+    unfolding L.entry pure
+    entry-then j i r s t v e g = picked _ _ s _ pure v t (last _ _ _ e) λ x y. g (at-getD j i 0 (ltb-true _ _ x)) y
 
-  symbol-link-traced : (m : Mode) → One m → (s t : State) (v : ℕ) → L.read-symbol-link input s ≡ ok v t → Trace input room m s (v ∷ []) t
-  unfolding L.read-symbol-link look _>>=_
-  symbol-link-traced m one s t v e =
-      count-then input s _ v t e λ i a l h e₁.
-      entry-then (s .symbols) i _ (at-set a s) t v e₁ λ x e₂.
-      reading a l h (ended (symbol-link i _ one x) e₂)
+    symbol-link-traced : (p : List ℕ) → p ≡ SYMBOL-LINK ∷ [] → (s t : State) (v : ℕ) → L.read-symbol-link input s ≡ ok v t → Trace input room l m p s (v ∷ []) t
+    unfolding L.read-symbol-link look _>>=_
+    symbol-link-traced p f s t v e =
+        count-then input s _ v t e λ i k n a e₁.
+        entry-then (s .symbols) i _ (read-to k n s) t v e₁ λ x e₂.
+        reading k n a (ended (symbol-link i _ (kind-more _ f) one x) e₂)
 
-  object-link-traced : (s t : State) (v : ℕ) → L.read-object-link input s ≡ ok v t → Trace input room value s (v ∷ []) t
+  object-link-traced : {l : ℕ} (p : List ℕ) → p ≡ OBJECT-LINK ∷ [] → (s t : State) (v : ℕ) → L.read-object-link input s ≡ ok v t → Trace input room (suc l) value p s (v ∷ []) t
   unfolding L.read-object-link look _>>=_
-  object-link-traced s t v e =
-      count-then input s _ v t e λ i a l h e₁.
-      entry-then (s .objects) i _ (at-set a s) t v e₁ λ x e₂.
-      reading a l h (ended (object-link i _ x) e₂)
+  object-link-traced {l} p f s t v e =
+      count-then input s _ v t e λ i k n a e₁.
+      entry-then (suc l) value as-value (s .objects) i _ (read-to k n s) t v e₁ λ x e₂.
+      reading k n a (ended (object-link i _ (kind-more _ f) x) e₂)
 
   -- a name: `:`, `;` or a refusal
-  pub name-traced : (s t : State) (v : ℕ) → L.read-symbol-like input room s ≡ ok v t → Trace input room name s (v ∷ []) t
+  pub name-traced : {l : ℕ} (s t : State) (v : ℕ) → L.read-symbol-like input room s ≡ ok v t → Trace input room l name [] s (v ∷ []) t
   unfolding L.read-symbol-like _>>=_ pick
-  name-traced s t v e =
-      read-byte-then input s _ v t e λ l e₁.
-      reading (s .at + 1) (omega arith) (omega arith) (by (eqb (getD input (s .at) 0) _) (eqb (getD input (s .at) 0) _) _ (at-set (s .at + 1) s) e₁)
+  name-traced {l} s t v e =
+      read-byte-then input s _ v t e λ h e₁.
+      reading (s .at + 1) (s .notes) (byte-spelt input s h) (by (eqb (getD input (s .at) 0) _) (eqb (getD input (s .at) 0) _) refl refl _ (at-set (s .at + 1) s) e₁)
     where
-      two : (y : Bool) (r : Refusal) (u : State) → pick y (L.read-symbol-link input) (refuse r) u ≡ ok v t → Trace input room name u (v ∷ []) t
-      two y r u e₁ = picked-reader y (L.read-symbol-link input) r u v t e₁ λ p e₂. symbol-link-traced name tt u t v e₂
+      two : (y : Bool) → eqb (getD input (s .at) 0) SYMBOL-LINK ≡ y → (r : Refusal) (u : State) → pick y (L.read-symbol-link input) (refuse r) u ≡ ok v t → Trace input room l name (getD input (s .at) 0 ∷ []) u (v ∷ []) t
+      two y g r u e₁ = picked-reader y (L.read-symbol-link input) r u v t e₁ λ f e₂. symbol-link-traced l name as-name _ (ap (λ (k : ℕ). k ∷ []) (eqb-true _ _ (g ∙ f))) u t v e₂
 
-      by : (x y : Bool) (r : Refusal) (u : State) → pick x (L.read-symbol input room) (pick y (L.read-symbol-link input) (refuse r)) u ≡ ok v t → Trace input room name u (v ∷ []) t
-      by true y r u e₁ = symbol-traced name tt u t v e₁
-      by false y r u e₁ = two y r u e₁
+      by : (x y : Bool) → eqb (getD input (s .at) 0) SYMBOL ≡ x → eqb (getD input (s .at) 0) SYMBOL-LINK ≡ y → (r : Refusal) (u : State)
+          → pick x (L.read-symbol input room) (pick y (L.read-symbol-link input) (refuse r)) u ≡ ok v t → Trace input room l name (getD input (s .at) 0 ∷ []) u (v ∷ []) t
+      by true y f g r u e₁ = symbol-traced l name as-name _ (ap (λ (k : ℕ). k ∷ []) (eqb-true _ _ f)) u t v e₁
+      by false y f g r u e₁ = two y g r u e₁
 
   -- ---- members
 
-  abbrev Traced : Reader ℕ → Type 0
-  Traced f = (s t : State) (v : ℕ) → f s ≡ ok v t → Trace input room value s (v ∷ []) t
+  -- a value is read; directly as a byte string or user-defined, where the kind byte is one that `I` goes before
+  pub record Traced (l : ℕ) (f : Reader ℕ) : Type 0 where
+    pub any : (s t : State) (v : ℕ) → f s ≡ ok v t → Trace input room l value [] s (v ∷ []) t
+    pub direct : (s t : State) (v : ℕ) → f s ≡ ok v t → L.takes-variables (getD input (s .at) 0) ≡ true → Trace input room l text [] s (v ∷ []) t
 
   none-read : {s t : State} {x : Unit {0}} → pure tt s ≡ ok x t → s ≡ t
   unfolding pure
@@ -251,111 +368,116 @@ module _ (input : List ℕ) (room : Room) where
   unfolding L.put-reference next
   word-put i v u t b k e = e
 
-  pub elements-traced : (f : Reader ℕ) → Traced f → (n i : ℕ) (s t : State) (x : Unit {0}) → L.read-elements f n i s ≡ ok x t → (vs : List ℕ) × Trace input room (elements n i) s vs t
-  unfolding L.read-elements _>>=_
-  elements-traced f h zero i s t x e = ([], subst (Trace input room (elements 0 i) s []) (none-read e) no-elements)
-  elements-traced f h (suc n) i s t x e =
-      un e λ v u e₁ e₂.
-      let (vs, z) = elements-traced f h n (suc i) (with-word i v u) t x (word-put i v u t x _ e₂) in
-      (v ∷ vs, element (h s u v e₁) z)
+  module _ {l : ℕ} (f : Reader ℕ) (h : Traced l f) where
+    pub elements-traced : (n i : ℕ) (s t : State) (x : Unit {0}) → L.read-elements f n i s ≡ ok x t → (vs : List ℕ) × Trace input room l (elements n i) [] s vs t
+    unfolding L.read-elements _>>=_
+    elements-traced zero i s t x e = ([], subst (Trace input room l (elements 0 i) [] s []) (none-read e) no-elements)
+    elements-traced (suc n) i s t x e =
+        un e λ v u e₁ e₂.
+        let (vs, z) = elements-traced n (suc i) (with-word i v u) t x (word-put i v u t x _ e₂) in
+        (v ∷ vs, element (h .any s u v e₁) z)
 
-  pub pairs-traced : (f : Reader ℕ) → Traced f → (n i : ℕ) (s t : State) (x : Unit {0}) → L.read-pairs (L.read-symbol-like input room) f n i s ≡ ok x t → (vs : List ℕ) × Trace input room (pairs n i) s vs t
-  unfolding L.read-pairs _>>=_
-  pairs-traced f h zero i s t x e = ([], subst (Trace input room (pairs 0 i) s []) (none-read e) no-pairs)
-  pairs-traced f h (suc n) i s t x e =
-      un e λ c u e₁ e₂.
-      un (word-put i c u t x _ e₂) λ v w e₃ e₄.
-      let (vs, z) = pairs-traced f h n (suc (suc i)) (with-word (suc i) v w) t x (word-put (suc i) v w t x _ e₄) in
-      (c ∷ v ∷ vs, pair (name-traced s u c e₁) (h (with-word i c u) w v e₃) z)
+    pub pairs-traced : (n i : ℕ) (s t : State) (x : Unit {0}) → L.read-pairs (L.read-symbol-like input room) f n i s ≡ ok x t → (vs : List ℕ) × Trace input room l (pairs n i) [] s vs t
+    unfolding L.read-pairs _>>=_
+    pairs-traced zero i s t x e = ([], subst (Trace input room l (pairs 0 i) [] s []) (none-read e) no-pairs)
+    pairs-traced (suc n) i s t x e =
+        un e λ c u e₁ e₂.
+        un (word-put i c u t x _ e₂) λ v w e₃ e₄.
+        let (vs, z) = pairs-traced n (suc (suc i)) (with-word (suc i) v w) t x (word-put (suc i) v w t x _ e₄) in
+        (c ∷ v ∷ vs, pair (name-traced s u c e₁) (h .any (with-word i c u) w v e₃) z)
 
-  -- a variable list, then the rest
-  instance-variables-then : {A G : Type 0} (f : Reader ℕ) → Traced f → (rest : ℕ → ℕ → Reader A) (s : State) (b : A) (t : State) → L.read-instance-variables input room f rest s ≡ ok b t
-      → ((n a : ℕ) (ms : List ℕ) (u : State) → s .at ≤ a → a ≤ length input → n * 2 ≤ room .references - length (s .references)
-      → Trace input room (pairs n (length (s .references))) (with-room (n * 2) (at-set a s)) ms u → rest (length (s .references)) n u ≡ ok b t → G) → G
-  unfolding L.read-instance-variables _>>=_
-  instance-variables-then f h rest s b t e g =
-      counted-then input room 2 _ s b t e λ n a l m r e₁.
-      un e₁ λ x u e₂ e₃.
-      let (ms, z) = pairs-traced f h n (length (s .references)) _ u x e₂ in
-      g n a ms u l m r z e₃
+    -- a variable list, then the rest
+    instance-variables-then : {A G : Type 0} (rest : ℕ → ℕ → Reader A) (s : State) (b : A) (t : State) → L.read-instance-variables input room f rest s ≡ ok b t
+        → ((n k : ℕ) (a : Notes) (ms : List ℕ) (u : State) → Spelt input s k a (integer-bytes n) → n * 2 ≤ room .references - length (s .references)
+        → Trace input room l (pairs n (length (s .references))) [] (with-room (n * 2) (read-to k a s)) ms u → rest (length (s .references)) n u ≡ ok b t → G) → G
+    unfolding L.read-instance-variables _>>=_
+    instance-variables-then rest s b t e g =
+        counted-then input room 2 _ s b t e λ n k a y r e₁.
+        un e₁ λ x u e₂ e₃.
+        let (ms, z) = pairs-traced n (length (s .references)) _ u x e₂ in
+        g n k a ms u y r z e₃
 
-  -- ---- values
+  -- ---- values, after the kind byte
+
+  abbrev After : ℕ → Mode → ℕ → Reader ℕ → Type 0
+  After l m k f = (p : List ℕ) → p ≡ k ∷ [] → (s t : State) (v : ℕ) → f s ≡ ok v t → Trace input room l m p s (v ∷ []) t
 
   filled : (h : ℕ) (r : Row) (u t : State) (v : ℕ) → L.fill h r u ≡ ok v t → ok h (with-row h r u) ≡ ok v t
   unfolding L.fill
   filled h r u t v e = e
 
-  node-traced : (r : Row) → Plain input r → Traced (L.add-node room r)
+  node-traced : {l : ℕ} (p : List ℕ) (r : Row) → Plain input p r → (s t : State) (v : ℕ) → L.add-node room r s ≡ ok v t → Trace input room (suc l) value p s (v ∷ []) t
   unfolding pure
-  node-traced r p s t v e = add-node-then room r s pure v t (last _ _ _ e) λ l e₁. ended (plain r p l) e₁
+  node-traced p r q s t v e = add-node-then room r s pure v t (last _ _ _ e) λ j e₁. ended (plain r q j) e₁
 
-  fixnum-traced : Traced (L.read-fixnum input room)
+  fixnum-traced : {l : ℕ} → After (suc l) value FIXNUM (L.read-fixnum input room)
   unfolding L.read-fixnum _>>=_
-  fixnum-traced s t v e =
-      moved-then input (L.read-integer input) s _ v t e (integer-moves input s) λ w a l h x y.
-      reading a l h (node-traced (fixnum w) (plain-fixnum w s (at-set a s) x) (at-set a s) t v y)
+  fixnum-traced p f s t v e =
+      read-then input integer-bytes (L.read-integer input) s _ v t e (integer-read input s) λ w k n a x y.
+      reading k n a (node-traced _ (fixnum w) (subst (λ (q : List ℕ). Plain input q (fixnum w)) (psym (kind-more _ f)) (plain-fixnum w s (read-to k n s) x)) (read-to k n s) t v y)
 
   -- an array has one word for each element
   ones : (n : ℕ) → n * 1 ≡ n
   ones n = omega arith
 
-  array-traced : (f : Reader ℕ) → Traced f → Traced (L.read-array input room f)
-  unfolding L.read-array _>>=_ list-length
-  array-traced f h s t v e =
-      add-object-node-then room nil s _ v t e λ l₁ l₂ e₁.
-      counted-then input room 1 _ (with-object-node nil s) v t e₁ λ n a l m r e₂.
-      un e₂ λ x u e₃ e₄.
-      let e₅ : L.read-elements f n (length (s .references)) (with-room n (at-set a (with-object-node nil s))) ≡ ok x u = rw (ones n) at e₃ in
-      let (ms, z) = elements-traced f h n (length (s .references)) _ u x e₅ in
-      reading a l m (ended (list {ms = ms} (array (length (s .references)) n) (is-array n) l₁ l₂ (omega arith) z) (filled _ _ u t v e₄))
+  module _ {l : ℕ} (f : Reader ℕ) (h : Traced l f) where
+    array-traced : After (suc l) value ARRAY (L.read-array input room f)
+    unfolding L.read-array _>>=_ list-length
+    array-traced p g s t v e =
+        add-object-node-then room nil s _ v t e λ l₁ l₂ e₁.
+        counted-then input room 1 _ (with-object-node nil s) v t e₁ λ n k a y r e₂.
+        un e₂ λ x u e₃ e₄.
+        let e₅ : L.read-elements f n (length (s .references)) (with-room n (read-to k a (with-object-node nil s))) ≡ ok x u = rw (ones n) at e₃ in
+        let (ms, z) = elements-traced f h n (length (s .references)) _ u x e₅ in
+        reading k a (spelt-before y) (ended (list {ms = ms} (array (length (s .references)) n) (is-array n) (kind-more _ g) l₁ l₂ (omega arith) z) (filled _ _ u t v e₄))
 
-  hash-traced : (f : Reader ℕ) → Traced f → Traced (L.read-hash false input room f)
-  unfolding L.read-hash L.read-default _>>=_ list-length
-  hash-traced f h s t v e =
-      add-object-node-then room nil s _ v t e λ l₁ l₂ e₁.
-      counted-then input room 2 _ (with-object-node nil s) v t e₁ λ n a l m r e₂.
-      un e₂ λ x u e₃ e₄.
-      let (ms, z) = elements-traced f h (n * 2) (length (s .references)) _ u x e₃ in
-      reading a l m (ended (list {ms = ms} (hash (length (s .references)) n 0) (is-hash n) l₁ l₂ r z) (filled _ _ u t v e₄))
+    hash-traced : After (suc l) value HASH (L.read-hash false input room f)
+    unfolding L.read-hash L.read-default _>>=_ list-length
+    hash-traced p g s t v e =
+        add-object-node-then room nil s _ v t e λ l₁ l₂ e₁.
+        counted-then input room 2 _ (with-object-node nil s) v t e₁ λ n k a y r e₂.
+        un e₂ λ x u e₃ e₄.
+        let (ms, z) = elements-traced f h (n * 2) (length (s .references)) _ u x e₃ in
+        reading k a (spelt-before y) (ended (list {ms = ms} (hash (length (s .references)) n 0) (is-hash n) (kind-more _ g) l₁ l₂ r z) (filled _ _ u t v e₄))
 
-  hash-default-traced : (f : Reader ℕ) → Traced f → Traced (L.read-hash true input room f)
-  unfolding L.read-hash L.read-default _>>=_
-  hash-default-traced f h s t v e =
-      add-object-node-then room nil s _ v t e λ l₁ l₂ e₁.
-      counted-then input room 2 _ (with-object-node nil s) v t e₁ λ n a l m r e₂.
-      un e₂ λ x u e₃ e₄.
-      un e₄ λ d w e₅ e₆.
-      let (ms, z) = elements-traced f h (n * 2) (length (s .references)) _ u x e₃ in
-      reading a l m (ended (hash-default {ms = ms} n l₁ l₂ r z (h u w d e₅)) (filled _ _ w t v e₆))
+    hash-default-traced : After (suc l) value HASH-DEFAULT (L.read-hash true input room f)
+    unfolding L.read-hash L.read-default _>>=_
+    hash-default-traced p g s t v e =
+        add-object-node-then room nil s _ v t e λ l₁ l₂ e₁.
+        counted-then input room 2 _ (with-object-node nil s) v t e₁ λ n k a y r e₂.
+        un e₂ λ x u e₃ e₄.
+        un e₄ λ d w e₅ e₆.
+        let (ms, z) = elements-traced f h (n * 2) (length (s .references)) _ u x e₃ in
+        reading k a (spelt-before y) (ended (hash-default {ms = ms} n (kind-more _ g) l₁ l₂ r z (h .any u w d e₅)) (filled _ _ w t v e₆))
 
-  object-traced : (f : Reader ℕ) → Traced f → Traced (L.read-object input room f)
-  unfolding L.read-object _>>=_
-  object-traced f h s t v e =
-      add-object-node-then room nil s _ v t e λ l₁ l₂ e₁.
-      un e₁ λ c u e₂ e₃.
-      instance-variables-then f h _ u v t e₃ λ n a ms w l m r z e₄.
-      ended (object-pairs {ms = ms} n l₁ l₂ (reading-after a l m (name-traced (with-object-node nil s) u c e₂)) r z) (filled _ _ w t v e₄)
+    object-traced : After (suc l) value OBJECT (L.read-object input room f)
+    unfolding L.read-object _>>=_
+    object-traced p g s t v e =
+        add-object-node-then room nil s _ v t e λ l₁ l₂ e₁.
+        un e₁ λ c u e₂ e₃.
+        instance-variables-then f h _ u v t e₃ λ n k a ms w y r z e₄.
+        ended (object-pairs {ms = ms} n k a g l₁ l₂ (name-traced (with-object-node nil s) u c e₂) y r z) (filled _ _ w t v e₄)
 
   -- a byte string is read and stored
   text-then : {G : Type 0} (row : ℕ → ℕ → Row) (s t : State) (v : ℕ) → L.read-text input room row s ≡ ok v t
-      → ((b : List ℕ) (a : ℕ) → s .at ≤ a → a ≤ length input → Part input b → length b ≤ room .bytes - length (s .bytes) → length (s .nodes) < room .nodes → length (s .objects) < room .objects
-      → ok (length (s .nodes)) (with-object-node (row (length (s .bytes)) (length b)) (with-bytes b (at-set a s))) ≡ ok v t → G) → G
+      → ((b : List ℕ) (k : ℕ) (n : Notes) → Spelt input s k n (byte-string-bytes b) → Part input b → length b ≤ room .bytes - length (s .bytes) → length (s .nodes) < room .nodes → length (s .objects) < room .objects
+      → ok (length (s .nodes)) (with-object-node (row (length (s .bytes)) (length b)) (with-bytes b (read-to k n s))) ≡ ok v t → G) → G
   unfolding L.read-text _>>=_ pure
   text-then row s t v e g =
-      byte-string-then input s _ v t e λ b a l h p e₁.
-      add-bytes-then room b (at-set a s) _ v t e₁ λ l₁ e₂.
-      add-object-node-then room _ (with-bytes b (at-set a s)) pure v t (last _ _ _ e₂) λ l₂ l₃ e₃.
-      g b a l h p l₁ l₂ l₃ e₃
+      byte-string-then input s _ v t e λ b k n a p e₁.
+      add-bytes-then room b (read-to k n s) _ v t e₁ λ l₁ e₂.
+      add-object-node-then room _ (with-bytes b (read-to k n s)) pure v t (last _ _ _ e₂) λ l₂ l₃ e₃.
+      g b k n a p l₁ l₂ l₃ e₃
 
-  text-traced : {k n : ℕ} (q : Texted k n) → Traced (L.read-text input room (text-row q))
-  text-traced q s t v e = text-then (text-row q) s t v e λ b a l h p l₁ l₂ l₃ e₁. reading a l h (ended (text-bytes q b p l₁ l₂ l₃) e₁)
+  text-traced : {l k n : ℕ} (q : Texted k n) → After (suc l) text k (L.read-text input room (text-row q))
+  text-traced q p g s t v e = text-then (text-row q) s t v e λ b k n a x l₁ l₂ l₃ e₁. reading k n a (ended (text-bytes q b (kind-more _ g) x l₁ l₂ l₃) e₁)
 
-  user-traced : Traced (L.read-user-defined input room)
+  user-traced : {l : ℕ} → After (suc l) text USER-DEFINED (L.read-user-defined input room)
   unfolding L.read-user-defined _>>=_
-  user-traced s t v e =
+  user-traced p g s t v e =
       un e λ c u e₀ e₁.
-      text-then (λ start n. user start n c absent) u t v e₁ λ b a l h p l₁ l₂ l₃ e₂.
-      ended (user-bytes b (reading-after a l h (name-traced s u c e₀)) p l₁ l₂ l₃) e₂
+      text-then (λ start n. user start n c absent) u t v e₁ λ b k n a x l₁ l₂ l₃ e₂.
+      ended (user-bytes b k n g (name-traced s u c e₀) a x l₁ l₂ l₃) e₂
 
   -- only a string or a user-defined node takes variables
   set-variables-then : (h p n : ℕ) (r : Row) (u t : State) (v : ℕ) → L.set-variables h p n r u ≡ ok v t → (r′ : Row) × Varied p n r r′ × (ok h (with-row h r′ u) ≡ ok v t)
@@ -380,56 +502,102 @@ module _ (input : List ℕ) (room : Room) where
   varied-at p n r′ (r ∷ l) zero x = refl
   varied-at p n r′ (r ∷ l) (suc h) x = varied-at p n r′ l h x
 
-  variables-traced : (f : Reader ℕ) → Traced f → Traced (L.read-variables input room f)
-  unfolding L.read-variables _>>=_ look
-  variables-traced f g s t v e =
+  -- `I` notes what stands after it; a value is read from inside the input
+  inner-traced : {l : ℕ} (f : Reader ℕ) → Traced l f → (s u : State) (h : ℕ) (d : Bool) → L.takes-variables (getD input (s .at) 0) ≡ d → f (noted d s) ≡ ok h u → (m : Mode) × Inner u m × Trace input room l m [] s (h ∷ []) u
+  inner-traced f g s u h true q e = (text, inner-text, g .direct s u h e q)
+  inner-traced {l} f g s u h false q e =
+      let x = g .any (noted false s) u h e in
+      let nothing : Spelt input s (s .at) (record { form = false }) [] = record { on = omega arith; inside = λ j. j; off = λ o. refl; text = λ o. apart (cc) } in
+      (value, inner-value (forwards x .off refl), reading (s .at) (record { form = false }) nothing x)
+
+  variables-traced : {l : ℕ} (f : Reader ℕ) → Traced l f → After (suc l) value INSTANCE-VARIABLES (L.read-variables input room f)
+  unfolding L.read-variables L.note _>>=_ look next
+  variables-traced f g p q s t v e =
       un e λ h u e₁ e₂.
-      instance-variables-then f g _ u v t e₂ λ n a ms w l m r z e₃.
-      let (r′, x, e₄) = set-variables-then h (length (u .references)) n (getD (w .nodes) h nil) w t v e₃ in
-      ended (variables {ms = ms} n (reading-after a l m (g s u h e₁)) r z (varied-at _ _ r′ (w .nodes) h x) x) e₄
+      let (m, i, x) = inner-traced f g s u h (L.takes-variables (getD input (s .at) 0)) refl e₁ in
+      instance-variables-then f g _ u v t e₂ λ n k a ms w y r z e₃.
+      let (r′, c, e₄) = set-variables-then h (length (u .references)) n (getD (w .nodes) h nil) w t v e₃ in
+      ended (variables {ms = ms} n k a q i x y r z (varied-at _ _ r′ (w .nodes) h c) c) e₄
 
   no-value : {A : Type 0} (r : Refusal) (s t : State) (v : ℕ) → refuse r s ≡ ok v t → A
   unfolding refuse
   no-value r s t v e = apart (cc)
 
-  value-of-traced : (f : Reader ℕ) → Traced f → (k : ℕ) (d : L.Head) → Traced (L.value-of input room f k d)
+  value-of-traced : {l : ℕ} (f : Reader ℕ) → Traced l f → (k : ℕ) (d : L.Head) → Kinded k d → After (suc l) value k (L.value-of input room f k d)
   unfolding L.value-of L.read-string L.read-float
-  value-of-traced f h k L.Nil = node-traced nil plain-nil
-  value-of-traced f h k L.True = node-traced (bool true) (plain-bool true)
-  value-of-traced f h k L.False = node-traced (bool false) (plain-bool false)
-  value-of-traced f h k L.Fixnum = fixnum-traced
-  value-of-traced f h k L.Symbol = symbol-traced value tt
-  value-of-traced f h k L.SymbolLink = symbol-link-traced value tt
-  value-of-traced f h k L.ObjectLink = object-link-traced
-  value-of-traced f h k L.InstanceVariables = variables-traced f h
-  value-of-traced f h k L.Array = array-traced f h
-  value-of-traced f h k L.Hash = hash-traced f h
-  value-of-traced f h k L.HashDefault = hash-default-traced f h
-  value-of-traced f h k L.Object = object-traced f h
-  value-of-traced f h k L.String = text-traced text-string
-  value-of-traced f h k L.UserDefined = user-traced
-  value-of-traced f h k L.Float = text-traced text-float
-  value-of-traced f h k L.Unknown = λ s t v e. no-value _ s t v e
+  value-of-traced f h k L.Nil q p g s t v e = node-traced p nil (rw (g, q) plain-nil) s t v e
+  value-of-traced f h k L.True q p g s t v e = node-traced p (bool true) (rw (g, q) plain-true) s t v e
+  value-of-traced f h k L.False q p g s t v e = node-traced p (bool false) (rw (g, q) plain-false) s t v e
+  value-of-traced f h k L.Fixnum q p g s t v e = fixnum-traced p (same-kind q g) s t v e
+  value-of-traced {l} f h k L.Symbol q p g s t v e = symbol-traced (suc l) value as-value p (same-kind q g) s t v e
+  value-of-traced {l} f h k L.SymbolLink q p g s t v e = symbol-link-traced (suc l) value as-value p (same-kind q g) s t v e
+  value-of-traced f h k L.ObjectLink q p g s t v e = object-link-traced p (same-kind q g) s t v e
+  value-of-traced f h k L.InstanceVariables q p g s t v e = variables-traced f h p (same-kind q g) s t v e
+  value-of-traced f h k L.Array q p g s t v e = array-traced f h p (same-kind q g) s t v e
+  value-of-traced f h k L.Hash q p g s t v e = hash-traced f h p (same-kind q g) s t v e
+  value-of-traced f h k L.HashDefault q p g s t v e = hash-default-traced f h p (same-kind q g) s t v e
+  value-of-traced f h k L.Object q p g s t v e = object-traced f h p (same-kind q g) s t v e
+  value-of-traced f h k L.String q p g s t v e = stored (text-traced text-string p (same-kind q g) s t v e)
+  value-of-traced f h k L.UserDefined q p g s t v e = stored (user-traced p (same-kind q g) s t v e)
+  value-of-traced f h k L.Float q p g s t v e = stored (text-traced text-float p (same-kind q g) s t v e)
+  value-of-traced f h k L.Unknown q p g s t v e = no-value _ s t v e
 
-  pub value-traced : (limit levels : ℕ) → Traced (L.read-value input room limit levels)
+  -- the kind bytes that `I` goes before
+  direct-traced : {l : ℕ} (f : Reader ℕ) (k : ℕ) → L.takes-variables k ≡ true → After (suc l) text k (L.value-of input room f k (L.head k))
+  unfolding L.takes-variables L.value-of L.head L.read-string pick
+  direct-traced {l} f k q p g s t v e = go (eqb k STRING) (eqb k USER-DEFINED) refl refl q
+    where
+      go : (x y : Bool) → eqb k STRING ≡ x → eqb k USER-DEFINED ≡ y → (x || y) ≡ true → Trace input room (suc l) text p s (v ∷ []) t
+      go true y i j w = let z = eqb-true k STRING i in text-traced text-string p (same-kind z g) s t v (rw z at e)
+      go false true i j w = let z = eqb-true k USER-DEFINED j in user-traced p (same-kind z g) s t v (rw z at e)
+      go false false i j w = apart (cc)
+
+  pub value-traced : (limit levels : ℕ) → Traced levels (L.read-value input room limit levels)
   unfolding L.read-value _>>=_
-  value-traced limit zero s t v e = no-value _ s t v e
-  value-traced limit (suc levels) s t v e =
-      read-byte-then input s _ v t e λ l e₁.
-      reading (s .at + 1) (omega arith) (omega arith)
-      (value-of-traced (L.read-value input room limit levels) (value-traced limit levels) (getD input (s .at) 0) _ (at-set (s .at + 1) s) t v e₁)
+  value-traced limit zero = record { any = λ s t v e. no-value _ s t v e; direct = λ s t v e q. no-value _ s t v e }
+  value-traced limit (suc levels) = record {
+    any = λ s t v e.
+        read-byte-then input s _ v t e λ j e₁.
+        reading (s .at + 1) (s .notes) (byte-spelt input s j)
+        (value-of-traced (L.read-value input room limit levels) (value-traced limit levels) (getD input (s .at) 0) _ (kinded (getD input (s .at) 0)) _ refl (at-set (s .at + 1) s) t v e₁);
+    direct = λ s t v e q.
+        read-byte-then input s _ v t e λ j e₁.
+        reading (s .at + 1) (s .notes) (byte-spelt input s j)
+        (direct-traced (L.read-value input room limit levels) (getD input (s .at) 0) q _ refl (at-set (s .at + 1) s) t v e₁);
+  }
 
-  header-moves : (s : State) (x : Unit {0}) (u : State) → L.read-header input s ≡ ok x u → Moved input s u
-  unfolding L.read-header _>>=_ pure
-  header-moves s x u e =
+  header-read : (s : State) (x : Unit {0}) (u : State) → L.read-header input s ≡ ok x u → Read input (λ _. 0x04 ∷ 0x08 ∷ []) x s u
+  unfolding L.read-header L.note _>>=_
+  header-read s x u e =
       read-byte-then input s _ x u e λ l e₁.
       read-byte-then input (at-set (s .at + 1) s) _ x u e₁ λ m e₂.
       picked-reader _ _ _ (at-set (s .at + 1 + 1) s) x u e₂ λ p e₃.
-      (s .at + 1 + 1, omega arith, omega arith, psym (ok-state e₃))
+      let a = getD input (s .at) 0 in
+      let b = getD input (s .at + 1) 0 in
+      let (major, _) = both-hold (eqb a 4) (leb b 8) p in
+      let y = spelt-join (byte-spelt input s l) (byte-spelt input (at-set (s .at + 1) s) m) in (
+        s .at + 1 + 1,
+        _,
+        record {
+          on = y .on;
+          inside = y .inside;
+          off = λ o. and-off (eqb b 8) (s .notes .form) o;
+          text = λ f.
+              let (minor, g) = both-hold (eqb b 8) (s .notes .form) f in
+              y .text g ∙ (λ i. eqb-true a 4 major i ∷ eqb-true b 8 minor i ∷ drop (s .at + 1 + 1) input);
+        },
+        psym (ok-state e₃),
+      )
 
-  -- an accepted load
-  pub load-traced : (limit : ℕ) (t : State) (v : ℕ) → L.load input room limit ≡ ok v t → Trace input room value begin (v ∷ []) t
+  -- an accepted load: the header, and then the root value
+  pub record LoadTraced (limit : ℕ) (t : State) (v : ℕ) : Type 0 where
+    pub offset : ℕ
+    pub notes : Notes
+    pub header : Spelt input begin offset notes (0x04 ∷ 0x08 ∷ [])
+    pub trace : Trace input room limit value [] (read-to offset notes begin) (v ∷ []) t
+
+  pub load-traced : (limit : ℕ) (t : State) (v : ℕ) → L.load input room limit ≡ ok v t → LoadTraced limit t v
   unfolding L.load _>>=_
   load-traced limit t v e =
-      moved-then input (L.read-header input) begin _ v t e (header-moves begin) λ x a l h e₁ e₂.
-      reading a l h (value-traced limit limit (at-set a begin) t v e₂)
+      read-then input (λ _. 0x04 ∷ 0x08 ∷ []) (L.read-header input) begin _ v t e (header-read begin) λ x k n a e₁ e₂.
+      record { offset = k; notes = n; header = a; trace = value-traced limit limit .any (read-to k n begin) t v e₂ }

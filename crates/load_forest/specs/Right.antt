@@ -2,30 +2,29 @@
 use Prim.Native.Nat.{ℕ, zero, suc, _+_, _*_, _≤_, _<_}
 use mathlib.Core.Path.{_≡_, refl, ap, subst}
 use mathlib.Core.Path.{_∙_}
-use mathlib.Core.Bool.{true}
+use mathlib.Core.Bool.{true, false}
 use mathlib.Core.Logic.{_⊎_, inl, inr, _≢_}
 use mathlib.Core.Option.{some}
 use mathlib.Core.List.{List, [], _∷_, append-nil}
 use lib.ListN.{length, replicate, length-set, length-append}
 use native.Mathlib.Omega.{arith}
 use Rattle.definition.specs.Run.{ok}
-use Rattle.definition.specs.Node.{Row, nil, bool, fixnum, symbol, hash, object, user, absent}
-use Rattle.definition.specs.Arena.{Arena, node, range, firsts, row-right}
+use Rattle.definition.specs.Node.{Row, nil, fixnum, symbol, hash, object, user, absent}
+use Rattle.definition.specs.Arena.{Arena, range, firsts, row-right}
 use Rattle.definition.specs.Graph.{links, vars-links, default-link}
-use Rattle.definition.specs.Load.{State, Room, at-set, begin, load}
+use Rattle.definition.specs.Load.{State, Notes, Room, noted, begin, load}
 use Rattle.lists.specs.Lists.{At, at-lt, at-app, at-snoc, at-snoc-inv, at-set-same, at-set-other, at-set-inv, len-snoc, apart, Below, below-up, below-snoc, below-first, below-join, no-at, below-one}
 use Rattle.lists.specs.Ranges.{range-more}
 use Rattle.graph.specs.Forest.{sym, Texted, text-string, text-float}
 use Rattle.graph.specs.View.{text-row, arena-of, state-seen}
 use Rattle.well_formed.specs.Nodes.{Name}
 use Rattle.well_formed.specs.Right.{name-below}
-use Rattle.states.specs.States.{keeps-refl, keeps-trans, with-node, with-object, with-symbol, with-object-node, with-bytes, with-words, with-word, with-row, with-room, with-new-symbol}
-use Rattle.load_forest.specs.Trace.{Mode, value, name, elements, pairs, One, Plain, plain-nil, plain-bool, plain-fixnum, Trace, reading, reading-after, plain, known, new, symbol-link, object-link, list, hash-default, object-pairs, text-bytes, user-bytes, variables, no-elements, element, no-pairs, pair}
+use Rattle.load_forest.specs.Trace.{Mode, value, text, name, elements, pairs, One, as-value, as-name, Plain, plain-nil, plain-true, plain-false, plain-fixnum, Trace, reading, plain, known, new, symbol-link, object-link, list, hash-default, object-pairs, text-bytes, user-bytes, stored, variables, no-elements, element, no-pairs, pair}
 use Rattle.load_forest.specs.Readers.{load-traced}
-use Rattle.load_forest.specs.Frames.{Ready, left, ready-reading, ready-value, ready-name, ready-pairs, ready-opened, ready-next, ready-after-name, ready-after-value}
+use Rattle.load_forest.specs.Frames.{Ready, left, ready-reading, ready-text, ready-inner, ready-value, ready-name, ready-pairs, ready-opened, ready-next, ready-after-name, ready-after-value}
 use Rattle.load_forest.specs.Kept.{Kept, kept}
 use Rattle.states.specs.Rows.{bytes-start, bytes-length, list-start, list-length, row-words, Listed, is-array, is-hash, Varied, varied-string, varied-user}
-use Rattle.states.specs.States.{Inside, Ranged, Free, with-node, with-object, with-symbol, with-object-node, with-bytes, with-words, with-word, with-row, inside-up, seen-at-inv, frame-range, free-part, inside-nil, words-but, with-room, opened-ranged, begin-ranged}
+use Rattle.states.specs.States.{keeps-refl, keeps-trans, Inside, Ranged, Free, read-to, with-node, with-object, with-symbol, with-object-node, with-bytes, with-words, with-word, with-row, with-new-symbol, inside-up, seen-at-inv, frame-range, free-part, inside-nil, words-but, with-room, opened-ranged, begin-ranged}
 use Rattle.states.specs.Symbols.{symbol-of}
 use Rattle.states.specs.Right.{row-names, RightIn, Onward, right-yes, row-onward, names-first}
 
@@ -67,8 +66,8 @@ right-on s t o n p q w x = lists-on s t o p q (λ i r a. let b : At (s .nodes) i
 on-same : (s t : State) → t .nodes ≡ s .nodes → length (s .bytes) ≤ length (t .bytes) → length (s .references) ≤ length (t .references) → On s t
 on-same s t n b w = record { count = rw n (omega arith); names = λ c (a, l, e). (a, l, rw n e); more-bytes = b; more-words = w }
 
-right-at-set : (k : ℕ) (s : State) → Right s → Right (at-set k s)
-right-at-set k s x = right-on s (at-set k s) (on-same s (at-set k s) refl (omega arith) (omega arith)) refl refl refl (λ i r a. refl) x
+right-read : (k : ℕ) (n : Notes) (s : State) → Right s → Right (read-to k n s)
+right-read k n s x = right-on s (read-to k n s) (on-same s (read-to k n s) refl (omega arith) (omega arith)) refl refl refl (λ i r a. refl) x
 
 right-bytes : (b : List ℕ) (s : State) → Right s → Right (with-bytes b s)
 right-bytes b s x = right-on s (with-bytes b s) (on-same s (with-bytes b s) refl (omega (arith, length-append (s .bytes) b)) (omega arith)) refl refl refl (λ i r a. refl) x
@@ -147,6 +146,7 @@ right-row h r q s e n y x = lists-on s (with-row h r s) (on-row h r q s e n) ref
 
 abbrev names-of : Mode → List ℕ → List ℕ
 names-of value vs = []
+names-of text vs = []
 names-of name vs = vs
 names-of (elements n i) vs = []
 names-of (pairs n i) vs = firsts vs
@@ -159,14 +159,9 @@ record Given (m : Mode) (t : State) (vs : List ℕ) : Type 0 where
 given-value : (t : State) (v : ℕ) → v < length (t .nodes) → Given value t (v ∷ [])
 given-value t v h = record { below = below-one _ v h; named = λ k c a. no-at k c a }
 
-given-name : (m : Mode) → One m → (t : State) (v : ℕ) → IsName t v → Given m t (v ∷ [])
-given-name value o t v n = given-value t v (name-below (arena-of t 0) v n)
-given-name name o t v n = record { below = below-one _ v (name-below (arena-of t 0) v n); named = names-first (arena-of t 0) v [] n (λ k c a. no-at k c a) }
-given-name (elements n i) o t v x = absurd o
-given-name (pairs n i) o t v x = absurd o
-
-given-at-set : (m : Mode) (t : State) (vs : List ℕ) (k : ℕ) → Given m t vs → Given m (at-set k t) vs
-given-at-set m t vs k g = record { below = g .below; named = g .named }
+given-name : {l : ℕ} {m : Mode} → One l m → (t : State) (v : ℕ) → IsName t v → Given m t (v ∷ [])
+given-name as-value t v n = given-value t v (name-below (arena-of t 0) v n)
+given-name as-name t v n = record { below = below-one _ v (name-below (arena-of t 0) v n); named = names-first (arena-of t 0) v [] n (λ k c a. no-at k c a) }
 
 nil-no-symbol : (a l : ℕ) → nil ≡ symbol a l → ⊥
 nil-no-symbol a l e = apart (cc)
@@ -184,10 +179,11 @@ bare s r i l n = record {
   names = λ k v a. no-at k v (subst (λ (x : List ℕ). At x k v) n a);
 }
 
-plain-right : {input : List ℕ} (s : State) (r : Row) → Plain input r → Inside s r → RowRight s r
+plain-right : {input p : List ℕ} (s : State) (r : Row) → Plain input p r → Inside s r → RowRight s r
 unfolding links row-names
 plain-right s r plain-nil i = bare s nil i refl refl
-plain-right s r (plain-bool b) i = bare s (bool b) i refl refl
+plain-right s r plain-true i = bare s _ i refl refl
+plain-right s r plain-false i = bare s _ i refl refl
 plain-right s r (plain-fixnum w u t e) i = bare s (fixnum w) i refl refl
 
 nil-right : (s : State) → RowRight s nil
@@ -263,7 +259,7 @@ record Done (m : Mode) (t : State) (vs : List ℕ) : Type 0 where
   right : Right t
   given : Given m t vs
 
-done-plain : {input : List ℕ} (s : State) (r : Row) → Plain input r → Ranged (with-node r s) → Right s → Done value (with-node r s) (length (s .nodes) ∷ [])
+done-plain : {input p : List ℕ} (s : State) (r : Row) → Plain input p r → Ranged (with-node r s) → Right s → Done value (with-node r s) (length (s .nodes) ∷ [])
 done-plain s r p g x =
     let i = inside-up (with-node r s) s r (omega arith) (omega arith) (g (length (s .nodes)) r (at-snoc (s .nodes) r)) in
     record { right = right-node r s (plain-right s r p i) x; given = given-value (with-node r s) (length (s .nodes)) (omega (arith, len-snoc (s .nodes) r)) }
@@ -274,12 +270,12 @@ seen-name s b h a =
     let (i, l, z, w) = symbol-of (arena-of s 0) b r q in
     (i, l, e ∙ ap some z)
 
-done-known : (m : Mode) → One m → (s : State) (b : List ℕ) (h : ℕ) → At (state-seen s .nodes) h (sym b) → Right s → Done m (with-symbol h s) (h ∷ [])
+done-known : {l : ℕ} (m : Mode) → One l m → (s : State) (b : List ℕ) (h : ℕ) → At (state-seen s .nodes) h (sym b) → Right s → Done m (with-symbol h (noted false s)) (h ∷ [])
 done-known m o s b h a x =
     let n = seen-name s b h a in
-    record { right = right-symbol h s n x; given = given-name m o (with-symbol h s) h n }
+    record { right = right-symbol h (noted false s) n (right-read (s .at) _ s x); given = given-name o (with-symbol h (noted false s)) h n }
 
-done-new : (m : Mode) → One m → (s : State) (b : List ℕ) → Right s
+done-new : {l : ℕ} (m : Mode) → One l m → (s : State) (b : List ℕ) → Right s
     → Done m (with-new-symbol b s) (length (s .nodes) ∷ [])
 unfolding bytes-start bytes-length list-start list-length
 done-new m o s b x =
@@ -290,7 +286,7 @@ done-new m o s b x =
     let i : Inside u r = record { bytes-inside = omega (arith, length-append (s .bytes) b); list-inside = omega arith } in
     record {
       right = right-symbol (length (s .nodes)) t n (right-node r u (symbol-right u (length (s .bytes)) (length b) i) (right-bytes b s x));
-      given = given-name m o (with-symbol (length (s .nodes)) t) (length (s .nodes)) n;
+      given = given-name o (with-symbol (length (s .nodes)) t) (length (s .nodes)) n;
     }
 
 -- the opened node is filled
@@ -325,31 +321,31 @@ done-hash-default s t u n d ms κ λ′ g e b x =
     (hash-right u (length (s .references)) n d ms (filled-inside (length (s .nodes)) r u (opened-at s u κ′) g) e (below-up _ _ ms (λ′ .grows) b) (x .given .below 0 d refl)) (x .right)
 
 done-object : (s t u : State) (n c p : ℕ) (ms : List ℕ) → Kept (with-object-node nil s) t → Kept t u → Ranged (with-row (length (s .nodes)) (object p n c) u)
-    → range (u .references) p (n * 2) ≡ ms → Given name t (c ∷ []) → Done (pairs n p) u ms
+    → range (u .references) p (n * 2) ≡ ms → IsName t c → Done (pairs n p) u ms
     → Done value (with-row (length (s .nodes)) (object p n c) u) (length (s .nodes) ∷ [])
 done-object s t u n c p ms κ λ′ g e y x =
     let κ′ = keeps-trans κ λ′ in
     let r = object p n c in
     filled-right s u r κ′
-    (object-right u p n c ms (filled-inside (length (s .nodes)) r u (opened-at s u κ′) g) e (name-kept c λ′ (y .named 0 c refl)) (x .given .below) (x .given .named)) (x .right)
+    (object-right u p n c ms (filled-inside (length (s .nodes)) r u (opened-at s u κ′) g) e (name-kept c λ′ y) (x .given .below) (x .given .named)) (x .right)
 
 -- a node just added at the end, with bytes of its own
 added-inside : (r : Row) (b : List ℕ) (t : State) → Ranged (with-object-node r (with-bytes b t)) → Inside (with-bytes b t) r
 added-inside r b t g = inside-up (with-object-node r (with-bytes b t)) (with-bytes b t) r (omega arith) (omega arith) (g (length (t .nodes)) r (at-snoc (t .nodes) r))
 
-done-added : (r : Row) (b : List ℕ) (t : State) → RowRight (with-bytes b t) r → Right t → Done value (with-object-node r (with-bytes b t)) (length (t .nodes) ∷ [])
+done-added : (r : Row) (b : List ℕ) (t : State) → RowRight (with-bytes b t) r → Right t → Done text (with-object-node r (with-bytes b t)) (length (t .nodes) ∷ [])
 done-added r b t y x = record {
   right = right-object-node r (with-bytes b t) y (right-bytes b t x);
-  given = given-value (with-object-node r (with-bytes b t)) (length (t .nodes)) (omega (arith, len-snoc (t .nodes) r));
+  given = record { below = below-one _ (length (t .nodes)) (omega (arith, len-snoc (t .nodes) r)); named = λ k c a. no-at k c a };
 }
 
 done-text : {k n : ℕ} (q : Texted k n) (s : State) (b : List ℕ) (a l : ℕ) → Ranged (with-object-node (text-row q a l) (with-bytes b s)) → Right s
-    → Done value (with-object-node (text-row q a l) (with-bytes b s)) (length (s .nodes) ∷ [])
+    → Done text (with-object-node (text-row q a l) (with-bytes b s)) (length (s .nodes) ∷ [])
 done-text q s b a l g x = done-added (text-row q a l) b s (text-right q (with-bytes b s) a l (added-inside _ b s g)) x
 
-done-user : (t : State) (b : List ℕ) (a l c : ℕ) → Ranged (with-object-node (user a l c absent) (with-bytes b t)) → Done name t (c ∷ [])
-    → Done value (with-object-node (user a l c absent) (with-bytes b t)) (length (t .nodes) ∷ [])
-done-user t b a l c g x = done-added (user a l c absent) b t (user-right (with-bytes b t) a l c (added-inside _ b t g) (x .given .named 0 c refl)) (x .right)
+done-user : (t : State) (b : List ℕ) (a l c : ℕ) → Ranged (with-object-node (user a l c absent) (with-bytes b t)) → IsName t c → Right t
+    → Done text (with-object-node (user a l c absent) (with-bytes b t)) (length (t .nodes) ∷ [])
+done-user t b a l c g n x = done-added (user a l c absent) b t (user-right (with-bytes b t) a l c (added-inside _ b t g) n) x
 
 done-variables : {p n : ℕ} (u : State) (h : ℕ) (r r′ : Row) (ms : List ℕ) → At (u .nodes) h r → Varied p n r r′ → Ranged (with-row h r′ u) → range (u .references) p (n * 2) ≡ ms
     → Done (pairs n p) u ms → Done value (with-row h r′ u) (h ∷ [])
@@ -383,41 +379,42 @@ done-pair t u w n i c v vs κ₁ κ₂ g₁ g₂ x =
 
 -- ---- any trace
 
-right-of : {input : List ℕ} {room : Room} {m : Mode} {s t : State} {vs : List ℕ} → Trace input room m s vs t → Ready m s → Right s → Done m t vs
-right-of {m = m} {s = s} (reading k a b x) h d = right-of x (ready-reading m s k h) (right-at-set k s d)
-right-of {m = m} {vs = vs} (reading-after {t = t} k a b x) h d =
-    let y = right-of x h d in
-    record { right = right-at-set k t (y .right); given = given-at-set m t vs k (y .given) }
-right-of {room = room} {s = s} (plain r p l) h d = done-plain s r p (left {room = room} (plain r p l) h .ranged) d
+right-of : {input : List ℕ} {room : Room} {l : ℕ} {m : Mode} {p : List ℕ} {s t : State} {vs : List ℕ} → Trace input room l m p s vs t → Ready m s → Right s → Done m t vs
+right-of {m = m} {s = s} (reading k n a x) h d = right-of x (ready-reading m s k n h) (right-read k n s d)
+right-of {room = room} {l = l} {s = s} (plain r p j) h d = done-plain s r p (left {room = room} {l = l} (plain r p j) h .ranged) d
 right-of {m = m} {s = s} (known b v o a l) h d = done-known m o s b v a d
-right-of {m = m} {s = s} (new b o n p l₁ l₂ l₃) h d = done-new m o s b d
-right-of {m = m} {s = s} (symbol-link i v o a) h d = record { right = d; given = given-name m o s v (d .symbols i v a) }
-right-of {s = s} (object-link i v a) h d = record { right = d; given = given-value s v (d .objects i v a) }
-right-of {s = s} (list {t = t} {ms = ms} r q l₁ l₂ l₃ x) h d =
+right-of {m = m} {s = s} (new b e o n p l₁ l₂ l₃) h d = done-new m o s b d
+right-of {m = m} {s = s} (symbol-link i v e o a) h d = record { right = d; given = given-name o s v (d .symbols i v a) }
+right-of {s = s} (object-link i v e a) h d = record { right = d; given = given-value s v (d .objects i v a) }
+right-of {s = s} (list {t = t} {ms = ms} r q e l₁ l₂ l₃ x) h d =
     let o = ready-opened (list-length r) s (h .ranged) in
     let κ = keeps-trans (keeps-refl (with-object-node nil s) (with-room (list-length r) (with-object-node nil s)) refl) (kept x) in
-    done-list s t r ms q κ (left (list {ms = ms} r q l₁ l₂ l₃ x) h .ranged) (left x o .words) (right-of x o (right-words (replicate (list-length r) 0) (with-object-node nil s) (opened-right s d)))
-right-of {s = s} (hash-default {t = t} {u = u} {ms = ms} {d = v} n l₁ l₂ l₃ x y) h d =
+    done-list s t r ms q κ (left (list {ms = ms} r q e l₁ l₂ l₃ x) h .ranged) (left x o .words) (right-of x o (right-words (replicate (list-length r) 0) (with-object-node nil s) (opened-right s d)))
+right-of {s = s} (hash-default {t = t} {u = u} {ms = ms} {d = v} n f l₁ l₂ l₃ x y) h d =
     let o = ready-opened (n * 2) s (h .ranged) in
     let z = left x o in
     let w = ready-value t (z .ranged) in
     let e = frame-range (length (s .references)) (n * 2) (left y w .frame) (omega (arith, o .fits, z .frame .references-grow)) (omega (arith, o .fits, z .frame .references-grow)) ∙ z .words in
     let κ = keeps-trans (keeps-refl (with-object-node nil s) (with-room (n * 2) (with-object-node nil s)) refl) (kept x) in
     let d₁ = right-of x o (right-words (replicate (n * 2) 0) (with-object-node nil s) (opened-right s d)) in
-    done-hash-default s t u n v ms κ (kept y) (left (hash-default {ms = ms} n l₁ l₂ l₃ x y) h .ranged) e (d₁ .given .below) (right-of y w (d₁ .right))
-right-of {s = s} (object-pairs {t = t} {u = u} {ms = ms} {c = c} n l₁ l₂ x l₃ y) h d =
+    done-hash-default s t u n v ms κ (kept y) (left (hash-default {ms = ms} n f l₁ l₂ l₃ x y) h .ranged) e (d₁ .given .below) (right-of y w (d₁ .right))
+right-of {s = s} (object-pairs {t = t} {u = u} {ms = ms} {c = c} n k a e l₁ l₂ x b l₃ y) h d =
     let o = ready-name (with-object-node nil s) (opened-ranged s (h .ranged)) in
-    let p = ready-pairs n t (left x o .ranged) in
+    let v = read-to k a t in
+    let p = ready-pairs n v (left x o .ranged) in
     let d₁ = right-of x o (opened-right s d) in
-    let d₂ = right-of y p (right-words (replicate (n * 2) 0) t (d₁ .right)) in
-    done-object s t u n c (length (t .references)) ms (kept x) (keeps-trans (keeps-refl t (with-room (n * 2) t) refl) (kept y)) (left (object-pairs {ms = ms} n l₁ l₂ x l₃ y) h .ranged) (left y p .words) (d₁ .given) d₂
-right-of {room = room} {s = s} (text-bytes q b p l₁ l₂ l₃) h d = done-text q s b _ _ (left {room = room} (text-bytes q b p l₁ l₂ l₃) h .ranged) d
-right-of {s = s} (user-bytes {t = t} {c = c} b x p l₁ l₂ l₃) h d =
-    done-user t b _ _ c (left (user-bytes b x p l₁ l₂ l₃) h .ranged) (right-of x (ready-name s (h .ranged)) d)
-right-of {s = s} (variables {t = t} {u = u} {ms = ms} {h = v} {r = r} {r′ = r′} n x l y a q) h d =
-    let p = ready-pairs n t (left x h .ranged) in
-    let d₁ = right-of x h d in
-    done-variables u v r r′ ms a q (left (variables {ms = ms} n x l y a q) h .ranged) (left y p .words) (right-of y p (right-words (replicate (n * 2) 0) t (d₁ .right)))
+    let d₂ = right-of y p (right-words (replicate (n * 2) 0) v (right-read k a t (d₁ .right))) in
+    done-object s t u n c (length (t .references)) ms (kept x) (keeps-trans (keeps-refl t (with-room (n * 2) v) refl) (kept y)) (left (object-pairs {ms = ms} n k a e l₁ l₂ x b l₃ y) h .ranged) (left y p .words) (d₁ .given .named 0 c refl) d₂
+right-of {room = room} {l = l} {s = s} (text-bytes q b e p l₁ l₂ l₃) h d = done-text q s b _ _ (left {room = room} {l = l} (text-bytes q b e p l₁ l₂ l₃) h .ranged) d
+right-of {s = s} (user-bytes {t = t} {c = c} b k a e x f p l₁ l₂ l₃) h d =
+    let d₁ = right-of x (ready-name s (h .ranged)) d in
+    done-user (read-to k a t) b _ _ c (left (user-bytes b k a e x f p l₁ l₂ l₃) h .ranged) (d₁ .given .named 0 c refl) (right-read k a t (d₁ .right))
+right-of (stored x) h d = let z = right-of x (ready-text h) d in record { right = z .right; given = record { below = z .given .below; named = z .given .named } }
+right-of {s = s} (variables {t = t} {u = u} {ms = ms} {h = v} {r = r} {r′ = r′} n k a e i x b l y c q) h d =
+    let o = ready-inner i h in
+    let p = ready-pairs n (read-to k a t) (left x o .ranged) in
+    let d₁ = right-of x o d in
+    done-variables u v r r′ ms c q (left (variables {ms = ms} n k a e i x b l y c q) h .ranged) (left y p .words) (right-of y p (right-words (replicate (n * 2) 0) (read-to k a t) (right-read k a t (d₁ .right))))
 right-of {s = s} no-elements h d = record { right = d; given = record { below = λ k v a. no-at k v a; named = λ k v a. no-at k v a } }
 right-of {s = s} (element {t = t} {u = u} {n = n} {i = i} {v = v} {vs = vs} x y) h d =
     let o = ready-value s (h .ranged) in
@@ -449,7 +446,7 @@ begin-right = record { rows = λ i r a. one i r a; objects = λ k v a. no-at k v
 
 pub load-right-state : (input : List ℕ) (room : Room) (limit h : ℕ) (s : State) → load input room limit ≡ ok h s → Right s × (h < length (s .nodes))
 load-right-state input room limit h s e =
-    let d = right-of (load-traced input room limit s h e) (ready-value begin begin-ranged) begin-right in
+    let d = right-of (load-traced input room limit s h e .trace) (ready-value _ begin-ranged) (right-read _ _ begin begin-right) in
     (d .right, d .given .below 0 h refl)
 
 -- a well-formed arena

@@ -15,18 +15,18 @@ use Rattle.definition.specs.Run.{ok, pick}
 use Rattle.definition.specs.Node.{Row, Vars, nil, bool, fixnum, symbol, array, hash, object, string, user, float, absent, present}
 use Rattle.definition.specs.Arena.{Arena, range}
 use Rattle.definition.specs.Graph.{Header, header, vars-count}
-use Rattle.definition.specs.Load.{State, Room, at-set, begin, load}
+use Rattle.definition.specs.Load.{State, Notes, Room, begin, load}
 use Rattle.lists.specs.Lists.{At, len-snoc, apart}
 use Rattle.graph.specs.Sums.{sumTo, total, total-snoc, total-set, total-set-most}
 use Rattle.graph.specs.Forest.{Node, leaf, sym, box, node-words, node-bytes, node-box, node-sym, Texted, text-string, text-float}
 use Rattle.graph.specs.Build.{Zero, paid, boxed, lf, Φ}
 use Rattle.graph.specs.View.{see, text-row, seen, arena-of, state-seen}
-use Rattle.load_forest.specs.Trace.{Mode, Plain, plain-nil, plain-bool, plain-fixnum, Trace, reading, reading-after, plain, known, new, symbol-link, object-link, list, hash-default, object-pairs, text-bytes, user-bytes, variables, no-elements, element, no-pairs, pair}
+use Rattle.load_forest.specs.Trace.{Mode, Plain, plain-nil, plain-true, plain-false, plain-fixnum, Trace, reading, plain, known, new, symbol-link, object-link, list, hash-default, object-pairs, text-bytes, user-bytes, stored, variables, no-elements, element, no-pairs, pair}
 use Rattle.load_forest.specs.Readers.{load-traced}
 use Rattle.load_forest.specs.Sound.{load-sound}
 use Rattle.load_forest.specs.Right.{IsName, load-right-state}
 use Rattle.states.specs.Rows.{bytes-length, list-length, vars-length, Listed, is-array, is-hash, Varied, varied-string, varied-user}
-use Rattle.states.specs.States.{row-seen, with-node, with-symbol, with-object-node, with-bytes, with-word, with-row, length-seen, syms-seen, seen-at, with-room}
+use Rattle.states.specs.States.{read-to, row-seen, with-node, with-symbol, with-object-node, with-bytes, with-word, with-row, length-seen, syms-seen, seen-at, with-room}
 
 -- ---- within the room
 
@@ -82,26 +82,26 @@ module _ (room : Room) where
   within-row : (h : ℕ) (r : Row) (s : State) → Within room s → Within room (with-row h r s)
   within-row h r s w = within-same s (with-row h r s) (omega (arith, length-set (s .nodes) h r)) (omega arith) (omega arith) (omega arith) (omega arith) w
 
-  within-at-set : (k : ℕ) (s : State) → Within room s → Within room (at-set k s)
-  within-at-set k s w = record { nodes = w .nodes; references = w .references; bytes = w .bytes; symbols = w .symbols; objects = w .objects }
+  within-read : (k : ℕ) (n : Notes) (s : State) → Within room s → Within room (read-to k n s)
+  within-read k n s w = record { nodes = w .nodes; references = w .references; bytes = w .bytes; symbols = w .symbols; objects = w .objects }
 
-pub within : {input : List ℕ} {room : Room} {m : Mode} {s t : State} {vs : List ℕ} → Trace input room m s vs t → Within room s → Within room t
-within {room = room} {s = s} (reading k a b x) w = within x (within-at-set room k s w)
-within {room = room} (reading-after {t = t} k a b x) w = within-at-set room k t (within x w)
+pub within : {input : List ℕ} {room : Room} {l : ℕ} {m : Mode} {p : List ℕ} {s t : State} {vs : List ℕ} → Trace input room l m p s vs t → Within room s → Within room t
+within {room = room} {s = s} (reading k n a x) w = within x (within-read room k n s w)
 within {room = room} {s = s} (plain r p l) w = within-node room r s l w
-within {room = room} {s = s} (known b h o a l) w = within-symbol room h s l w
-within {room = room} {s = s} (new b o n p l₁ l₂ l₃) w = within-symbol room (length (s .nodes)) _ l₃ (within-node room _ (with-bytes b s) l₂ (within-bytes room b s l₁ w))
-within (symbol-link i h o a) w = w
-within (object-link i h a) w = w
-within {room = room} {s = s} (list {t = t} r q l₁ l₂ l₃ x) w =
+within {room = room} {s = s} (known b h o a l) w = within-symbol room h _ l (within-read room (s .at) _ s w)
+within {room = room} {s = s} (new b e o n p l₁ l₂ l₃) w = within-symbol room (length (s .nodes)) _ l₃ (within-node room _ (with-bytes b s) l₂ (within-bytes room b s l₁ w))
+within (symbol-link i h e o a) w = w
+within (object-link i h e a) w = w
+within {room = room} {s = s} (list {t = t} r q e l₁ l₂ l₃ x) w =
     within-row room (length (s .nodes)) r t (within x (within-room room (list-length r) (with-object-node nil s) l₃ (within-object-node room nil s l₁ l₂ w)))
-within {room = room} {s = s} (hash-default {u = u} n l₁ l₂ l₃ x y) w =
+within {room = room} {s = s} (hash-default {u = u} n e l₁ l₂ l₃ x y) w =
     within-row room (length (s .nodes)) _ u (within y (within x (within-room room (n * 2) (with-object-node nil s) l₃ (within-object-node room nil s l₁ l₂ w))))
-within {room = room} {s = s} (object-pairs {t = t} {u = u} n l₁ l₂ x l₃ y) w =
-    within-row room (length (s .nodes)) _ u (within y (within-room room (n * 2) t l₃ (within x (within-object-node room nil s l₁ l₂ w))))
-within {room = room} {s = s} (text-bytes q b p l₁ l₂ l₃) w = within-object-node room _ (with-bytes b s) l₂ l₃ (within-bytes room b s l₁ w)
-within {room = room} (user-bytes {t = t} b x p l₁ l₂ l₃) w = within-object-node room _ (with-bytes b t) l₂ l₃ (within-bytes room b t l₁ (within x w))
-within {room = room} (variables {t = t} {u = u} {h = h} {r′ = r′} n x l y a q) w = within-row room h r′ u (within y (within-room room (n * 2) t l (within x w)))
+within {room = room} {s = s} (object-pairs {t = t} {u = u} n k a e l₁ l₂ x b l₃ y) w =
+    within-row room (length (s .nodes)) _ u (within y (within-room room (n * 2) (read-to k a t) l₃ (within-read room k a t (within x (within-object-node room nil s l₁ l₂ w)))))
+within {room = room} {s = s} (text-bytes q b e p l₁ l₂ l₃) w = within-object-node room _ (with-bytes b s) l₂ l₃ (within-bytes room b s l₁ w)
+within {room = room} (user-bytes {t = t} b k a e x d p l₁ l₂ l₃) w = within-object-node room _ (with-bytes b (read-to k a t)) l₂ l₃ (within-bytes room b (read-to k a t) l₁ (within-read room k a t (within x w)))
+within (stored x) w = within x w
+within {room = room} (variables {t = t} {u = u} {h = h} {r′ = r′} n k a e i x b l y c q) w = within-row room h r′ u (within y (within-room room (n * 2) (read-to k a t) l (within-read room k a t (within x w))))
 within no-elements w = w
 within {room = room} (element {t = t} {i = i} {v = v} x y) w = within y (within-word room i v t (within x w))
 within no-pairs w = w
@@ -109,7 +109,7 @@ within {room = room} (pair {t = t} {u = u} {i = i} {c = c} {v = v} x y z) w = wi
 
 -- an accepted load kept within the room
 pub load-within : (input : List ℕ) (room : Room) (limit h : ℕ) (s : State) → 1 ≤ room .nodes → load input room limit ≡ ok h s → Within room s
-load-within input room limit h s l e = within (load-traced input room limit s h e) (record { nodes = l; references = omega arith; bytes = omega arith; symbols = omega arith; objects = omega arith })
+load-within input room limit h s l e = within (load-traced input room limit s h e .trace) (record { nodes = l; references = omega arith; bytes = omega arith; symbols = omega arith; objects = omega arith })
 
 -- ---- what the rows hold was taken
 
@@ -166,10 +166,11 @@ record Weighs (r : Row) (words bytes boxes names : ℕ) : Type 0 where
   boxes-are : is-box r ≡ boxes
   names-are : is-symbol r ≡ names
 
-plain-weighs : {input : List ℕ} (r : Row) → Plain input r → Weighs r 0 0 0 0
+plain-weighs : {input p : List ℕ} (r : Row) → Plain input p r → Weighs r 0 0 0 0
 unfolding list-length bytes-length is-box is-symbol
 plain-weighs r plain-nil = record { words-are = refl; bytes-are = refl; boxes-are = refl; names-are = refl }
-plain-weighs r (plain-bool b) = record { words-are = refl; bytes-are = refl; boxes-are = refl; names-are = refl }
+plain-weighs r plain-true = record { words-are = refl; bytes-are = refl; boxes-are = refl; names-are = refl }
+plain-weighs r plain-false = record { words-are = refl; bytes-are = refl; boxes-are = refl; names-are = refl }
 plain-weighs r (plain-fixnum w s t e) = record { words-are = refl; bytes-are = refl; boxes-are = refl; names-are = refl }
 
 nil-weighs : Weighs nil 0 0 0 0
@@ -244,8 +245,8 @@ covered-room n s = covered-same s (with-room n s) refl (omega (arith, length-app
 covered-word : (i v : ℕ) (s : State) → Covered s (with-word i v s)
 covered-word i v s = covered-same s (with-word i v s) refl (omega (arith, length-set (s .references) i v)) (omega arith) (omega arith) (omega arith)
 
-covered-at-set : (k : ℕ) (s : State) → Covered s (at-set k s)
-covered-at-set k s = covered-same s (at-set k s) refl (omega arith) (omega arith) (omega arith) (omega arith)
+covered-read : (k : ℕ) (n : Notes) (s : State) → Covered s (read-to k n s)
+covered-read k n s = covered-same s (read-to k n s) refl (omega arith) (omega arith) (omega arith) (omega arith)
 
 -- words reserved at s are spare at t
 spare-room : (n : ℕ) (s t : State) → Covered (with-room n s) t → Spare n s t
@@ -269,33 +270,37 @@ covered-varied s u n h r r′ a q c p = record {
   names = omega (arith, total-set is-symbol (u .nodes) h r′ r a, q .same-names, c .names);
 }
 
-covered : {input : List ℕ} {room : Room} {m : Mode} {s t : State} {vs : List ℕ} → Trace input room m s vs t → Covered s t
-covered {s = s} (reading k a b x) = covered-trans (covered-at-set k s) (covered x)
-covered (reading-after {t = t} k a b x) = covered-trans (covered x) (covered-at-set k t)
+covered : {input : List ℕ} {room : Room} {l : ℕ} {m : Mode} {p : List ℕ} {s t : State} {vs : List ℕ} → Trace input room l m p s vs t → Covered s t
+covered {s = s} (reading k n a x) = covered-trans (covered-read k n s) (covered x)
 covered {s = s} (plain r p l) = covered-added s (with-node r s) r 0 0 0 0 (plain-weighs r p) refl (omega arith) (omega arith) (omega arith) (omega arith)
-covered {s = s} (known b h o a l) = covered-same s (with-symbol h s) refl (omega arith) (omega arith) (omega arith) (omega (arith, len-snoc (s .symbols) h))
-covered {s = s} {t = t} (new b o n p l₁ l₂ l₃) =
+covered {s = s} {t = t} (known b h o a l) = covered-same s t refl (omega arith) (omega arith) (omega arith) (omega (arith, len-snoc (s .symbols) h))
+covered {s = s} {t = t} (new b e o n p l₁ l₂ l₃) =
     covered-added s t (symbol (length (s .bytes)) (length b)) 0 (length b) 0 1 (symbol-weighs _ _) refl (omega arith) (omega (arith, length-append (s .bytes) b)) (omega arith) (omega (arith, len-snoc (s .symbols) (length (s .nodes))))
-covered {s = s} (symbol-link i h o a) = covered-refl s
-covered {s = s} (object-link i h a) = covered-refl s
-covered {s = s} (list {t = t} r q l₁ l₂ l₃ x) =
+covered {s = s} (symbol-link i h e o a) = covered-refl s
+covered {s = s} (object-link i h e a) = covered-refl s
+covered {s = s} (list {t = t} r q e l₁ l₂ l₃ x) =
     let s₁ = with-object-node nil s in
     covered-filled s t (length (s .nodes)) (list-length r) r (listed-weighs r q) (covered-trans (covered-room (list-length r) s₁) (covered x)) (spare-room (list-length r) s₁ t (covered x))
-covered {s = s} (hash-default {t = t} {u = u} {d = d} n l₁ l₂ l₃ x y) =
+covered {s = s} (hash-default {t = t} {u = u} {d = d} n e l₁ l₂ l₃ x y) =
     let s₁ = with-object-node nil s in
     covered-filled s u (length (s .nodes)) (n * 2) (hash (length (s .references)) n (d + 1)) (hash-weighs _ n (d + 1)) (covered-trans (covered-room (n * 2) s₁) (covered-trans (covered x) (covered y)))
     (spare-after (n * 2) s₁ t u (spare-room (n * 2) s₁ t (covered x)) (covered y))
-covered {s = s} (object-pairs {t = t} {u = u} {c = c} n l₁ l₂ x l₃ y) =
+covered {s = s} (object-pairs {t = t} {u = u} {c = c} n k a e l₁ l₂ x b l₃ y) =
     let s₁ = with-object-node nil s in
-    covered-filled s u (length (s .nodes)) (n * 2) (object (length (t .references)) n c) (object-weighs _ n c) (covered-trans (covered x) (covered-trans (covered-room (n * 2) t) (covered y)))
-    (spare-before (n * 2) s₁ t u (covered x) (spare-room (n * 2) t u (covered y)))
-covered {s = s} {t = t} (text-bytes q b p l₁ l₂ l₃) =
+    let v = read-to k a t in
+    let z = covered-trans (covered x) (covered-read k a t) in
+    covered-filled s u (length (s .nodes)) (n * 2) (object (length (t .references)) n c) (object-weighs _ n c) (covered-trans z (covered-trans (covered-room (n * 2) v) (covered y)))
+    (spare-before (n * 2) s₁ v u z (spare-room (n * 2) v u (covered y)))
+covered {s = s} {t = t} (text-bytes q b e p l₁ l₂ l₃) =
     covered-added s t (text-row q (length (s .bytes)) (length b)) 0 (length b) 1 0 (text-weighs q _ _) refl (omega arith) (omega (arith, length-append (s .bytes) b)) (omega (arith, len-snoc (s .objects) (length (s .nodes)))) (omega arith)
-covered {t = t} (user-bytes {t = u} {c = c} b x p l₁ l₂ l₃) =
+covered {t = t} (user-bytes {t = u} {c = c} b k a e x d p l₁ l₂ l₃) =
     covered-trans (covered x)
     (covered-added u t (user (length (u .bytes)) (length b) c absent) 0 (length b) 1 0 (user-weighs _ _ c) refl (omega arith) (omega (arith, length-append (u .bytes) b)) (omega (arith, len-snoc (u .objects) (length (u .nodes)))) (omega arith))
-covered {s = s} (variables {t = t} {u = u} {h = h} {r = r} {r′ = r′} n x l y a q) =
-    covered-varied s u n h r r′ a (varied-same r r′ q) (covered-trans (covered x) (covered-trans (covered-room (n * 2) t) (covered y))) (spare-before (n * 2) s t u (covered x) (spare-room (n * 2) t u (covered y)))
+covered (stored x) = covered x
+covered {s = s} (variables {t = t} {u = u} {h = h} {r = r} {r′ = r′} n k a e i x b l y c q) =
+    let v = read-to k a t in
+    let z = covered-trans (covered x) (covered-read k a t) in
+    covered-varied s u n h r r′ c (varied-same r r′ q) (covered-trans z (covered-trans (covered-room (n * 2) v) (covered y))) (spare-before (n * 2) s v u z (spare-room (n * 2) v u (covered y)))
 covered {s = s} no-elements = covered-refl s
 covered (element {t = t} {i = i} {v = v} x y) = covered-trans (covered x) (covered-trans (covered-word i v t) (covered y))
 covered {s = s} no-pairs = covered-refl s
@@ -345,7 +350,7 @@ pub record Holds (s : State) : Type 0 where
 pub load-holds : (input : List ℕ) (room : Room) (limit h : ℕ) (s : State) → load input room limit ≡ ok h s → Holds s
 unfolding list-length bytes-length is-box is-symbol
 load-holds input room limit h s e =
-    let c = covered (load-traced input room limit s h e) in
+    let c = covered (load-traced input room limit s h e .trace) in
     record {
       words = omega (arith, c .words, seen-total node-words list-length s (λ A r. see-most A r .0));
       bytes = omega (arith, c .bytes, seen-total node-bytes bytes-length s (λ A r. see-most A r .1));

@@ -1,9 +1,9 @@
 // Replays stored cases of load through the public function, and prints those that disagree.
 //
 // A case is words of 32 bits, low byte first: its length in words; the lengths of the five tables and lists; the limit;
-// the input's length; what is expected: the answer's number and two details, four counts, the bytes used, and how much of
-// nodes, references and bytes is laid out; then those node words and references. Bytes follow, padded to a word: those
-// laid out, then the input.
+// the input's length; what is expected: the answer's number and two details, four counts, the bytes used, 1 where they are in
+// dump form and else 0, and how much of nodes, references and bytes is laid out; then those node words and references. Bytes
+// follow, padded to a word: those laid out, then the input.
 use definition::Loaded;
 use definition::Node;
 use load::load;
@@ -32,17 +32,22 @@ const COUNTS: usize = 11;
 
 const USED: usize = 15;
 
-const LAID: usize = 16;
+const FORM: usize = 16;
 
-const TABLES: usize = 19;
+const LAID: usize = 17;
+
+const TABLES: usize = 20;
 
 fn loaded_agrees(data: &[u8], r: Loaded) -> bool {
     let answer = r.answer;
     let counts = r.counts;
     let used = r.used;
+    let form = r.form;
     if same_answer(&data[..], ANSWER, answer) {
         if same_counts(&data[..], COUNTS, counts) {
-            return word(&data[..], USED) as usize == used;
+            if word(&data[..], USED) as usize == used {
+                return (word(&data[..], FORM) == 1) == form;
+            }
         }
     }
     false
@@ -58,8 +63,8 @@ fn tables_agree(
 ) -> bool {
     let touched = word(&data[..], ANSWER) != 1;
     let n = word(&data[..], LAID) as usize;
-    let r = word(&data[..], 17) as usize;
-    let b = word(&data[..], 18) as usize;
+    let r = word(&data[..], LAID + 1) as usize;
+    let b = word(&data[..], LAID + 2) as usize;
     let p = plus(TABLES, n);
     let q = times4(plus(p, r));
     if !words_agree(&data[..], TABLES, n, &nodes[..], touched) {
@@ -111,8 +116,8 @@ fn fitted_agrees(
 // The byte at which the input starts.
 fn input_start(data: &[u8]) -> usize {
     let n = word(&data[..], LAID) as usize;
-    let r = word(&data[..], 17) as usize;
-    let b = word(&data[..], 18) as usize;
+    let r = word(&data[..], LAID + 1) as usize;
+    let b = word(&data[..], LAID + 2) as usize;
     plus(times4(plus(plus(TABLES, n), r)), b)
 }
 

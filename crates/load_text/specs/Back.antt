@@ -1,14 +1,15 @@
 -- What a dump of an arena wrote is loaded, and what is then there is described by the same forest.
 use Prim.Native.Nat.{ℕ, zero, suc, _+_, _≤_}
-use mathlib.Core.Path.{_≡_, refl, subst}
+use mathlib.Core.Path.{_≡_, refl, ap, subst}
 use mathlib.Core.Path.{sym as psym, _∙_}
+use mathlib.Core.Bool.{true}
 use mathlib.Core.Logic.{_⊎_, inl, inr}
-use mathlib.Core.List.{List, [], _∷_, _++_}
-use lib.ListN.{length, set, replicate}
+use mathlib.Core.List.{List, [], _∷_, _++_, append-nil}
+use lib.ListN.{length, set, replicate, length-append}
 use native.Mathlib.Omega.{arith}
-use Rattle.definition.specs.Run.{ok, pure, pick}
+use Rattle.definition.specs.Run.{ok, pick}
 use Rattle.definition.specs.Graph.{Header}
-use Rattle.definition.specs.Load.{Room, State, at-set, read-header, read-value, begin, load}
+use Rattle.definition.specs.Load.{Room, Notes, State, at-set, note, read-header, read-value, begin, load}
 use Rattle.lists.specs.Lists.{At, at-app, at-snoc, at-snoc-inv, at-set-other, no-at, apart}
 use Rattle.graph.specs.Forest.{Node, leaf, sym, box, Num, fresh, F, fEnd, refsOf, bytesOf, boxesOf, symsOf, values, Text}
 use Rattle.graph.specs.Describe.{E, e-len}
@@ -80,12 +81,13 @@ pub record RoomFor (room : Room) (g : F) : Type 0 where
   pub references : refsOf g ≤ room .references
   pub bytes : bytesOf g ≤ room .bytes
 
--- the load was accepted, all bytes used; what is there is described by g, and takes what g takes
-pub record Back (room : Room) (limit : ℕ) (g : F) (x : List ℕ) : Type 0 where
+-- x, whatever follows it: the load was accepted, the bytes used are x's, all as dump writes them; what is there is described by g, and takes what g takes
+pub record Back (room : Room) (limit : ℕ) (g : F) (x y : List ℕ) : Type 0 where
   pub root : ℕ
   pub state : State
-  pub runs : load (0x04 ∷ 0x08 ∷ x) room limit ≡ ok root state
+  pub runs : load (0x04 ∷ 0x08 ∷ (x ++ y)) room limit ≡ ok root state
   pub used : state .at ≡ length x + 2
+  pub form : state .notes .form ≡ true
   pub num : Num
   pub says : E (seen (arena-of state root)) g (root ∷ []) fresh num
   pub nodes : length (state .nodes) ≡ 1 + nodesOf g
@@ -98,7 +100,7 @@ abbrev opening : State
 opening = at-set 2 begin
 
 header-runs : (x : List ℕ) → read-header (0x04 ∷ 0x08 ∷ x) begin ≡ ok tt opening
-unfolding read-header pick pure
+unfolding read-header note pick
 header-runs x =
     let input : List ℕ = 0x04 ∷ 0x08 ∷ x in
     let a : Ahead input 0 (0x04 ∷ 0x08 ∷ x) = record { rest = refl; size = omega arith } in
@@ -113,10 +115,10 @@ opening-inv P = record { io = refl; iy = refl; im = go }
     go zero b e = apart (cc)
     go (suc i) b e = apart (cc)
 
-back : (room : Room) (limit : ℕ) (P : List Node) (g : F) (x : List ℕ) (σ : Num)
-    → Step (0x04 ∷ 0x08 ∷ x) room P (read-value (0x04 ∷ 0x08 ∷ x) room limit limit) g fEnd σ opening [] → Back room limit g x
+back : (room : Room) (limit : ℕ) (P : List Node) (g : F) (x y : List ℕ) (σ : Num)
+    → Step (0x04 ∷ 0x08 ∷ (x ++ y)) room P (read-value (0x04 ∷ 0x08 ∷ (x ++ y)) room limit limit) g fEnd σ opening y → Back room limit g x y
 unfolding load state-seen
-back room limit P g x σ t =
+back room limit P g x y σ t =
     let s = t .then′ in
     let h = t .value in
     let d = describes g h (state-seen opening) (state-seen s) refl refl (t .built [] (state-seen s) bEnd) in
@@ -124,8 +126,9 @@ back room limit P g x σ t =
     record {
       root = h;
       state = s;
-      runs = step _ _ begin tt opening (header-runs x) ∙ t .runs;
-      used = omega (arith, t .ahead .size);
+      runs = step _ _ begin tt opening (header-runs (x ++ y)) ∙ t .runs;
+      used = omega (arith, t .ahead .size, length-append x y);
+      form = ap (λ (n : Notes). n .form) (t .notes);
       num = num (state-seen s);
       says = subst (λ (L : List Node). E L g (h ∷ []) fresh (num (state-seen s))) (psym (seen-root s h)) d;
       nodes = omega (arith, ev .nodes);
@@ -135,15 +138,15 @@ back room limit P g x σ t =
       bytes = omega (arith, ev .bytes);
     }
 
-pub load-back : (P : List Node) → Names P → (limit root : ℕ) (g : F) (x : List ℕ) (σ : Num) (room : Room) → Small room → RoomFor room g
-    → Text values limit g x → E P g (root ∷ []) fresh σ → Back room limit g x
-load-back P nm limit root g x σ room sm rf t d =
-    let input : List ℕ = 0x04 ∷ 0x08 ∷ x in
+pub load-back : (P : List Node) → Names P → (limit root : ℕ) (g : F) (x y : List ℕ) (σ : Num) (room : Room) → Small room → RoomFor room g
+    → Text values limit g x → E P g (root ∷ []) fresh σ → Back room limit g x y
+load-back P nm limit root g x y σ room sm rf t d =
+    let input : List ℕ = 0x04 ∷ 0x08 ∷ (x ++ y) in
     let rd = read-value input room limit limit in
     let it : Items input room P (rd ∷ []) g x fresh σ =
     subst (λ (n : ℕ). Items input room P (replicate n rd) g x fresh σ) (e-len d) (load-complete input room sm limit P nm t d tt) in
     let (z, tk, e) = one-left input room P it in
-    let a : Ahead input 2 x = record { rest = refl; size = omega arith } in
-    back room limit P g x σ
-    (tk opening [] (opening-inv P) begin-ranged (ahead-as _ _ e a)
+    let a : Ahead input 2 (x ++ y) = record { rest = refl; size = omega arith } in
+    back room limit P g x y σ
+    (tk opening y (opening-inv P) begin-ranged (ahead-as _ _ (ap (λ (l : List ℕ). l ++ y) (e ∙ append-nil z)) a)
     (record { nodes = rf .nodes; objects = omega (arith, rf .objects); symbols = omega (arith, rf .symbols); references = omega (arith, rf .references); bytes = omega (arith, rf .bytes) }))

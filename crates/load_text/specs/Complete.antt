@@ -11,7 +11,7 @@ use Rattle.definition.specs.Node.{nil, bool, fixnum}
 use Rattle.definition.specs.Arena.{Arena}
 use Rattle.definition.specs.Graph.{header-of}
 use Rattle.definition.specs.Dump.{byte-string-bytes}
-use Rattle.definition.specs.Load.{Room, Reader, head, value-of, read-value, add-node, read-fixnum, read-symbol, read-symbol-link, read-object-link, read-symbol-like, read-array, read-hash, read-object, read-string, read-float, read-text, read-user-defined, read-variables}
+use Rattle.definition.specs.Load.{Room, Reader, head, value-of, read-value, add-node, read-fixnum, read-symbol, read-symbol-link, read-object-link, read-symbol-like, read-array, read-hash, read-object, read-string, read-float, read-text, read-user-defined, read-variables, takes-variables}
 use Rattle.lists.specs.Lists.{At, NotIn, at-lt}
 use Rattle.graph.specs.Forest.{Node, leaf, sym, Num, addO, addS, F, fEnd, fLeaf, fBox, fRef, fSym, fSymref, trees, Mode, values, pairs, value-pairs, name, name-pairs, after, IsValue, Text, tEnd, tEndPairs, tName, tNameLink, tOneName, tOneLink, tClass, tClassLink, tNil, tFalse, tTrue, tFixnum, tSymbol, tSymbolLink, tObjectLink, tArray, tHash, tHashDefault, tObject, Texted, text-string, text-float, tText, tStringVars, tUser, tUserVars}
 use Rattle.graph.specs.Describe.{E, eEnd, eLeaf, eBox, eRef, eSym, eSymref}
@@ -193,15 +193,17 @@ module _ (input : List ℕ) (room : Room) (sm : Small room) (limit : ℕ) (P : L
 
   val-string-vars : (l n : ℕ) (b : List ℕ) (f r : F) (y : List ℕ) (σ σ₂ : Num) (v : ℕ) → Its (by-turns like (val (suc l)) n) f y (addO v σ) σ₂
       → Tk (val (suc (suc l))) (fBox (header-of 7 0 b n true) fEnd f r) r (INSTANCE-VARIABLES ∷ STRING ∷ (byte-string-bytes b ++ integer-bytes n ++ y)) σ σ₂
+  unfolding takes-variables
   val-string-vars l n b f r y σ σ₂ v it =
       kind (suc l) INSTANCE-VARIABLES _ (STRING ∷ (byte-string-bytes b ++ integer-bytes n ++ y)) _ r σ σ₂ (is-variables (suc l))
-      (takes-string-vars input room P sm (val (suc l)) STRING (kind-runs input room P limit l STRING _ (is-text l text-string)) b n f r y σ σ₂ v it)
+      (takes-string-vars input room P sm (val (suc l)) STRING refl (kind-runs input room P limit l STRING _ (is-text l text-string)) b n f r y σ σ₂ v it)
 
   val-user-vars : (l n : ℕ) (b : List ℕ) (p f r : F) (x y : List ℕ) (σ σ₁ σ₂ : Num) (v : ℕ) → Tk like p fEnd x σ σ₁ → Its (by-turns like (val (suc l)) n) f y (addO v σ₁) σ₂
       → Tk (val (suc (suc l))) (fBox (header-of 8 0 b n true) p f r) r (INSTANCE-VARIABLES ∷ USER-DEFINED ∷ (x ++ byte-string-bytes b ++ integer-bytes n ++ y)) σ σ₂
+  unfolding takes-variables
   val-user-vars l n b p f r x y σ σ₁ σ₂ v tk it =
       kind (suc l) INSTANCE-VARIABLES _ (USER-DEFINED ∷ (x ++ byte-string-bytes b ++ integer-bytes n ++ y)) _ r σ σ₂ (is-variables (suc l))
-      (takes-user-vars input room P sm (val (suc l)) USER-DEFINED (kind-runs input room P limit l USER-DEFINED _ (is-user l)) b n p f r x y σ σ₁ σ₂ v tk it)
+      (takes-user-vars input room P sm (val (suc l)) USER-DEFINED refl (kind-runs input room P limit l USER-DEFINED _ (is-user l)) b n p f r x y σ σ₁ σ₂ v tk it)
 
   -- ---- a forest that describes P, in its bytes: its readers take it tree by tree
 

@@ -2,6 +2,7 @@
 use Prim.Native.Nat.{ℕ, suc, _+_, _-_, _<_}
 use mathlib.Core.Path.{_≡_, ap, subst}
 use mathlib.Core.Path.{sym as psym, _∙_}
+use mathlib.Core.Bool.{true}
 use mathlib.Core.List.{List, [], _∷_, _++_, append-assoc}
 use lib.ListN.{length, getD, drop, length-append}
 use lib.Seq.{getD-drop, drop-drop, take-append-seam, drop-append-seam}
@@ -9,9 +10,11 @@ use native.Mathlib.Omega.{arith}
 use borrow.Author.Tests.{le-leb}
 use Rattle.definition.specs.Run.{ok, pure, pick}
 use Rattle.definition.specs.Integer.{value, form, integer-bytes}
+use Rattle.definition.specs.Node.{equal}
 use Rattle.definition.specs.Arena.{range}
 use Rattle.definition.specs.Dump.{byte-string-bytes}
-use Rattle.definition.specs.Load.{State, at-set, read-byte, read-bytes, read-form, read-integer, read-count, read-byte-string}
+use Rattle.definition.specs.Load.{State, at-set, read-byte, read-bytes, tell, read-form, read-integer, read-count, read-byte-string}
+use Rattle.lists.specs.Words.{equal-self}
 use Rattle.load_text.specs.Steps.{step}
 use Rattle.load_text.specs.Codec.{Codes, short, long, codes}
 
@@ -30,7 +33,7 @@ ahead-past {input = input} {n = n} bs x a = record {
 pub ahead-as : {input : List ℕ} {n : ℕ} (x y : List ℕ) → x ≡ y → Ahead input n x → Ahead input n y
 ahead-as {input = input} {n = n} x y e a = subst (Ahead input n) e a
 
-first-ahead : (input : List ℕ) (n b : ℕ) (x : List ℕ) → Ahead input n (b ∷ x) → getD input n 0 ≡ b
+pub first-ahead : (input : List ℕ) (n b : ℕ) (x : List ℕ) → Ahead input n (b ∷ x) → getD input n 0 ≡ b
 first-ahead input n b x a =
     let z : n ≡ n + 0 = omega arith in
     ap (λ (k : ℕ). getD input k 0) z ∙ psym (getD-drop n input 0 0) ∙ ap (λ (l : List ℕ). getD l 0 0) (a .rest)
@@ -46,23 +49,25 @@ read-bytes-ahead input s bs x a =
 
 -- ---- integers
 
-read-coded : (input : List ℕ) (s : State) (w : ℕ) (bs x : List ℕ) → Codes w bs → Ahead input (s .at) (bs ++ x) → read-integer input s ≡ ok w (at-set (s .at + length bs) s)
-unfolding read-integer read-form pure
-read-coded input s w _ x (short b f) a = step _ _ s b _ (read-byte-ahead input s b x a) ∙ go f
+-- bytes that say w, and are those that dump writes
+read-coded : (input : List ℕ) (s : State) (w : ℕ) (bs x : List ℕ) → Codes w bs → equal bs (integer-bytes w) ≡ true → Ahead input (s .at) (bs ++ x)
+    → read-integer input s ≡ ok w (at-set (s .at + length bs) s)
+unfolding read-integer read-form tell
+read-coded input s w _ x (short b f) q a = step _ _ s b _ (read-byte-ahead input s b x a) ∙ go f q
   where
-    go : form b ≡ value w → read-form input (form b) (at-set (s .at + 1) s) ≡ ok w (at-set (s .at + 1) s)
-    go e = rw e
-read-coded input s w _ x (long b n hi bs f l e) a =
-    step _ _ s b _ (read-byte-ahead input s b (bs ++ x) a) ∙ go (ahead-past (b ∷ []) (bs ++ x) a)
+    go : form b ≡ value w → equal (b ∷ []) (integer-bytes w) ≡ true → read-form input b (form b) (at-set (s .at + 1) s) ≡ ok w (at-set (s .at + 1) s)
+    go e q = rw (e, q)
+read-coded input s w _ x (long b n hi bs f l e) q a =
+    step _ _ s b _ (read-byte-ahead input s b (bs ++ x) a) ∙ go (ahead-past (b ∷ []) (bs ++ x) a) q
   where
-    go : Ahead input (s .at + 1) (bs ++ x) → read-form input (form b) (at-set (s .at + 1) s) ≡ ok w (at-set (s .at + length (b ∷ bs)) s)
-    go h =
+    go : Ahead input (s .at + 1) (bs ++ x) → equal (b ∷ bs) (integer-bytes w) ≡ true → read-form input b (form b) (at-set (s .at + 1) s) ≡ ok w (at-set (s .at + length (b ∷ bs)) s)
+    go h q =
         let z : s .at + 1 + length bs ≡ s .at + suc (length bs) = omega arith in
-        rw (f, ← l) (step _ _ _ bs _ (read-bytes-ahead input (at-set (s .at + 1) s) bs x h) ∙ rw (e, z))
+        rw (f, ← l) (step _ _ _ bs _ (read-bytes-ahead input (at-set (s .at + 1) s) bs x h) ∙ rw (e, q, z))
 
 pub read-integer-ahead : (input : List ℕ) (s : State) (w : ℕ) (x : List ℕ) → w < 4294967296 → Ahead input (s .at) (integer-bytes w ++ x)
     → read-integer input s ≡ ok w (at-set (s .at + length (integer-bytes w)) s)
-read-integer-ahead input s w x h a = read-coded input s w (integer-bytes w) x (codes w h) a
+read-integer-ahead input s w x h a = read-coded input s w (integer-bytes w) x (codes w h) (equal-self (integer-bytes w)) a
 
 pub read-count-ahead : (input : List ℕ) (s : State) (w : ℕ) (x : List ℕ) → w < 2147483648 → Ahead input (s .at) (integer-bytes w ++ x)
     → read-count input s ≡ ok w (at-set (s .at + length (integer-bytes w)) s)

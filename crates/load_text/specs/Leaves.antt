@@ -50,6 +50,7 @@ module _ (input : List ℕ) (room : Room) (P : List Node) where
         ranged = t .ranged;
         frame = frame-trans (frame-at-set _ _ s) (t .frame);
         keeps = keeps-trans (keeps-refl s s₁ refl) (t .keeps);
+        notes = t .notes;
         even = t .even;
       }
 
@@ -94,6 +95,7 @@ module _ (input : List ℕ) (room : Room) (P : List Node) where
         ranged = ranged-node row s₀ (inside s₀) a;
         frame = frame-trans (frame-at-set _ n s) (frame-node _ row s₀ (above _));
         keeps = keeps-trans (keeps-refl s s₀ refl) (keeps-node row s₀);
+        notes = refl;
         even = record { nodes = omega (arith, ln); objects = refl; symbols = refl; references = omega arith; bytes = refl };
       }
 
@@ -126,6 +128,7 @@ module _ (input : List ℕ) (room : Room) (P : List Node) where
     ranged = a;
     frame = frame-at-set _ _ s;
     keeps = keeps-refl s (at-set (s .at + length x) s) refl;
+    notes = refl;
     even = ev;
   }
 
@@ -176,5 +179,6 @@ module _ (input : List ℕ) (room : Room) (P : List Node) where
         ranged = ranged-new-symbol b s₀ a;
         frame = frame-trans (frame-at-set _ n s) (frame-new-symbol _ b s₀);
         keeps = keeps-trans (keeps-refl s s₀ refl) (keeps-trans (keeps-node _ s₀) (keeps-refl (with-node _ s₀) (with-new-symbol b s₀) refl));
+        notes = refl;
         even = record { nodes = omega (arith, l₁); objects = refl; symbols = omega (arith, l₃); references = omega arith; bytes = omega (arith, l₂) };
       }

@@ -2,13 +2,14 @@
 use Prim.Native.Nat.{ℕ, suc, _+_, _-_, _≤_, _<_}
 use mathlib.Core.Path.{_≡_, refl}
 use mathlib.Core.Path.{_∙_}
+use mathlib.Core.Bool.{Bool, true}
 use mathlib.Core.List.{List}
 use lib.ListN.{length}
 use native.Mathlib.Omega.{arith}
 use borrow.Author.Tests.{le-leb}
 use Rattle.definition.specs.Run.{Run, ok, next, _>>=_, pick}
 use Rattle.definition.specs.Node.{Row}
-use Rattle.definition.specs.Load.{Room, State, add-node, reserve, add-bytes, add-symbol, add-object, add-object-node, put-reference, entry}
+use Rattle.definition.specs.Load.{Room, State, note, add-node, reserve, add-bytes, add-symbol, add-object, add-object-node, put-reference, entry}
 use Rattle.lists.specs.Lists.{At, at-lt, getD-at}
 use Rattle.states.specs.States.{with-node, with-object, with-symbol, with-object-node, with-bytes, with-word, with-room}
 
@@ -16,6 +17,11 @@ use Rattle.states.specs.States.{with-node, with-object, with-symbol, with-objec
 pub step : {S A B : Type 0} (m : Run S A) (f : A → Run S B) (s : S) (a : A) (t : S) → m s ≡ ok a t → (m >>= f) s ≡ f a t
 unfolding _>>=_ next
 step m f s a t e = rw e
+
+-- a test that holds changes no note
+pub note-runs : (b : Bool) (s : State) → b ≡ true → note b s ≡ ok tt s
+unfolding note
+note-runs b s e = rw e
 
 module _ (room : Room) (s : State) where
   pub add-node-runs : (r : Row) → length (s .nodes) < room .nodes → add-node room r s ≡ ok (length (s .nodes)) (with-node r s)

@@ -14,16 +14,16 @@ use Rattle.definition.specs.Node.{Row, nil, string, user, absent, present}
 use Rattle.definition.specs.Arena.{Arena, range}
 use Rattle.definition.specs.Graph.{Header, header-of, header, links, vars-count, vars-present, vars-links}
 use Rattle.definition.specs.Dump.{byte-string-bytes}
-use Rattle.definition.specs.Load.{Room, State, Reader, at-set, nodes-set, fill, read-pairs, read-instance-variables, read-symbol-like, read-text, read-user-defined, read-variables, set-variables}
+use Rattle.definition.specs.Load.{Room, State, Reader, at-set, nodes-set, fill, read-pairs, read-instance-variables, read-symbol-like, read-text, read-user-defined, read-variables, set-variables, takes-variables}
 use Rattle.lists.specs.Lists.{At, at-snoc, len-snoc, getD-at, apart}
 use Rattle.lists.specs.Ranges.{range-more, range-last}
-use Rattle.graph.specs.Forest.{Node, box, Num, addO, F, fEnd, fBox, list-words, Texted, text-string, text-float}
+use Rattle.graph.specs.Forest.{Node, box, Num, addO, F, fEnd, fBox, list-words, Texted, text-string, high-text}
 use Rattle.graph.specs.Build.{pushO, B, bEnd, Ph, Inv, inv-pushO}
 use Rattle.graph.specs.View.{see, text-row, see-text, arena-of, state-seen}
 use Rattle.states.specs.Rows.{Varied, varied-string, varied-user}
 use Rattle.states.specs.States.{ranged-stored, frame-stored, row-seen, Inside, Ranged, Above, Frame, Keeps, with-object-node, with-bytes, with-row, seen-at-set, bytes-node-seen, inside-text, inside-user, inside-varied, above-text, above-user, above-varied, frame-refl, frame-trans, frame-below, frame-at-set, keeps-refl, keeps-trans, keeps-object-node}
-use Rattle.load_text.specs.Steps.{step, add-object-node-runs, add-bytes-runs}
-use Rattle.load_text.specs.Input.{Ahead, ahead-past, ahead-as, read-byte-string-ahead}
+use Rattle.load_text.specs.Steps.{step, note-runs, add-object-node-runs, add-bytes-runs}
+use Rattle.load_text.specs.Input.{Ahead, ahead-past, ahead-as, first-ahead, read-byte-string-ahead}
 use Rattle.load_text.specs.Items.{Every, Fits, Even, Step, Takes, Items, by-turns}
 use Rattle.load_text.specs.Leaves.{Small}
 use Rattle.load_text.specs.Boxes.{words-pairs, box-step, Told, told-pairs}
@@ -44,10 +44,6 @@ pub record Varies (kd len : ℕ) (us : List ℕ) (row : ℕ → Row) (row′ : �
   pub sees : (A : Arena) (st start n : ℕ) → see A (row′ st start n) ≡ box (header-of kd 0 (range (A .bytes) st len) n true) (us ++ range (A .references) start (n * 2))
   pub varied : (st start n : ℕ) → Varied start n (row st) (row′ st start n)
   pub sets : (st h start n : ℕ) (s : State) → set-variables h start n (row st) s ≡ ok h (with-row h (row′ st start n) s)
-
-high-text : {k kd : ℕ} → Texted k kd → 7 ≤ kd
-high-text text-string = omega arith
-high-text text-float = omega arith
 
 stores-text : {k kd : ℕ} (q : Texted k kd) (len : ℕ) → Stores kd len [] (λ st. text-row q st len)
 stores-text q len = record {
@@ -103,9 +99,9 @@ module _ (input : List ℕ) (room : Room) (P : List Node) where
   -- without variables
   store-step : (rd : Reader ℕ) {kd : ℕ} {us : List ℕ} {row : ℕ → Row} (b : List ℕ) → Stores kd (length b) us row → (p r : F) (σ : Num) (v : ℕ) (s u : State) (y : List ℕ) (n : ℕ)
       → rd s ≡ ok (length (u .nodes)) (stored b (row (length (u .bytes))) n u) → Ahead input n y
-      → B ⊥ p (state-seen s) us (state-seen u) → Inv P σ (state-seen u) → Ranged u → Frame (length (s .references)) s u → Keeps Every s u → Even 0 p s fEnd u
+      → B ⊥ p (state-seen s) us (state-seen u) → Inv P σ (state-seen u) → Ranged u → Frame (length (s .references)) s u → Keeps Every s u → u .notes ≡ s .notes → Even 0 p s fEnd u
       → Step input room P rd (fBox (header-of kd 0 b 0 false) p fEnd r) r (addO v σ) s y
-  store-step rd {kd} {us} {row} b ss p r σ v s u y n e h b₀ i a fr kp ev =
+  store-step rd {kd} {us} {row} b ss p r σ v s u y n e h b₀ i a fr kp nt ev =
       let hd = header-of kd 0 b 0 false in
       let st = length (u .bytes) in
       let t = stored b (row st) n u in
@@ -118,7 +114,7 @@ module _ (input : List ℕ) (room : Room) (P : List Node) where
       let l₅ = length-append (u .bytes) b in
       box-step input room P rd hd p fEnd r (box hd us) (row st) (addO v σ) s u t t us [] y (e ∙ ap (ok k) q) b₀ (stored-ph b ss n u 0 false) (stored-seen b ss n u a) bEnd
       (stored-sees b ss n u (arena-of t 0) refl ∙ ap (box hd) (psym (append-nil us))) h (stored-inv b ss n u P σ v a i) (stored-ranged b ss n u a)
-      (ss .inside t st (omega arith)) (frame-trans fr (stored-frame b ss n u _)) (keeps-trans kp (stored-keeps b ss n u)) (ss .above _ st) l₂
+      (ss .inside t st (omega arith)) (frame-trans fr (stored-frame b ss n u _)) (keeps-trans kp (stored-keeps b ss n u)) nt (ss .above _ st) l₂
       (record {
         nodes = omega (arith, ev .nodes);
         objects = omega (arith, ev .objects);
@@ -152,7 +148,7 @@ module _ (input : List ℕ) (room : Room) (P : List Node) where
       → Takes input room P (read-text input room (text-row q)) (fBox (header-of kd 0 b 0 false) fEnd fEnd r) r (byte-string-bytes b) σ (addO v σ)
   takes-text sm q b r σ v s y i a h g =
       store-step (read-text input room (text-row q)) b (stores-text q (length b)) fEnd r σ v s s y (s .at + length (byte-string-bytes b))
-      (text-runs sm b (text-row q) s y h (omega (arith, g .nodes)) (omega (arith, g .objects)) (omega (arith, g .bytes))) (ahead-past (byte-string-bytes b) y h) bEnd i a (frame-refl _ s) (keeps-refl s s refl) (even-same s)
+      (text-runs sm b (text-row q) s y h (omega (arith, g .nodes)) (omega (arith, g .objects)) (omega (arith, g .bytes))) (ahead-past (byte-string-bytes b) y h) bEnd i a (frame-refl _ s) (keeps-refl s s refl) refl (even-same s)
 
   -- the name's part of a user-defined value
   fits-name : (hd : Header) (p f r : F) (s : State) → Fits room 0 (fBox hd p f r) s → Fits room 0 p s
@@ -172,19 +168,19 @@ module _ (input : List ℕ) (room : Room) (P : List Node) where
       let ev = m .even in
       store-step (read-user-defined input room) b (stores-user (length b) (m .value)) p r σ₁ v s u y (u .at + length (byte-string-bytes b))
       (user-runs sm b (m .value) s u y (m .runs) (m .ahead) (omega (arith, g .nodes, ev .nodes)) (omega (arith, g .objects, ev .objects)) (omega (arith, g .bytes, ev .bytes)))
-      (ahead-past (byte-string-bytes b) y (m .ahead)) (m .built [] (state-seen u) bEnd) (m .inv) (m .ranged) (m .frame) (m .keeps) ev
+      (ahead-past (byte-string-bytes b) y (m .ahead)) (m .built [] (state-seen u) bEnd) (m .inv) (m .ranged) (m .frame) (m .keeps) (m .notes) ev
 
   -- ---- with variables
 
   -- h: a value without variables was read to u and stored
   vars-step : (inner : Reader ℕ) {kd : ℕ} {us : List ℕ} {row : ℕ → Row} {row′ : ℕ → ℕ → ℕ → Row} (b : List ℕ) → Stores kd (length b) us row → Varies kd (length b) us row row′
       → (p f r : F) (σ₂ : Num) (s u : State) (z : List ℕ) (k n : ℕ)
-      → inner s ≡ ok (length (u .nodes)) (stored b (row (length (u .bytes))) k u)
-      → B ⊥ p (state-seen s) us (state-seen u) → Ranged u → Frame (length (s .references)) s u → Keeps Every s u → Even 0 p s fEnd u
+      → takes-variables (getD input (s .at) 0) ≡ true → inner s ≡ ok (length (u .nodes)) (stored b (row (length (u .bytes))) k u)
+      → B ⊥ p (state-seen s) us (state-seen u) → Ranged u → Frame (length (s .references)) s u → Keeps Every s u → u .notes ≡ s .notes → Even 0 p s fEnd u
       → Told input room P 2 n (λ start m. read-pairs (read-symbol-like input room) inner m start) f σ₂ (stored b (row (length (u .bytes))) k u) z
       → Step input room P (read-variables input room inner) (fBox (header-of kd 0 b n true) p f r) r σ₂ s z
   unfolding read-variables read-instance-variables look
-  vars-step inner {kd} {us} {row} {row′} b ss vs p f r σ₂ s u z k n e b₀ a fr kp ev t =
+  vars-step inner {kd} {us} {row} {row′} b ss vs p f r σ₂ s u z k n tv e b₀ a fr kp nt ev t =
       let hd = header-of kd 0 b n true in
       let st = length (u .bytes) in
       let h = length (u .nodes) in
@@ -209,11 +205,11 @@ module _ (input : List ℕ) (room : Room) (P : List Node) where
       let vd = vs .varied st start n in
       let wv = t .even in
       box-step input room P (read-variables input room inner) hd p f r (box (header-of kd 0 b 0 false) us) r₁ σ₂ s u s₁ w us (t .values) z
-      (step _ _ s h s₁ e ∙ t .runs (λ start m y. set-variables h start m (getD (y .nodes) h nil) y) ∙ e₄)
+      (step _ _ s tt s (note-runs _ s tv) ∙ step _ _ s h s₁ e ∙ t .runs (λ start m y. set-variables h start m (getD (y .nodes) h nil) y) ∙ e₄)
       b₀ (stored-ph b ss k u n true) (stored-seen b ss k u a) (t .built) e₃ (t .ahead) (t .inv) (t .ranged)
       (inside-varied w (row st) r₁ vd (t .inside) (t .ranged h (row st) e₁))
       (frame-trans fr (frame-trans (stored-frame b ss k u p′) (frame-below p′ (fr .references-grow) (t .frame))))
-      (keeps-trans kp (keeps-trans (stored-keeps b ss k u) (t .keeps))) (above-varied p′ (row st) r₁ (fr .references-grow) vd) l₂
+      (keeps-trans kp (keeps-trans (stored-keeps b ss k u) (t .keeps))) (t .notes ∙ nt) (above-varied p′ (row st) r₁ (fr .references-grow) vd) l₂
       (record {
         nodes = omega (arith, ev .nodes, wv .nodes);
         objects = omega (arith, ev .objects, wv .objects);
@@ -238,14 +234,18 @@ module _ (input : List ℕ) (room : Room) (P : List Node) where
         bytes = omega (arith, g .bytes, ev .bytes);
       }
 
+  -- dump may write an I before the kind byte k
+  taking : (k : ℕ) (s : State) (x : List ℕ) → takes-variables k ≡ true → Ahead input (s .at) (k ∷ x) → takes-variables (getD input (s .at) 0) ≡ true
+  taking k s x e h = ap takes-variables (first-ahead input (s .at) k x h) ∙ e
+
   -- inner reads the kind byte k and then what rd reads
   abbrev pub Behind : ℕ → Reader ℕ → Reader ℕ → Type 0
   Behind k rd inner = (s : State) (x : List ℕ) → Ahead input (s .at) (k ∷ x) → inner s ≡ rd (at-set (s .at + 1) s)
 
-  pub takes-string-vars : Small room → (inner : Reader ℕ) (k : ℕ) → Behind k (read-text input room (text-row text-string)) inner → (b : List ℕ) (n : ℕ) (f r : F) (y : List ℕ) (σ σ₂ : Num) (v : ℕ)
+  pub takes-string-vars : Small room → (inner : Reader ℕ) (k : ℕ) → takes-variables k ≡ true → Behind k (read-text input room (text-row text-string)) inner → (b : List ℕ) (n : ℕ) (f r : F) (y : List ℕ) (σ σ₂ : Num) (v : ℕ)
       → Items input room P (by-turns (read-symbol-like input room) inner n) f y (addO v σ) σ₂
       → Takes input room P (read-variables input room inner) (fBox (header-of 7 0 b n true) fEnd f r) r (k ∷ byte-string-bytes b ++ integer-bytes n ++ y) σ σ₂
-  takes-string-vars sm inner k bh b n f r y σ σ₂ v it s z i a h g =
+  takes-string-vars sm inner k tv bh b n f r y σ σ₂ v it s z i a h g =
       let ss = stores-text text-string (length b) in
       let e₁ : byte-string-bytes b ++ integer-bytes n ++ y ++ z ≡ byte-string-bytes b ++ (integer-bytes n ++ (y ++ z)) = simp append-assoc in
       let h₁ : Ahead input (s .at + 1) (byte-string-bytes b ++ (integer-bytes n ++ (y ++ z))) = ahead-as _ _ e₁ (ahead-past (k ∷ []) (byte-string-bytes b ++ integer-bytes n ++ y ++ z) h) in
@@ -254,15 +254,15 @@ module _ (input : List ℕ) (room : Room) (P : List Node) where
       let l₁ : list-words (header-of 7 0 b n true) ≡ n * 2 = words-pairs 7 n b true (omega arith) in
       let t = told-pairs input room P n (read-symbol-like input room) inner s₁ z (omega (arith, g .references, l₁, sm .references)) it (stored-inv b ss c s P σ v a i) (stored-ranged b ss c s a)
       (ahead-past (byte-string-bytes b) (integer-bytes n ++ (y ++ z)) h₁) (fits-stored b ss fEnd f r s s c n (even-same s) g) in
-      vars-step inner b ss (varies-string (length b)) fEnd f r σ₂ s s z c n
+      vars-step inner b ss (varies-string (length b)) fEnd f r σ₂ s s z c n (taking k s _ tv h)
       (bh s _ h ∙ text-runs sm b (text-row text-string) (at-set (s .at + 1) s) (integer-bytes n ++ (y ++ z)) h₁ (omega (arith, g .nodes)) (omega (arith, g .objects)) (omega (arith, g .bytes)))
-      bEnd a (frame-refl _ s) (keeps-refl s s refl) (even-same s) t
+      bEnd a (frame-refl _ s) (keeps-refl s s refl) refl (even-same s) t
 
-  pub takes-user-vars : Small room → (inner : Reader ℕ) (k : ℕ) → Behind k (read-user-defined input room) inner → (b : List ℕ) (n : ℕ) (p f r : F) (x y : List ℕ) (σ σ₁ σ₂ : Num) (v : ℕ)
+  pub takes-user-vars : Small room → (inner : Reader ℕ) (k : ℕ) → takes-variables k ≡ true → Behind k (read-user-defined input room) inner → (b : List ℕ) (n : ℕ) (p f r : F) (x y : List ℕ) (σ σ₁ σ₂ : Num) (v : ℕ)
       → Takes input room P (read-symbol-like input room) p fEnd x σ σ₁ → Items input room P (by-turns (read-symbol-like input room) inner n) f y (addO v σ₁) σ₂
       → Takes input room P (read-variables input room inner) (fBox (header-of 8 0 b n true) p f r) r (k ∷ x ++ byte-string-bytes b ++ integer-bytes n ++ y) σ σ₂
   unfolding state-seen
-  takes-user-vars sm inner k bh b n p f r x y σ σ₁ σ₂ v tk it s z i a h g =
+  takes-user-vars sm inner k tv bh b n p f r x y σ σ₁ σ₂ v tk it s z i a h g =
       let e₁ : x ++ byte-string-bytes b ++ integer-bytes n ++ y ++ z ≡ x ++ (byte-string-bytes b ++ (integer-bytes n ++ (y ++ z))) = simp append-assoc in
       let h₁ : Ahead input (s .at + 1) (x ++ (byte-string-bytes b ++ (integer-bytes n ++ (y ++ z)))) =
       ahead-as _ _ e₁ (ahead-past (k ∷ []) (x ++ byte-string-bytes b ++ integer-bytes n ++ y ++ z) h) in
@@ -275,7 +275,7 @@ module _ (input : List ℕ) (room : Room) (P : List Node) where
       let l₁ : list-words (header-of 8 0 b n true) ≡ n * 2 = words-pairs 8 n b true (omega arith) in
       let t = told-pairs input room P n (read-symbol-like input room) inner s₁ z (omega (arith, g .references, l₁, sm .references)) it (stored-inv b ss c u P σ₁ v (m .ranged) (m .inv)) (stored-ranged b ss c u (m .ranged))
       (ahead-past (byte-string-bytes b) (integer-bytes n ++ (y ++ z)) (m .ahead)) (fits-stored b ss p f r s u c n ev g) in
-      vars-step inner b ss (varies-user (length b) (m .value)) p f r σ₂ s u z c n
+      vars-step inner b ss (varies-user (length b) (m .value)) p f r σ₂ s u z c n (taking k s _ tv h)
       (bh s _ h ∙ user-runs sm b (m .value) (at-set (s .at + 1) s) u (integer-bytes n ++ (y ++ z)) (m .runs) (m .ahead)
       (omega (arith, g .nodes, ev .nodes)) (omega (arith, g .objects, ev .objects)) (omega (arith, g .bytes, ev .bytes)))
-      (m .built [] (state-seen u) bEnd) (m .ranged) (frame-trans (frame-at-set _ _ s) (m .frame)) (keeps-trans (keeps-refl s (at-set (s .at + 1) s) refl) (m .keeps)) ev t
+      (m .built [] (state-seen u) bEnd) (m .ranged) (frame-trans (frame-at-set _ _ s) (m .frame)) (keeps-trans (keeps-refl s (at-set (s .at + 1) s) refl) (m .keeps)) (m .notes) ev t

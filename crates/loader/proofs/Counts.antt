@@ -1,4 +1,4 @@
--- One of the six counts changed.
+-- One of the seven counts changed.
 use Prim.Native.Nat.{ℕ, _<_}
 use native.Mathlib.Omega.{arith}
 use mathlib.Core.Path.{_≡_, refl}
@@ -17,5 +17,5 @@ put i n c = record { sized = length-set c i n; others = λ j h. getD-set-other c
 pub none : (i : ℕ) (c : List ℕ) → Only i c c
 none i c = record { sized = refl; others = λ j h. refl }
 
-pub is : (i n : ℕ) (c : List ℕ) → length c ≡ 6 → i < 6 → getD (set c i n) i 0 ≡ n
+pub is : (i n : ℕ) (c : List ℕ) → length c ≡ 7 → i < 7 → getD (set c i n) i 0 ≡ n
 is i n c z l = getD-set-same c i n 0 (omega arith)

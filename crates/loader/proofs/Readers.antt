@@ -7,22 +7,22 @@ use mathlib.Core.List.{List, [], _∷_}
 use mathlib.Core.Option.{Option, none, some}
 use mathlib.Core.Logic.{_⊎_, inl, inr}
 use lib.Dec.{eqb}
-use lib.ListN.{length, getD, set, drop}
+use lib.ListN.{length, getD, set, drop, List·getD-eq-default}
 use borrow.Author.Tests.{ne-eqb, eq-eqb}
 use mir.Syntax.{w32}
 use mir.Val.{Fits}
-use Rattle.definition.specs.Run.{pure, refuse, pick, look, _>>=_}
+use Rattle.definition.specs.Run.{ok, pure, refuse, pick, look, _>>=_}
 use Rattle.definition.specs.Kind.{NIL, TRUE, FALSE, FIXNUM, SYMBOL, SYMBOL-LINK, OBJECT-LINK, INSTANCE-VARIABLES, ARRAY, HASH, HASH-DEFAULT, OBJECT, STRING, USER-DEFINED, FLOAT}
 use Rattle.definition.specs.Node.{Row, nil, symbol, string, float, absent, words}
 use Rattle.definition.specs.Arena.{find-symbol, named}
-use Rattle.definition.specs.Load.{Room, State, Reader, Lists, Head, String, Float, Unknown, head, value-of, read-text, read-string, read-float, read-header, read-value, read-symbol, read-symbol-link, read-symbol-like, intern, intern-as, add-symbol, add-bytes, add-node}
+use Rattle.definition.specs.Load.{Room, State, Reader, Lists, at-set, noted, note, takes-variables, Head, String, Float, Unknown, head, value-of, read-text, read-string, read-float, read-header, read-value, read-symbol, read-symbol-link, read-symbol-like, intern, intern-as, add-symbol, add-bytes, add-node}
 use Rattle.definition.specs.declared.Refusal.the-variants.{NotASymbol, TooDeep}
-use Rattle.loader.specs.Holds.{Holds, Held, Goes, Leads, Does, Leaf, Plain, new-symbol, find-listed, at-of, nodes-of, symbols-of}
+use Rattle.loader.specs.Holds.{Holds, Held, Goes, Leads, Does, Leaf, Plain, new-symbol, after-i, find-listed, at-of, nodes-of, symbols-of}
 use Rattle.reader.specs.Answers.{Reads, coded, at-name, at-level}
 use Rattle.loader.proofs.Stores.{at-held}
 use Rattle.loader.proofs.Names.{listed-here, listed-on, listed-none}
 use Rattle.loader.proofs.Laws.{still, given, goes-to, goes-first, lead-first, lead-after, lead-stop, lead-as, refuses, bind-assoc}
-use Rattle.loader.proofs.Steps.{moved, byte-goes, byte-missing}
+use Rattle.loader.proofs.Steps.{moved, moved-lost, lost, byte-goes, byte-missing}
 
 -- ---- a value after its kind byte
 
@@ -68,10 +68,14 @@ other k l a b c d e f g h i = simp (ne-eqb k FIXNUM a, ne-eqb k SYMBOL-LINK b, n
 -- ---- the header
 
 module _ {input : List ℕ} {room : Room} {limit : ℕ} {T : Lists} {c : List ℕ} {r : ℕ} where
-  pub header-read : r < 4294967296 → at-of c + 2 ≤ length input → Reads (read-header input) tt (at-of c) r (at-of c + 2) → Does input room limit (read-header input) T c r T (set c 0 (at-of c + 2))
-  header-read l h k = given (λ s H. l) (moved (at-of c + 2) h (λ s H. k .reads l s (sym (H .count-at))))
+  pub header-read : r ≡ 0 → at-of c + 2 ≤ length input → Reads (read-header input) (at-of c) r (at-of c + 2) → Does input room limit (read-header input) T c r T (set c 0 (at-of c + 2))
+  header-read z h k = let l : r < 4294967296 = omega arith in given (λ s H. l) (moved (at-of c + 2) h (λ s H. k .reads l s (sym (H .count-at)) ∙ ap (λ t. ok tt (noted t (at-set (at-of c + 2) s))) (eq-eqb r 0 z)))
 
-  pub header-stop : {T' : Lists} {c' : List ℕ} → 4294967296 ≤ r → Reads (read-header input) tt (at-of c) r (at-of c + 2) → Does input room limit (read-header input) T c r T' c'
+  -- an older version
+  pub header-older : (r ≡ 0 → ⊥) → r < 4294967296 → at-of c + 2 ≤ length input → Reads (read-header input) (at-of c) r (at-of c + 2) → Does input room limit (read-header input) T c r T (set (set c 0 (at-of c + 2)) 6 1)
+  header-older z l h k = given (λ s H. l) (moved-lost (at-of c + 2) h (λ s H. k .reads l s (sym (H .count-at)) ∙ ap (λ t. ok tt (noted t (at-set (at-of c + 2) s))) (ne-eqb r 0 z)))
+
+  pub header-stop : {T' : Lists} {c' : List ℕ} → 4294967296 ≤ r → Reads (read-header input) (at-of c) r (at-of c + 2) → Does input room limit (read-header input) T c r T' c'
   header-stop l k = record { goes = λ h. absurd (omega (arith, l, h)); stops = λ h. record { refuses = λ s H. k .stops h limit s (sym (H .count-at)) } }
 
 -- ---- a name
@@ -100,9 +104,9 @@ like-missing {T = T} {c = c} l = lead-stop {T' = T} {c' = c} (omega arith) (lead
 -- ---- a symbol found or made
 
 module _ {input : List ℕ} {room : Room} {T : Lists} {c : List ℕ} (name : List ℕ) where
-  pub known : (h : ℕ) → ((s : State) → Holds input room s T c → find-symbol (s .bytes) name (s .nodes) 0 ≡ some h) → Goes input room (intern room name >>= add-symbol room) T c (add-symbol room h) T c
-  unfolding intern look intern-as pure _>>=_ Rattle.definition.specs.Run.next
-  known h e = still (λ s H. ap (λ (f : Option ℕ). (intern-as room name f >>= add-symbol room) s) (e s H))
+  pub known : (h : ℕ) → ((s : State) → Holds input room s T c → find-symbol (s .bytes) name (s .nodes) 0 ≡ some h) → Goes input room (intern room name >>= add-symbol room) T c (add-symbol room h) T (set c 6 1)
+  unfolding intern look intern-as note pure _>>=_ Rattle.definition.specs.Run.next
+  known h e = lost (λ s H. ap (λ (f : Option ℕ). (intern-as room name f >>= add-symbol room) s) (e s H))
 
   pub unknown : ((s : State) → Holds input room s T c → find-symbol (s .bytes) name (s .nodes) 0 ≡ none) → Goes input room (intern room name >>= add-symbol room) T c (add-bytes room name >>= λ start. new-symbol room start (length name)) T c
   unfolding intern look intern-as _>>=_
@@ -110,6 +114,31 @@ module _ {input : List ℕ} {room : Room} {T : Lists} {c : List ℕ} (name : Lis
     where
       step : (s : State) → find-symbol (s .bytes) name (s .nodes) 0 ≡ none → (intern room name >>= add-symbol room) s ≡ (add-bytes room name >>= λ start. new-symbol room start (length name)) s
       step s e = ap (λ (f : Option ℕ). (intern-as room name f >>= add-symbol room) s) e ∙ bind-assoc (add-bytes room name) (λ start. add-node room (symbol start (length name))) (add-symbol room) s
+
+-- ---- what stands directly after `I`
+
+module _ {input : List ℕ} {room : Room} {T : Lists} {c : List ℕ} (inner : Reader ℕ) where
+  -- a kind that dump writes there
+  pub after-takes : takes-variables (getD input (at-of c) 0) ≡ true → Goes input room (after-i input inner) T c inner T c
+  unfolding look note _>>=_ Rattle.definition.specs.Run.next
+  after-takes e = still (λ s H. ap (λ (t : Bool). inner (noted t s)) (ap (λ (x : ℕ). takes-variables (getD input x 0)) (sym (H .count-at)) ∙ e))
+
+  -- another, or nothing
+  pub after-other : takes-variables (getD input (at-of c) 0) ≡ false → Goes input room (after-i input inner) T c inner T (set c 6 1)
+  unfolding look note _>>=_ Rattle.definition.specs.Run.next
+  after-other e = lost (λ s H. ap (λ (t : Bool). inner (noted t s)) (ap (λ (x : ℕ). takes-variables (getD input x 0)) (sym (H .count-at)) ∙ e))
+
+pub takes-string : {k : ℕ} → k ≡ STRING → takes-variables k ≡ true
+unfolding takes-variables
+takes-string e = rw e refl
+
+pub takes-other : {k : ℕ} → (k ≡ STRING → ⊥) → takes-variables k ≡ eqb k USER-DEFINED
+unfolding takes-variables
+takes-other {k} n = simp (ne-eqb k STRING n)
+
+pub takes-past : (input : List ℕ) (at : ℕ) → length input ≤ at → takes-variables (getD input at 0) ≡ false
+unfolding takes-variables
+takes-past input at l = ap takes-variables (List·getD-eq-default input 0 l)
 
 -- ---- what is held, for the code's needs
 
@@ -120,8 +149,8 @@ module _ {input : List ℕ} {T : Lists} {c : List ℕ} (H : Held input T c) wher
   pub nodes-small : length (T .nodes) ≤ 2147483647
   nodes-small = omega arith
 
-  pub six : length c ≡ 6
-  six = H .holds .counts
+  pub seven : length c ≡ 7
+  seven = H .holds .counts
 
   pub slot-room : {h : ℕ} → h < nodes-of c → h * 7 + 7 ≤ length (T .nodes)
   slot-room l = omega arith

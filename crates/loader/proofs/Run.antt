@@ -10,12 +10,12 @@ use lib.ListN.{length, getD, set, drop, length-set}
 use lib.Seq.{sets, set-set, set-comm, getD-set-other}
 use borrow.Author.Tests.{lt-ltb, ne-eqb}
 use Rattle.definition.specs.Run.{pure, pick, look, _>>=_}
-use Rattle.definition.specs.Integer.{form, value}
+use Rattle.definition.specs.Integer.{form, value, integer-bytes}
 use Rattle.definition.specs.Kind.{FIXNUM, SYMBOL-LINK}
 use Rattle.definition.specs.Node.{fixnum, words}
 use Rattle.definition.specs.Load.{Room, State, Reader, Lists, lists, Fixnum, SymbolLink, head, value-of, read-value, read-integer, read-count, read-fixnum, read-symbol-link, read-symbol-like, put-reference, add-node, entry}
 use Rattle.definition.specs.declared.Refusal.the-variants.{MissingSymbol}
-use Rattle.reader.specs.Integers.{size-of, word-of, size-small}
+use Rattle.reader.specs.Integers.{size-of, word-of, dumped-at, size-small}
 use Rattle.loader.specs.Holds.{Held, Holds, Goes, Link, Next, Either, Coming, slot, slots, at-of, nodes-of, references-of, symbols-of}
 use Rattle.loader.proofs.Counts.{is}
 use Rattle.loader.proofs.Names.{untrue}
@@ -47,22 +47,22 @@ module _ {input : List ℕ} {room : Room} (name inner : Reader ℕ) (names : ℕ
 -- ---- a link
 
 -- the index of one byte, after the kind byte
-index-goes : {input : List ℕ} {room : Room} {c : List ℕ} {no re by sy ob : List ℕ} (i : ℕ) → at-of c < length input → form (getD input (at-of c) 0) ≡ value i → i < symbols-of c → i < 2147483648 → Goes input room (read-symbol-link input) (lists no re by sy ob) c (pure (getD sy i 0)) (lists no re by sy ob) (set c 0 (at-of c + 1))
+index-goes : {input : List ℕ} {room : Room} {c : List ℕ} {no re by sy ob : List ℕ} (i : ℕ) → at-of c < length input → form (getD input (at-of c) 0) ≡ value i → integer-bytes i ≡ getD input (at-of c) 0 ∷ [] → i < symbols-of c → i < 2147483648 → Goes input room (read-symbol-link input) (lists no re by sy ob) c (pure (getD sy i 0)) (lists no re by sy ob) (set c 0 (at-of c + 1))
 unfolding read-symbol-link read-count pick
-index-goes {c = c} i l e h k =
+index-goes {c = c} i l e d h k =
     let q : symbols-of (set c 0 (at-of c + 1)) ≡ symbols-of c = getD-set-other c 0 4 (at-of c + 1) 0 (omega arith) in
-    then (goes-first (λ i. look λ s. entry (s .symbols) i (MissingSymbol i)) (then (goes-first _ (integer-one {limit = 0} i l e (omega arith) .goes (omega arith))) (goes-to (simp (lt-ltb i 2147483648 k)) (still (λ s H. refl)))))
+    then (goes-first (λ i. look λ s. entry (s .symbols) i (MissingSymbol i)) (then (goes-first _ (integer-one {limit = 0} i l e d (omega arith) .goes (omega arith))) (goes-to (simp (lt-ltb i 2147483648 k)) (still (λ s H. refl)))))
     (symbol-listed i (MissingSymbol i) (omega (arith, q)))
 
-module _ {room : Room} {no re by sy ob : List ℕ} (input c : List ℕ) (limit levels : ℕ) (some : levels ≡ 0 → ⊥) (six : length c ≡ 6) (i : ℕ) (l : at-of c + 2 ≤ length input) (k : getD input (at-of c) 0 ≡ SYMBOL-LINK) (e : form (getD input (at-of c + 1) 0) ≡ value i) (h : i < symbols-of c) (small : i < 2147483648) where
+module _ {room : Room} {no re by sy ob : List ℕ} (input c : List ℕ) (limit levels : ℕ) (some : levels ≡ 0 → ⊥) (seven : length c ≡ 7) (i : ℕ) (l : at-of c + 2 ≤ length input) (k : getD input (at-of c) 0 ≡ SYMBOL-LINK) (e : form (getD input (at-of c + 1) 0) ≡ value i) (d : integer-bytes i ≡ getD input (at-of c + 1) 0 ∷ []) (h : i < symbols-of c) (small : i < 2147483648) where
   -- after the kind byte
   link-rest : Goes input room (read-symbol-link input) (lists no re by sy ob) (set c 0 (at-of c + 1)) (pure (getD sy i 0)) (lists no re by sy ob) (set c 0 (at-of c + 2))
   link-rest =
-      let p : at-of (set c 0 (at-of c + 1)) ≡ at-of c + 1 = is 0 (at-of c + 1) c six (omega arith) in
+      let p : at-of (set c 0 (at-of c + 1)) ≡ at-of c + 1 = is 0 (at-of c + 1) c seven (omega arith) in
       let q : symbols-of (set c 0 (at-of c + 1)) ≡ symbols-of c = getD-set-other c 0 4 (at-of c + 1) 0 (omega arith) in
       let next : at-of c + 2 ≡ at-of (set c 0 (at-of c + 1)) + 1 = omega (arith, p) in
       subst (λ x. Goes input room (read-symbol-link input) (lists no re by sy ob) (set c 0 (at-of c + 1)) (pure (getD sy i 0)) (lists no re by sy ob) x) (set-set c 0 (at-of c + 1) (at-of (set c 0 (at-of c + 1)) + 1) ∙ ap (set c 0) (sym next))
-      (index-goes i (omega (arith, p)) (ap (λ (x : ℕ). form (getD input x 0)) p ∙ e) (omega (arith, q)) small)
+      (index-goes i (omega (arith, p)) (ap (λ (x : ℕ). form (getD input x 0)) p ∙ e) (d ∙ ap (λ (x : ℕ). getD input x 0 ∷ []) (sym p)) (omega (arith, q)) small)
 
   -- as a name and as a value alike
   pub link-goes : (t : Bool) → Goes input room (pick t (read-symbol-like input room) (read-value input room limit levels)) (lists no re by sy ob) c (pure (getD sy i 0)) (lists no re by sy ob) (set c 0 (at-of c + 2))
@@ -79,19 +79,19 @@ size-at input at = size-of (form (getD input at 0))
 abbrev pub word-at : List ℕ → ℕ → ℕ
 word-at input at = word-of (drop (at + 1) input) (form (getD input at 0))
 
-module _ {room : Room} {no re by sy ob : List ℕ} (input c : List ℕ) (limit levels : ℕ) (some : levels ≡ 0 → ⊥) (six : length c ≡ 6) (l : at-of c + 6 ≤ length input) (k : getD input (at-of c) 0 ≡ FIXNUM) (h : nodes-of c < length no / 7) where
+module _ {room : Room} {no re by sy ob : List ℕ} (input c : List ℕ) (limit levels : ℕ) (some : levels ≡ 0 → ⊥) (seven : length c ≡ 7) (l : at-of c + 6 ≤ length input) (k : getD input (at-of c) 0 ≡ FIXNUM) (d : dumped-at input (at-of c + 1) ≡ true) (h : nodes-of c < length no / 7) where
   -- the integer, after the kind byte
   pub integer-goes : {no' : List ℕ} → word-at input (at-of c + 1) < 4294967296 → no' ≡ sets no (nodes-of c * 7) (2 ∷ word-at input (at-of c + 1) ∷ 0 ∷ 0 ∷ 0 ∷ 0 ∷ 0 ∷ []) → Goes input room (read-value input room limit levels) (lists no re by sy ob) c (pure (nodes-of c)) (lists no' re by sy ob) (set (set c 1 (nodes-of c + 1)) 0 (at-of c + 1 + size-at input (at-of c + 1)))
   unfolding head value-of read-fixnum pick words
   integer-goes {no'} fits f =
       let c₁ = set c 0 (at-of c + 1) in
-      let p : at-of c₁ ≡ at-of c + 1 = is 0 (at-of c + 1) c six (omega arith) in
+      let p : at-of c₁ ≡ at-of c + 1 = is 0 (at-of c + 1) c seven (omega arith) in
       let q : nodes-of c₁ ≡ nodes-of c = getD-set-other c 0 1 (at-of c + 1) 0 (omega arith) in
       let five = size-small (getD input (at-of c + 1) 0) in
       let number : Goes input room (read-integer input) (lists no re by sy ob) c₁ (pure (word-at input (at-of c + 1))) (lists no re by sy ob) (set c 0 (at-of c + 1 + size-at input (at-of c + 1))) =
       subst (λ x. Goes input room (read-integer input) (lists no re by sy ob) c₁ (pure (word-at input (at-of c + 1))) (lists no re by sy ob) x) (set-set c 0 (at-of c + 1) (at-of c + 1 + size-at input (at-of c + 1)))
       (subst (λ a. Goes input room (read-integer input) (lists no re by sy ob) c₁ (pure (word-of (drop (a + 1) input) (form (getD input a 0)))) (lists no re by sy ob) (set c₁ 0 (a + size-of (form (getD input a 0))))) p
-      (integer-whole {limit = 0} _ (rw p (omega (arith, five))) refl (rw p fits) .goes (rw p fits))) in
+      (integer-whole {limit = 0} _ (rw p (omega (arith, five))) refl (sym d ∙ ap (dumped-at input) (sym p)) (rw p fits) .goes (rw p fits))) in
       let c₂ = set c 0 (at-of c + 1 + size-at input (at-of c + 1)) in
       let r : nodes-of c₂ ≡ nodes-of c = getD-set-other c 0 1 (at-of c + 1 + size-at input (at-of c + 1)) 0 (omega arith) in
       let node : Goes input room (add-node room (fixnum (word-at input (at-of c + 1)))) (lists no re by sy ob) c₂ (pure (nodes-of c)) (lists no' re by sy ob) (set (set c 1 (nodes-of c + 1)) 0 (at-of c + 1 + size-at input (at-of c + 1))) =
@@ -145,11 +145,11 @@ module _ {input no₀ re₀ sy c₀ : List ℕ} {start end names levels : ℕ} {
   abbrev c₁ : List ℕ
   c₁ = set c 0 at
 
-  pub six : length c ≡ 6
-  six = sym (length-set c 0 at) ∙ R .held .2 .holds .counts
+  pub seven : length c ≡ 7
+  seven = sym (length-set c 0 at) ∙ R .held .2 .holds .counts
 
   pub is-at : at-of c₁ ≡ at
-  is-at = is 0 at c six (omega arith)
+  is-at = is 0 at c seven (omega arith)
 
   pub at-inside : at ≤ length input
   at-inside = omega (arith, is-at, R .held .2 .holds .count-at, R .held .2 .holds .inside)
@@ -157,6 +157,10 @@ module _ {input no₀ re₀ sy c₀ : List ℕ} {start end names levels : ℕ} {
   -- the run is over
   pub run-over : {r : ℕ} {c' : List ℕ} → r ≡ to → c' ≡ set c 0 at → (room : Room) (limit : ℕ) (by ob : List ℕ) → Goes input room (slots (read-symbol-like input room) (read-value input room limit levels) names (end - start) start) (lists no₀ re₀ by sy ob) c₀ (slots (read-symbol-like input room) (read-value input room limit levels) names (end - r) r) (lists no re by sy ob) c'
   run-over e f room limit by ob = rw (e, f) (R .goes room limit by ob)
+
+  -- the nodes by another name
+  pub run-same : {no' : List ℕ} → no' ≡ no → Running input no₀ re₀ sy c₀ start end names levels no' re c at to
+  run-same e = subst (λ x. Running input no₀ re₀ sy c₀ start end names levels x re c at to) (sym e) R
 
   -- why it is over: what it would take does not come next
   module _ {c' : List ℕ} {r : ℕ} (f : c' ≡ set c 0 at) (e : r ≡ to) (t : Coming input no c' names r) where
@@ -170,18 +174,21 @@ module _ {input no₀ re₀ sy c₀ : List ℕ} {start end names levels : ℕ} {
     over-short l = omega (arith, l, there)
 
     -- by the kind byte
-    by-kind : {A : Type 0} → (getD input at 0 ≡ SYMBOL-LINK → (n : ℕ) → Link (getD input (at + 1) 0) (symbols-of c₀) n → A) → (getD input at 0 ≡ FIXNUM → (to % 2 ≡ names → ⊥) → nodes-of c < length no / 7 → A) → A
+    by-kind : {A : Type 0} → (getD input at 0 ≡ SYMBOL-LINK → (n : ℕ) → Link (getD input (at + 1) 0) (symbols-of c₀) n → A) → (getD input at 0 ≡ FIXNUM → dumped-at input (at + 1) ≡ true → (to % 2 ≡ names → ⊥) → nodes-of c < length no / 7 → A) → A
     by-kind {A} g h = go (taken .kind)
       where
         go : Either input no c₁ names to → A
         go (inl (k, (n, y))) = g (sym (ap (λ (x : ℕ). getD input x 0) is-at) ∙ k) n (subst (λ (x : ℕ). Link (getD input (at + 1) 0) x n) (R .known) (subst (λ (x : ℕ). Link (getD input (x + 1) 0) (symbols-of c₁) n) is-at y))
-        go (inr (k, y, u)) = h (sym (ap (λ (x : ℕ). getD input x 0) is-at) ∙ k) y (omega (arith, u, getD-set-other c 0 1 at 0 (omega arith)))
+        go (inr (k, d, y, u)) = h (sym (ap (λ (x : ℕ). getD input x 0) is-at) ∙ k) (sym (ap (λ (x : ℕ). dumped-at input (x + 1)) is-at) ∙ d) y (omega (arith, u, getD-set-other c 0 1 at 0 (omega arith)))
 
     pub over-link : {i : ℕ} → getD input at 0 ≡ SYMBOL-LINK → ((n : ℕ) → Link (getD input (at + 1) 0) (symbols-of c₀) n → i ≡ n) → symbols-of c₀ ≤ i → ⊥
-    over-link k g l = by-kind (λ _ n y. omega (arith, g n y, y .3, l)) (λ q _ _. omega (arith, k, q))
+    over-link k g l = by-kind (λ _ n y. omega (arith, g n y, y .4, l)) (λ q _ _ _. omega (arith, k, q))
 
     pub over-integer : {b : Bool} → (getD input at 0 ≡ SYMBOL-LINK → ⊥) → (getD input at 0 ≡ FIXNUM → (to % 2 ≡ names → ⊥) → nodes-of c < length no / 7 → b ≡ true) → b ≡ false → ⊥
-    over-integer k g l = by-kind (λ q _ _. k q) (λ q y u. untrue (sym l ∙ g q y u))
+    over-integer k g l = by-kind (λ q _ _. k q) (λ q _ y u. untrue (sym l ∙ g q y u))
+
+    pub over-form : (getD input at 0 ≡ SYMBOL-LINK → ⊥) → dumped-at input (at + 1) ≡ false → ⊥
+    over-form k d = by-kind (λ q _ _. k q) (λ q e _ _. untrue (sym d ∙ e))
 
   -- a member was taken
   module _ {no' : List ℕ} (c' : List ℕ) (at' v : ℕ) (l : to < end) (sized : length no' ≡ length no) (grown : references-of (set c' 0 at') ≡ references-of c₁) (same : symbols-of (set c' 0 at') ≡ symbols-of c₁) (g : (room : Room) (limit : ℕ) (by ob : List ℕ) → Goes input room (slot (read-symbol-like input room) (read-value input room limit levels) names to) (lists no re by sy ob) c₁ (pure v) (lists no' re by sy ob) (set c' 0 at')) where
@@ -200,24 +207,24 @@ module _ {input no₀ re₀ sy c₀ : List ℕ} {start end names levels : ℕ} {
       goes = λ room limit by ob. then (R .goes room limit by ob) (step room limit by ob);
     }
 
-  pub run-link : (i : ℕ) → (levels ≡ 0 → ⊥) → to < end → at + 2 ≤ length input → getD input at 0 ≡ SYMBOL-LINK → form (getD input (at + 1) 0) ≡ value i → i < symbols-of c₀ → Running input no₀ re₀ sy c₀ start end names levels no (set re to (getD sy i 0)) c (at + 2) (to + 1)
-  run-link i some l h k e y =
+  pub run-link : (i : ℕ) → (levels ≡ 0 → ⊥) → to < end → at + 2 ≤ length input → getD input at 0 ≡ SYMBOL-LINK → form (getD input (at + 1) 0) ≡ value i → integer-bytes i ≡ getD input (at + 1) 0 ∷ [] → i < symbols-of c₀ → Running input no₀ re₀ sy c₀ start end names levels no (set re to (getD sy i 0)) c (at + 2) (to + 1)
+  run-link i some l h k e d y =
       let p = is-at in
       let z : i < 2147483648 = omega (arith, y, R .known, R .held .2 .holds .count-symbols, R .held .2 .holds .symbols .fits, R .held .2 .holds .small .symbols) in
       run-on c (at + 2) (getD sy i 0) l refl (getD-set-other c 0 2 (at + 2) 0 (omega arith) ∙ sym (getD-set-other c 0 2 at 0 (omega arith))) (getD-set-other c 0 4 (at + 2) 0 (omega arith) ∙ sym (getD-set-other c 0 4 at 0 (omega arith)))
       (λ room limit by ob.
       subst (λ x. Goes input room (slot (read-symbol-like input room) (read-value input room limit levels) names to) (lists no re by sy ob) c₁ (pure (getD sy i 0)) (lists no re by sy ob) x) (set-set c 0 at (at-of c₁ + 2) ∙ ap (λ (x : ℕ). set c 0 (x + 2)) p)
-      (link-goes input c₁ limit levels some (R .held .2 .holds .counts) i (rw p h) (ap (λ (x : ℕ). getD input x 0) p ∙ k) (ap (λ (x : ℕ). form (getD input (x + 1) 0)) p ∙ e) (omega (arith, R .known)) z (eqb (to % 2) names)))
+      (link-goes input c₁ limit levels some (R .held .2 .holds .counts) i (rw p h) (ap (λ (x : ℕ). getD input x 0) p ∙ k) (ap (λ (x : ℕ). form (getD input (x + 1) 0)) p ∙ e) (d ∙ ap (λ (x : ℕ). getD input (x + 1) 0 ∷ []) (sym p)) (omega (arith, R .known)) z (eqb (to % 2) names)))
 
-  pub run-integer : {no' : List ℕ} (n : ℕ) → (levels ≡ 0 → ⊥) → to < end → at + 6 ≤ length input → getD input at 0 ≡ FIXNUM → (to % 2 ≡ names → ⊥) → nodes-of c < length no / 7 → n ≡ size-of (form (getD input (at + 1) 0)) → word-of (drop (at + 1 + 1) input) (form (getD input (at + 1) 0)) < 4294967296 → no' ≡ sets no (nodes-of c * 7) (2 ∷ word-of (drop (at + 1 + 1) input) (form (getD input (at + 1) 0)) ∷ 0 ∷ 0 ∷ 0 ∷ 0 ∷ 0 ∷ []) → length no' ≡ length no → Running input no₀ re₀ sy c₀ start end names levels no' (set re to (nodes-of c)) (set c 1 (nodes-of c + 1)) (at + 1 + n) (to + 1)
-  run-integer {no'} n some l h k e y z fits f sized =
+  pub run-integer : {no' : List ℕ} (n : ℕ) → (levels ≡ 0 → ⊥) → to < end → at + 6 ≤ length input → getD input at 0 ≡ FIXNUM → dumped-at input (at + 1) ≡ true → (to % 2 ≡ names → ⊥) → nodes-of c < length no / 7 → n ≡ size-of (form (getD input (at + 1) 0)) → word-of (drop (at + 1 + 1) input) (form (getD input (at + 1) 0)) < 4294967296 → no' ≡ sets no (nodes-of c * 7) (2 ∷ word-of (drop (at + 1 + 1) input) (form (getD input (at + 1) 0)) ∷ 0 ∷ 0 ∷ 0 ∷ 0 ∷ 0 ∷ []) → length no' ≡ length no → Running input no₀ re₀ sy c₀ start end names levels no' (set re to (nodes-of c)) (set c 1 (nodes-of c + 1)) (at + 1 + n) (to + 1)
+  run-integer {no'} n some l h k d e y z fits f sized =
       let p = is-at in
       let q : nodes-of c₁ ≡ nodes-of c = getD-set-other c 0 1 at 0 (omega arith) in
-      let d = set c 1 (nodes-of c + 1) in
+      let c₂ = set c 1 (nodes-of c + 1) in
       let x = at + 1 + n in
-      run-on d x (nodes-of c) l sized
-      (getD-set-other d 0 2 x 0 (omega arith) ∙ getD-set-other c 1 2 (nodes-of c + 1) 0 (omega arith) ∙ sym (getD-set-other c 0 2 at 0 (omega arith)))
-      (getD-set-other d 0 4 x 0 (omega arith) ∙ getD-set-other c 1 4 (nodes-of c + 1) 0 (omega arith) ∙ sym (getD-set-other c 0 4 at 0 (omega arith)))
+      run-on c₂ x (nodes-of c) l sized
+      (getD-set-other c₂ 0 2 x 0 (omega arith) ∙ getD-set-other c 1 2 (nodes-of c + 1) 0 (omega arith) ∙ sym (getD-set-other c 0 2 at 0 (omega arith)))
+      (getD-set-other c₂ 0 4 x 0 (omega arith) ∙ getD-set-other c 1 4 (nodes-of c + 1) 0 (omega arith) ∙ sym (getD-set-other c 0 4 at 0 (omega arith)))
       (λ room limit by ob.
       rw (slot-value (read-symbol-like input room) (read-value input room limit levels) names to e)
       (whole room limit by ob))
@@ -233,5 +240,5 @@ module _ {input no₀ re₀ sy c₀ : List ℕ} {start end names levels : ℕ} {
           ∙ set-set (set c 1 (nodes-of c + 1)) 0 at (at + 1 + n) in
           subst (λ m. Goes input room (read-value input room limit levels) (lists no re by sy ob) c₁ (pure m) (lists no' re by sy ob) (set (set c 1 (nodes-of c + 1)) 0 (at + 1 + n))) q
           (subst (λ m. Goes input room (read-value input room limit levels) (lists no re by sy ob) c₁ (pure (nodes-of c₁)) (lists no' re by sy ob) m) t
-          (integer-goes input c₁ limit levels some (R .held .2 .holds .counts) (rw p h) (ap (λ (m : ℕ). getD input m 0) p ∙ k) (omega (arith, q, y)) (rw p fits)
+          (integer-goes input c₁ limit levels some (R .held .2 .holds .counts) (rw p h) (ap (λ (m : ℕ). getD input m 0) p ∙ k) (ap (λ (m : ℕ). dumped-at input (m + 1)) p ∙ d) (omega (arith, q, y)) (rw p fits)
           (f ∙ λ j. sets no (sym q j * 7) (2 ∷ word-of (drop (sym p j + 1 + 1) input) (form (getD input (sym p j + 1) 0)) ∷ 0 ∷ 0 ∷ 0 ∷ 0 ∷ 0 ∷ []))))

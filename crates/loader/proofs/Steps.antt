@@ -6,18 +6,18 @@ use mathlib.Core.Bool.{Bool, true, false}
 use mathlib.Core.List.{List, [], _∷_, _++_}
 use lib.ListN.{length, take, drop, set, getD, replicate, length-take, length-drop, length-append, length-set, length-replicate, List·getD-append}
 use lib.Seq.{sets}
-use lib.Dec.{ltb}
+use lib.Dec.{ltb, eqb}
 use borrow.Author.Tests.{lt-ltb, le-ltb, ltb-true, ltb-false, le-leb, lt-leb}
 use Rattle.definition.specs.Run.{Outcome, ok, pure, refuse, next, look, pick, _>>=_}
-use Rattle.definition.specs.Integer.{form, value}
+use Rattle.definition.specs.Integer.{form, value, integer-bytes}
 use Rattle.definition.specs.Node.{Row, nil, bool, fixnum, symbol, array, hash, object, string, user, float, absent, present, words, flat, equal}
 use Rattle.definition.specs.Arena.{range, named}
-use Rattle.definition.specs.Load.{Room, State, Reader, Lists, lists, at-set, nodes-set, references-set, bytes-set, symbols-set, objects-set, read-byte, read-bytes, read-integer, add-node, reserve, add-bytes, add-symbol, add-object, fill, put-reference, entry, set-variables}
+use Rattle.definition.specs.Load.{Room, State, Reader, Lists, lists, at-set, nodes-set, references-set, bytes-set, symbols-set, objects-set, noted, read-byte, read-bytes, read-integer, add-node, reserve, add-bytes, add-symbol, add-object, fill, put-reference, entry, set-variables}
 use Rattle.definition.specs.declared.Refusal.{Refusal}
 use Rattle.definition.specs.declared.Refusal.the-variants.{ShortInput, MissingSymbol, MissingObject, NotAnObject, NoSpace}
 use Rattle.reader.specs.Answers.{coded, refusal-at, at-short, at-variables, at-space}
-use Rattle.reader.specs.Integers.{size-of, word-of, size-some, integer-read, integer-short, integer-none, integer-small}
-use Rattle.loader.specs.Holds.{Begins, Holds, Held, Grown, Went, Goes, Leads, Meets, Spans, AllBelow, Plain, Symbolic, Entry, Fit, AllFit, AllSymbolic, Names, Free, span, span-of, new-symbol, settle, at-of, nodes-of, references-of, bytes-of, symbols-of, objects-of}
+use Rattle.reader.specs.Integers.{size-of, word-of, dumped-at, size-some, integer-read, integer-short, integer-none, integer-small}
+use Rattle.loader.specs.Holds.{Begins, Holds, Held, Grown, Went, Goes, Leads, Meets, Spans, AllBelow, Plain, Symbolic, Entry, Fit, AllFit, AllSymbolic, Names, Free, span, span-of, new-symbol, settle, at-of, nodes-of, references-of, bytes-of, symbols-of, objects-of, form-of}
 use Rattle.loader.proofs.Counts.{Only, is, none}
 use Rattle.loader.proofs.Counts as K
 use Rattle.loader.proofs.Stores.{push, put, put-row, push-row, at-held, sets-first, split}
@@ -71,28 +71,37 @@ below-snoc {n} {h} (x ∷ l) b g (suc i) lt = below-snoc l (λ j k. b (suc j) (o
 
 -- ---- a state is held with one part changed
 
+form-same : {i : ℕ} {c c' : List ℕ} {t : Bool} → Only i c c' → (6 ≡ i → ⊥) → eqb (form-of c) 0 ≡ t → eqb (form-of c') 0 ≡ t
+form-same o n e = ap (λ (x : ℕ). eqb x 0) (o .others 6 n) ∙ e
+
+-- what was read is noted as not in dump form
+form-lost : {input : List ℕ} {room : Room} {s : State} {c : List ℕ} {T : Lists} → Holds input room s T c → Holds input room (noted false s) T (set c 6 1)
+form-lost {c = c} H =
+    let o = K.put 6 1 c in
+    record { small = H .small; counts = o .sized ∙ H .counts; nodes = H .nodes; references = H .references; bytes = H .bytes; symbols = H .symbols; objects = H .objects; count-at = o .others 0 (omega arith) ∙ H .count-at; inside = H .inside; count-nodes = o .others 1 (omega arith) ∙ H .count-nodes; room-nodes = H .room-nodes; count-references = o .others 2 (omega arith) ∙ H .count-references; count-bytes = o .others 3 (omega arith) ∙ H .count-bytes; count-symbols = o .others 4 (omega arith) ∙ H .count-symbols; count-objects = o .others 5 (omega arith) ∙ H .count-objects; form = ap (λ (x : ℕ). eqb x 0) (is 6 1 c (H .counts) (omega arith)); below = H .below; fit = H .fit; symbolic = H .symbolic; names = H .names }
+
 at-changed : {input : List ℕ} {room : Room} {s : State} {c c' : List ℕ} {T : Lists} {n : ℕ} → Holds input room s T c → Only 0 c c' → at-of c' ≡ n → n ≤ length input → Holds input room (at-set n s) T c'
-at-changed H o e h = record { small = H .small; counts = o .sized ∙ H .counts; nodes = H .nodes; references = H .references; bytes = H .bytes; symbols = H .symbols; objects = H .objects; count-at = e; inside = h; count-nodes = o .others 1 (omega arith) ∙ H .count-nodes; room-nodes = H .room-nodes; count-references = o .others 2 (omega arith) ∙ H .count-references; count-bytes = o .others 3 (omega arith) ∙ H .count-bytes; count-symbols = o .others 4 (omega arith) ∙ H .count-symbols; count-objects = o .others 5 (omega arith) ∙ H .count-objects; below = H .below; fit = H .fit; symbolic = H .symbolic; names = H .names }
+at-changed H o e h = record { small = H .small; counts = o .sized ∙ H .counts; nodes = H .nodes; references = H .references; bytes = H .bytes; symbols = H .symbols; objects = H .objects; count-at = e; inside = h; count-nodes = o .others 1 (omega arith) ∙ H .count-nodes; room-nodes = H .room-nodes; count-references = o .others 2 (omega arith) ∙ H .count-references; count-bytes = o .others 3 (omega arith) ∙ H .count-bytes; count-symbols = o .others 4 (omega arith) ∙ H .count-symbols; count-objects = o .others 5 (omega arith) ∙ H .count-objects; form = form-same o (omega arith) (H .form); below = H .below; fit = H .fit; symbolic = H .symbolic; names = H .names }
 
 module _ {input : List ℕ} {room : Room} {s : State} {c c' : List ℕ} {no re by sy ob : List ℕ} (H : Holds input room s (lists no re by sy ob) c) where
   nodes-changed : {rows : List Row} {no' : List ℕ} → Only 1 c c' → Begins (room .nodes * 7) (flat rows) no' → nodes-of c' ≡ length rows → length (s .nodes) ≤ length rows → length rows ≤ room .nodes → AllFit (length (s .bytes)) rows → AllSymbolic rows (s .symbols) → Names (s .bytes) rows (s .symbols) → Holds input room (nodes-set rows s) (lists no' re by sy ob) c'
-  nodes-changed o p e g h f y m = record { small = H .small; counts = o .sized ∙ H .counts; nodes = p; references = H .references; bytes = H .bytes; symbols = H .symbols; objects = H .objects; count-at = o .others 0 (omega arith) ∙ H .count-at; inside = H .inside; count-nodes = e; room-nodes = h; count-references = o .others 2 (omega arith) ∙ H .count-references; count-bytes = o .others 3 (omega arith) ∙ H .count-bytes; count-symbols = o .others 4 (omega arith) ∙ H .count-symbols; count-objects = o .others 5 (omega arith) ∙ H .count-objects; below = λ i l. omega (arith, H .below i l); fit = f; symbolic = y; names = m }
+  nodes-changed o p e g h f y m = record { small = H .small; counts = o .sized ∙ H .counts; nodes = p; references = H .references; bytes = H .bytes; symbols = H .symbols; objects = H .objects; count-at = o .others 0 (omega arith) ∙ H .count-at; inside = H .inside; count-nodes = e; room-nodes = h; count-references = o .others 2 (omega arith) ∙ H .count-references; count-bytes = o .others 3 (omega arith) ∙ H .count-bytes; count-symbols = o .others 4 (omega arith) ∙ H .count-symbols; count-objects = o .others 5 (omega arith) ∙ H .count-objects; form = form-same o (omega arith) (H .form); below = λ i l. omega (arith, H .below i l); fit = f; symbolic = y; names = m }
 
   references-changed : {l re' : List ℕ} → Only 2 c c' → Begins (room .references) l re' → references-of c' ≡ length l → Holds input room (references-set l s) (lists no re' by sy ob) c'
-  references-changed o p e = record { small = H .small; counts = o .sized ∙ H .counts; nodes = H .nodes; references = p; bytes = H .bytes; symbols = H .symbols; objects = H .objects; count-at = o .others 0 (omega arith) ∙ H .count-at; inside = H .inside; count-nodes = o .others 1 (omega arith) ∙ H .count-nodes; room-nodes = H .room-nodes; count-references = e; count-bytes = o .others 3 (omega arith) ∙ H .count-bytes; count-symbols = o .others 4 (omega arith) ∙ H .count-symbols; count-objects = o .others 5 (omega arith) ∙ H .count-objects; below = H .below; fit = H .fit; symbolic = H .symbolic; names = H .names }
+  references-changed o p e = record { small = H .small; counts = o .sized ∙ H .counts; nodes = H .nodes; references = p; bytes = H .bytes; symbols = H .symbols; objects = H .objects; count-at = o .others 0 (omega arith) ∙ H .count-at; inside = H .inside; count-nodes = o .others 1 (omega arith) ∙ H .count-nodes; room-nodes = H .room-nodes; count-references = e; count-bytes = o .others 3 (omega arith) ∙ H .count-bytes; count-symbols = o .others 4 (omega arith) ∙ H .count-symbols; count-objects = o .others 5 (omega arith) ∙ H .count-objects; form = form-same o (omega arith) (H .form); below = H .below; fit = H .fit; symbolic = H .symbolic; names = H .names }
 
   bytes-changed : {by' : List ℕ} (bs : List ℕ) → Only 3 c c' → Begins (room .bytes) (s .bytes ++ bs) by' → bytes-of c' ≡ length (s .bytes ++ bs) → length (s .bytes) ≤ length (s .bytes ++ bs) → Holds input room (bytes-set (s .bytes ++ bs) s) (lists no re by' sy ob) c'
-  bytes-changed bs o p e g = record { small = H .small; counts = o .sized ∙ H .counts; nodes = H .nodes; references = H .references; bytes = p; symbols = H .symbols; objects = H .objects; count-at = o .others 0 (omega arith) ∙ H .count-at; inside = H .inside; count-nodes = o .others 1 (omega arith) ∙ H .count-nodes; room-nodes = H .room-nodes; count-references = o .others 2 (omega arith) ∙ H .count-references; count-bytes = e; count-symbols = o .others 4 (omega arith) ∙ H .count-symbols; count-objects = o .others 5 (omega arith) ∙ H .count-objects; below = H .below; fit = λ i l. fit-more (getD (s .nodes) i nil) g (H .fit i l); symbolic = H .symbolic; names = names-bytes (s .bytes) bs (s .nodes) (s .symbols) (H .fit) (H .names) }
+  bytes-changed bs o p e g = record { small = H .small; counts = o .sized ∙ H .counts; nodes = H .nodes; references = H .references; bytes = p; symbols = H .symbols; objects = H .objects; count-at = o .others 0 (omega arith) ∙ H .count-at; inside = H .inside; count-nodes = o .others 1 (omega arith) ∙ H .count-nodes; room-nodes = H .room-nodes; count-references = o .others 2 (omega arith) ∙ H .count-references; count-bytes = e; count-symbols = o .others 4 (omega arith) ∙ H .count-symbols; count-objects = o .others 5 (omega arith) ∙ H .count-objects; form = form-same o (omega arith) (H .form); below = H .below; fit = λ i l. fit-more (getD (s .nodes) i nil) g (H .fit i l); symbolic = H .symbolic; names = names-bytes (s .bytes) bs (s .nodes) (s .symbols) (H .fit) (H .names) }
 
   symbols-changed : {l sy' : List ℕ} → Only 4 c c' → Begins (room .symbols) l sy' → symbols-of c' ≡ length l → AllSymbolic (s .nodes) l → Names (s .bytes) (s .nodes) l → Holds input room (symbols-set l s) (lists no re by sy' ob) c'
-  symbols-changed o p e y m = record { small = H .small; counts = o .sized ∙ H .counts; nodes = H .nodes; references = H .references; bytes = H .bytes; symbols = p; objects = H .objects; count-at = o .others 0 (omega arith) ∙ H .count-at; inside = H .inside; count-nodes = o .others 1 (omega arith) ∙ H .count-nodes; room-nodes = H .room-nodes; count-references = o .others 2 (omega arith) ∙ H .count-references; count-bytes = o .others 3 (omega arith) ∙ H .count-bytes; count-symbols = e; count-objects = o .others 5 (omega arith) ∙ H .count-objects; below = H .below; fit = H .fit; symbolic = y; names = m }
+  symbols-changed o p e y m = record { small = H .small; counts = o .sized ∙ H .counts; nodes = H .nodes; references = H .references; bytes = H .bytes; symbols = p; objects = H .objects; count-at = o .others 0 (omega arith) ∙ H .count-at; inside = H .inside; count-nodes = o .others 1 (omega arith) ∙ H .count-nodes; room-nodes = H .room-nodes; count-references = o .others 2 (omega arith) ∙ H .count-references; count-bytes = o .others 3 (omega arith) ∙ H .count-bytes; count-symbols = e; count-objects = o .others 5 (omega arith) ∙ H .count-objects; form = form-same o (omega arith) (H .form); below = H .below; fit = H .fit; symbolic = y; names = m }
 
   objects-changed : {l ob' : List ℕ} → Only 5 c c' → Begins (room .objects) l ob' → objects-of c' ≡ length l → AllBelow (length (s .nodes)) l → Holds input room (objects-set l s) (lists no re by sy ob') c'
-  objects-changed o p e b = record { small = H .small; counts = o .sized ∙ H .counts; nodes = H .nodes; references = H .references; bytes = H .bytes; symbols = H .symbols; objects = p; count-at = o .others 0 (omega arith) ∙ H .count-at; inside = H .inside; count-nodes = o .others 1 (omega arith) ∙ H .count-nodes; room-nodes = H .room-nodes; count-references = o .others 2 (omega arith) ∙ H .count-references; count-bytes = o .others 3 (omega arith) ∙ H .count-bytes; count-symbols = o .others 4 (omega arith) ∙ H .count-symbols; count-objects = e; below = b; fit = H .fit; symbolic = H .symbolic; names = H .names }
+  objects-changed o p e b = record { small = H .small; counts = o .sized ∙ H .counts; nodes = H .nodes; references = H .references; bytes = H .bytes; symbols = H .symbols; objects = p; count-at = o .others 0 (omega arith) ∙ H .count-at; inside = H .inside; count-nodes = o .others 1 (omega arith) ∙ H .count-nodes; room-nodes = H .room-nodes; count-references = o .others 2 (omega arith) ∙ H .count-references; count-bytes = o .others 3 (omega arith) ∙ H .count-bytes; count-symbols = o .others 4 (omega arith) ∙ H .count-symbols; count-objects = e; form = form-same o (omega arith) (H .form); below = b; fit = H .fit; symbolic = H .symbolic; names = H .names }
 
   -- a symbol's node and its entry
   symbol-changed : {no' sy' c₁ : List ℕ} (r : Row) → Only 1 c c₁ → Only 4 c₁ c' → Begins (room .nodes * 7) (flat (s .nodes ++ (r ∷ []))) no' → Begins (room .symbols) (s .symbols ++ (length (s .nodes) ∷ [])) sy' → nodes-of c₁ ≡ length (s .nodes ++ (r ∷ [])) → symbols-of c' ≡ length (s .symbols ++ (length (s .nodes) ∷ [])) → length (s .nodes) ≤ length (s .nodes ++ (r ∷ [])) → length (s .nodes ++ (r ∷ [])) ≤ room .nodes → Fit (length (s .bytes)) r → Symbolic r → Holds input room (symbols-set (s .symbols ++ (length (s .nodes) ∷ [])) (nodes-set (s .nodes ++ (r ∷ [])) s)) (lists no' re by sy' ob) c'
-  symbol-changed r a o p q e d g h f y = record { small = H .small; counts = o .sized ∙ a .sized ∙ H .counts; nodes = p; references = H .references; bytes = H .bytes; symbols = q; objects = H .objects; count-at = o .others 0 (omega arith) ∙ a .others 0 (omega arith) ∙ H .count-at; inside = H .inside; count-nodes = o .others 1 (omega arith) ∙ e; room-nodes = h; count-references = o .others 2 (omega arith) ∙ a .others 2 (omega arith) ∙ H .count-references; count-bytes = o .others 3 (omega arith) ∙ a .others 3 (omega arith) ∙ H .count-bytes; count-symbols = d; count-objects = o .others 5 (omega arith) ∙ a .others 5 (omega arith) ∙ H .count-objects; below = λ i l. omega (arith, H .below i l); fit = fit-snoc _ r (s .nodes) (H .fit) f; symbolic = symbolic-new (s .nodes) r (s .symbols) y (H .symbolic); names = names-new (s .bytes) (s .nodes) r (s .symbols) (H .symbolic) (H .names) }
+  symbol-changed r a o p q e d g h f y = record { small = H .small; counts = o .sized ∙ a .sized ∙ H .counts; nodes = p; references = H .references; bytes = H .bytes; symbols = q; objects = H .objects; count-at = o .others 0 (omega arith) ∙ a .others 0 (omega arith) ∙ H .count-at; inside = H .inside; count-nodes = o .others 1 (omega arith) ∙ e; room-nodes = h; count-references = o .others 2 (omega arith) ∙ a .others 2 (omega arith) ∙ H .count-references; count-bytes = o .others 3 (omega arith) ∙ a .others 3 (omega arith) ∙ H .count-bytes; count-symbols = d; count-objects = o .others 5 (omega arith) ∙ a .others 5 (omega arith) ∙ H .count-objects; form = form-same o (omega arith) (form-same a (omega arith) (H .form)); below = λ i l. omega (arith, H .below i l); fit = fit-snoc _ r (s .nodes) (H .fit) f; symbolic = symbolic-new (s .nodes) r (s .symbols) y (H .symbolic); names = names-new (s .bytes) (s .nodes) r (s .symbols) (H .symbolic) (H .names) }
 
 pub object-below : {input : List ℕ} {T : Lists} {c : List ℕ} {i : ℕ} → Held input T c → i < objects-of c → getD (T .objects) i 0 < nodes-of c
 object-below {i = i} H l =
@@ -333,16 +342,29 @@ module _ {input : List ℕ} {room : Room} {c : List ℕ} {T : Lists} where
   pub moved : {A : Type 0} {m : Reader A} {a : A} (n : ℕ) → n ≤ length input → ((s : State) → Holds input room s T c → m s ≡ ok a (at-set n s)) → Goes input room m T c (pure a) T (set c 0 n)
   moved n h e = record { goes = λ s H. went (at-changed H (K.put 0 n c) (is 0 n c (H .counts) (omega arith)) h) (e s H) (grown-rows refl (omega arith)) }
 
+  -- what is read is not in dump form
+  pub lost : {A : Type 0} {m m' : Reader A} → ((s : State) → Holds input room s T c → m s ≡ m' (noted false s)) → Goes input room m T c m' T (set c 6 1)
+  lost e = record { goes = λ s H. record { state = noted false s; holds = form-lost H; same = e s H; grown = grown-rows refl (omega arith) } }
+
+  pub moved-lost : {A : Type 0} {m : Reader A} {a : A} (n : ℕ) → n ≤ length input → ((s : State) → Holds input room s T c → m s ≡ ok a (noted false (at-set n s))) → Goes input room m T c (pure a) T (set (set c 0 n) 6 1)
+  moved-lost n h e = record { goes = λ s H. went (form-lost (at-changed H (K.put 0 n c) (is 0 n c (H .counts) (omega arith)) h)) (e s H) (grown-rows refl (omega arith)) }
+
   pub byte-goes : at-of c < length input → Goes input room (read-byte input) T c (pure (getD input (at-of c) 0)) T (set c 0 (at-of c + 1))
   unfolding read-byte pick
   byte-goes l = moved (at-of c + 1) (omega arith) (λ s H. let k : at-of c ≡ s .at = H .count-at in simp (k, lt-ltb (s .at) (length input) (omega arith)))
+
+  -- an integer whose bytes are all there
+  integer-there : (t : Bool) (v : ℕ) → at-of c + size-of (form (getD input (at-of c) 0)) ≤ length input → v ≡ word-of (drop (at-of c + 1) input) (form (getD input (at-of c) 0)) → t ≡ dumped-at input (at-of c) → (s : State) → Holds input room s T c → read-integer input s ≡ ok v (noted t (at-set (at-of c + size-of (form (getD input (at-of c) 0))) s))
+  integer-there t v h e q s H =
+      let k = H .count-at in
+      rw (q, e, k) (integer-read input s (rw k at h) (omega (arith, size-some (getD input (at-of c) 0))))
 
 module _ {input : List ℕ} {room : Room} {limit : ℕ} {c : List ℕ} {T : Lists} where
   pub byte-missing : {T' : Lists} {c' : List ℕ} {m' : Reader ℕ} → length input ≤ at-of c → Leads input room limit (read-byte input) m' T c (coded 4 0) T' c'
   unfolding read-byte pick
   byte-missing l = denied ShortInput (omega arith) (at-short limit) (record { refuses = λ s H. let le : length input ≤ s .at = omega arith in simp (le-ltb _ _ le) })
 
-  pub span-read : (n : ℕ) → at-of c ≤ length input → n ≤ length input - at-of c → n < 4294967296 → length c ≡ 6 → Spans input room limit (read-bytes input n) T c n T (set c 0 (at-of c + n))
+  pub span-read : (n : ℕ) → at-of c ≤ length input → n ≤ length input - at-of c → n < 4294967296 → length c ≡ 7 → Spans input room limit (read-bytes input n) T c n T (set c 0 (at-of c + n))
   unfolding read-bytes range pick
   span-read n i l f z =
       given (λ s H. f)
@@ -356,18 +378,17 @@ module _ {input : List ℕ} {room : Room} {limit : ℕ} {c : List ℕ} {T : List
   unfolding read-bytes pick
   span-missing n l = denied ShortInput (omega arith) (at-short limit) (record { refuses = λ s H. let lt : length input - s .at < n = omega arith in simp (lt-leb _ _ lt) })
 
-  -- an integer whose bytes are all there; one of one byte; one whose bytes are not
-  pub integer-whole : (v : ℕ) → at-of c + size-of (form (getD input (at-of c) 0)) ≤ length input → v ≡ word-of (drop (at-of c + 1) input) (form (getD input (at-of c) 0)) → v < 4294967296 → Meets input room limit (read-integer input) T c v T (set c 0 (at-of c + size-of (form (getD input (at-of c) 0))))
-  integer-whole v h e f =
-      given (λ s H. f)
-      (moved (at-of c + size-of (form (getD input (at-of c) 0))) h (λ s H.
-      let k = H .count-at in
-      rw (e, k) (integer-read input s (rw k at h) (omega (arith, size-some (getD input (at-of c) 0))))))
+  -- an integer whose bytes are all there, in dump form or in another; one of one byte; one whose bytes are not
+  pub integer-whole : (v : ℕ) → at-of c + size-of (form (getD input (at-of c) 0)) ≤ length input → v ≡ word-of (drop (at-of c + 1) input) (form (getD input (at-of c) 0)) → true ≡ dumped-at input (at-of c) → v < 4294967296 → Meets input room limit (read-integer input) T c v T (set c 0 (at-of c + size-of (form (getD input (at-of c) 0))))
+  integer-whole v h e q f = given (λ s H. f) (moved (at-of c + size-of (form (getD input (at-of c) 0))) h (integer-there true v h e q))
 
-  pub integer-one : (v : ℕ) → at-of c < length input → form (getD input (at-of c) 0) ≡ value v → v < 4294967296 → Meets input room limit (read-integer input) T c v T (set c 0 (at-of c + 1))
-  integer-one v h e f =
+  pub integer-other : (v : ℕ) → at-of c + size-of (form (getD input (at-of c) 0)) ≤ length input → v ≡ word-of (drop (at-of c + 1) input) (form (getD input (at-of c) 0)) → false ≡ dumped-at input (at-of c) → v < 4294967296 → Meets input room limit (read-integer input) T c v T (set (set c 0 (at-of c + size-of (form (getD input (at-of c) 0)))) 6 1)
+  integer-other v h e q f = given (λ s H. f) (moved-lost (at-of c + size-of (form (getD input (at-of c) 0))) h (integer-there false v h e q))
+
+  pub integer-one : (v : ℕ) → at-of c < length input → form (getD input (at-of c) 0) ≡ value v → integer-bytes v ≡ getD input (at-of c) 0 ∷ [] → v < 4294967296 → Meets input room limit (read-integer input) T c v T (set c 0 (at-of c + 1))
+  integer-one v h e b f =
       given (λ s H. f)
-      (moved (at-of c + 1) (omega arith) (λ s H. let k = H .count-at in rw k (integer-small input s v (rw k at e) (omega arith))))
+      (moved (at-of c + 1) (omega arith) (λ s H. let k = H .count-at in rw k (integer-small input s v (rw k at e) (rw k at b) (omega arith))))
 
   pub integer-cut : {T' : Lists} {c' : List ℕ} {m' : Reader ℕ} → at-of c < length input → length input - at-of c < size-of (form (getD input (at-of c) 0)) → Leads input room limit (read-integer input) m' T c (coded 4 0) T' c'
   integer-cut h l = denied ShortInput (omega arith) (at-short limit) (record { refuses = λ s H. let k = H .count-at in let g : length input < at-of c + size-of (form (getD input (at-of c) 0)) = omega arith in integer-short input s (rw k at g) (omega arith) })

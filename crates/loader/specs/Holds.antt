@@ -1,23 +1,25 @@
 -- When lists lent and counts hold a state of the definition, and what the number that a reader in code answers has to mean.
 use Prim.Native.Nat.{ℕ, zero, suc, _+_, _-_, _*_, _/_, _%_, _≤_, _<_}
 use mathlib.Core.Path.{_≡_}
+use mathlib.Core.Bool.{true}
 use mathlib.Core.List.{List, [], _∷_}
 use mathlib.Core.Option.{Option, none, some}
 use mathlib.Core.Logic.{_⊎_}
 use lib.Dec.{ltb, eqb}
 use lib.ListN.{length, getD, take, drop}
 use Rattle.definition.specs.Run.{Outcome, refused, pure, pick, look, _>>=_}
-use Rattle.definition.specs.Integer.{form, value}
+use Rattle.definition.specs.Integer.{form, value, integer-bytes}
 use Rattle.definition.specs.Kind.{FIXNUM, SYMBOL-LINK, INSTANCE-VARIABLES, ARRAY, HASH, HASH-DEFAULT, OBJECT}
 use Rattle.definition.specs.Node.{Row, nil, bool, fixnum, symbol, array, hash, object, string, user, float, flat}
 use Rattle.definition.specs.Arena.{named, find-symbol, lowest, bad-nodes, too-long}
-use Rattle.definition.specs.Load.{Room, State, Reader, Lists, add-node, add-symbol, put-reference, set-variables}
+use Rattle.definition.specs.Load.{Room, State, Reader, Lists, note, takes-variables, add-node, add-symbol, put-reference, set-variables}
 use Rattle.definition.specs.declared.Refusal.{Refusal}
 use Rattle.reader.specs.Answers.{refusal-at}
+use Rattle.reader.specs.Integers.{dumped-at}
 
 -- ---- what is held
 
--- the six counts, in the order of the code's named places
+-- the seven counts, in the order of the code's named places
 abbrev pub at-of : List ℕ → ℕ
 at-of c = getD c 0 0
 
@@ -35,6 +37,10 @@ symbols-of c = getD c 4 0
 
 abbrev pub objects-of : List ℕ → ℕ
 objects-of c = getD c 5 0
+
+-- 0 while all that was read is in dump form
+abbrev pub form-of : List ℕ → ℕ
+form-of c = getD c 6 0
 
 -- the table t of the size given begins with the list l
 pub record Begins (size : ℕ) (l t : List ℕ) : Type 0 where
@@ -110,7 +116,7 @@ Names bytes rows l = (name : List ℕ) → find-symbol bytes name rows 0 ≡ fin
 
 pub record Holds (input : List ℕ) (room : Room) (s : State) (T : Lists) (c : List ℕ) : Type 0 where
   pub small : Small room
-  pub counts : length c ≡ 6
+  pub counts : length c ≡ 7
   pub nodes : Begins (room .nodes * 7) (flat (s .nodes)) (T .nodes)
   pub references : Begins (room .references) (s .references) (T .references)
   pub bytes : Begins (room .bytes) (s .bytes) (T .bytes)
@@ -124,6 +130,7 @@ pub record Holds (input : List ℕ) (room : Room) (s : State) (T : Lists) (c : L
   pub count-bytes : bytes-of c ≡ length (s .bytes)
   pub count-symbols : symbols-of c ≡ length (s .symbols)
   pub count-objects : objects-of c ≡ length (s .objects)
+  pub form : eqb (form-of c) 0 ≡ s .notes .form
   pub below : AllBelow (length (s .nodes)) (s .objects)
   pub fit : AllFit (length (s .bytes)) (s .nodes)
   pub symbolic : AllSymbolic (s .nodes) (s .symbols)
@@ -212,6 +219,10 @@ new-symbol room start n = add-node room (symbol start n) >>= add-symbol room
 abbrev pub settle : ℕ → ℕ → ℕ → Reader ℕ
 settle h start n = look λ s. set-variables h start n (getD (s .nodes) h nil)
 
+-- what comes directly after `I` is noted, and read
+abbrev pub after-i : List ℕ → Reader ℕ → Reader ℕ
+after-i input inner = look λ s. note (takes-variables (getD input (s .at) 0)) >>= λ _. inner
+
 -- ---- the words of a list: values, or names and values in turn
 
 -- what stands in reference word `to`: a name where its parity is `names`, else a value
@@ -234,17 +245,17 @@ members name inner names more n to = slots name inner names n to >>= λ _. more-
 
 -- ---- what a run of integers and symbol links takes
 
--- a link of the one byte b, to entry n of those known
+-- a link of the one byte b in dump form, to entry n of those known
 abbrev pub Link : ℕ → ℕ → ℕ → Type 0
-Link b known n = (b ≤ 127) × (n ≤ 122) × (form b ≡ value n) × (n < known)
+Link b known n = (b ≤ 127) × (n ≤ 122) × (form b ≡ value n) × (integer-bytes n ≡ b ∷ []) × (n < known)
 
 -- an integer or a symbol link comes next, with a level for it
 abbrev pub Next : List ℕ → ℕ → ℕ → Type 0
 Next input at levels = (levels ≡ 0 → ⊥) × (at < length input) × ((getD input at 0 ≡ FIXNUM) ⊎ (getD input at 0 ≡ SYMBOL-LINK))
 
--- a link of one byte to a known symbol, or an integer for word `to` where no name is wanted and a node has room
+-- a link of one byte to a known symbol, or an integer in dump form for word `to` where no name is wanted and a node has room
 abbrev pub Either : List ℕ → List ℕ → List ℕ → ℕ → ℕ → Type 0
-Either input nodes c names to = ((getD input (at-of c) 0 ≡ SYMBOL-LINK) × ((n : ℕ) × Link (getD input (at-of c + 1) 0) (symbols-of c) n)) ⊎ ((getD input (at-of c) 0 ≡ FIXNUM) × (to % 2 ≡ names → ⊥) × (nodes-of c < length nodes / 7))
+Either input nodes c names to = ((getD input (at-of c) 0 ≡ SYMBOL-LINK) × ((n : ℕ) × Link (getD input (at-of c + 1) 0) (symbols-of c) n)) ⊎ ((getD input (at-of c) 0 ≡ FIXNUM) × (dumped-at input (at-of c + 1) ≡ true) × (to % 2 ≡ names → ⊥) × (nodes-of c < length nodes / 7))
 
 -- one of them comes next, and six bytes are there
 pub record Coming (input nodes c : List ℕ) (names to : ℕ) : Type 0 where

@@ -16,6 +16,7 @@ use reader::NOT_AN_OBJECT;
 use reader::REFUSED;
 use reader::SHORT_INPUT;
 use reader::header_at;
+use reader::in_form;
 use reader::integer_at;
 use reader::integer_size;
 use reader::not_a_symbol;
@@ -28,19 +29,20 @@ ghost use mathlib.Core.Path.{_≡_};
 ghost use mathlib.Core.List.{List, [], _∷_};
 ghost use mathlib.Core.Option.{none, some};
 ghost use Prim.Native.Nat.{ℕ, _+_, _-_, _*_, _%_, _<_, _≤_};
-ghost use mathlib.Core.Bool.{true};
+ghost use mathlib.Core.Bool.{true, false};
 ghost use lib.ListN.{length, getD, set, take, drop};
 ghost use lib.Seq.{sets};
-ghost use Rattle.definition.specs.Integer.{form, value};
+ghost use Rattle.definition.specs.Integer.{form, value, integer-bytes};
 ghost use Rattle.definition.specs.Kind.{FIXNUM, STRING};
 ghost use Rattle.definition.specs.Node.{Row, words, nil, equal, width};
 ghost use Rattle.definition.specs.Arena.{named, find-symbol};
-ghost use Rattle.definition.specs.Load.{Room, State, Reader, Lists, lists, read-header, read-integer, read-count, read-byte-string, read-fixnum, read-symbol, read-symbol-link, read-object-link, read-symbol-like, read-text, read-user-defined, read-value, value-of, head, add-node, add-bytes, add-symbol, add-object, add-object-node, counted, fill};
+ghost use Rattle.definition.specs.Load.{Room, State, Reader, Lists, lists, read-header, read-integer, read-count, read-byte-string, read-fixnum, read-symbol, read-symbol-link, read-object-link, read-symbol-like, read-text, read-user-defined, read-value, value-of, head, add-node, add-bytes, add-symbol, add-object, add-object-node, counted, fill, takes-variables};
 ghost use Rattle.reader.specs.Answers.{coded};
-ghost use Rattle.reader.specs.Integers.{size-of, word-of};
-ghost use Rattle.loader.specs.Holds.{Held, Holds, Somewhere, Goes, Leads, Meets, Does, Spans, Plain, Symbolic, Free, Leaf, Entry, Link, Next, Coming, span, span-of, at-of, nodes-of, references-of, bytes-of, symbols-of, new-symbol, settle, slots, wrong, Allowed};
+ghost use Rattle.reader.specs.Integers.{size-of, word-of, dumped-at};
+ghost use Rattle.loader.specs.Holds.{Held, Holds, Somewhere, Goes, Leads, Meets, Does, Spans, Plain, Symbolic, Free, Leaf, Entry, Link, Next, Coming, span, span-of, at-of, nodes-of, references-of, bytes-of, symbols-of, new-symbol, settle, after-i, slots, wrong, Allowed};
 
-// The places of the six counts: the offset, then how much of each table and list is used.
+// The places of the seven counts: the offset, then how much of each table and list is used, then whether what was read is
+// in dump form: 0 while all of it is, else 1.
 pub const AT: usize = 0;
 
 pub const NODES: usize = 1;
@@ -53,28 +55,36 @@ pub const SYMBOLS: usize = 4;
 
 pub const OBJECTS: usize = 5;
 
+pub const FORM: usize = 6;
+
 // ---- the input
 
-// An integer's 32 bits.
-fn read_integer(input: &[u8], c: &mut [usize; 6]) -> u64
-    requires { ⌜ (at-of (now c) ≤ length (now input)) × (length (now c) ≡ 6) ⌝ }
+// An integer's 32 bits; another form than dump's is noted.
+fn read_integer(input: &[u8], c: &mut [usize; 7]) -> u64
+    requires { ⌜ (at-of (now c) ≤ length (now input)) × (length (now c) ≡ 7) ⌝ }
     ensures { λ r. ⌜ ((room : Room) (limit : ℕ) (T : Lists) → Meets (now (input .entry)) room limit (read-integer (now (input .entry))) T (now (c .entry)) r T (now (c .exit))) ⌝ }
 {
     let at = c[AT];
     if input.len() <= at {
         return SHORT_INPUT;
     }
-    let n = integer_size(input[at]);
+    let b = input[at];
+    let n = integer_size(b);
     if input.len() - at < n {
         return SHORT_INPUT;
     }
+    let w = integer_at(&input[..], at);
     c[AT] = at + n;
-    integer_at(&input[..], at) as u64
+    if in_form(b, w) {
+        return w as u64;
+    }
+    c[FORM] = 1;
+    w as u64
 }
 
 // A length, count or index; small ones come first.
-fn read_count(input: &[u8], c: &mut [usize; 6]) -> u64
-    requires { ⌜ (at-of (now c) ≤ length (now input)) × (length (now c) ≡ 6) ⌝ }
+fn read_count(input: &[u8], c: &mut [usize; 7]) -> u64
+    requires { ⌜ (at-of (now c) ≤ length (now input)) × (length (now c) ≡ 7) ⌝ }
     ensures { λ r. ⌜ ((room : Room) (limit : ℕ) (T : Lists) → Meets (now (input .entry)) room limit (read-count (now (input .entry))) T (now (c .entry)) r T (now (c .exit))) ⌝ }
     ensures { λ r. ⌜ (r < 4294967296 → r < 2147483648) ⌝ }
 {
@@ -97,7 +107,7 @@ fn read_count(input: &[u8], c: &mut [usize; 6]) -> u64
 }
 
 // The length of a byte string, which is passed.
-fn read_byte_string(input: &[u8], c: &mut [usize; 6]) -> u64
+fn read_byte_string(input: &[u8], c: &mut [usize; 7]) -> u64
     requires { ⌜ Somewhere (now input) (now c) ⌝ }
     ensures { λ r. ⌜ ((room : Room) (limit : ℕ) (T : Lists) → Spans (now (input .entry)) room limit (read-byte-string (now (input .entry))) T (now (c .entry)) r T (now (c .exit))) ⌝ }
     ensures { λ r. ⌜ (r < 4294967296 → (r ≤ at-of (now (c .exit))) × (at-of (now (c .exit)) ≤ length (now (input .entry)))) ⌝ }
@@ -115,8 +125,8 @@ fn read_byte_string(input: &[u8], c: &mut [usize; 6]) -> u64
     n
 }
 
-// The header.
-pub fn read_header(input: &[u8], c: &mut [usize; 6]) -> u64
+// The header; an older version than dump's is noted.
+pub fn read_header(input: &[u8], c: &mut [usize; 7]) -> u64
     requires { ⌜ Somewhere (now input) (now c) ⌝ }
     ensures { λ r. ⌜ ((room : Room) (limit : ℕ) (T : Lists) → Does (now (input .entry)) room limit (read-header (now (input .entry))) T (now (c .entry)) r T (now (c .exit))) ⌝ }
 {
@@ -126,14 +136,18 @@ pub fn read_header(input: &[u8], c: &mut [usize; 6]) -> u64
         return w;
     }
     c[AT] = at + 2;
+    if w == 0 {
+        return w;
+    }
+    c[FORM] = 1;
     w
 }
 
 // ---- the tables and lists
 
 // A node of these words, the others zero: its number.
-fn add_node(nodes: &mut [u32], c: &mut [usize; 6], kind: u32, a: u32, b: u32, name: u32) -> u64
-    requires { ⌜ (length (now nodes) ≤ 2147483647) × (length (now c) ≡ 6) ⌝ }
+fn add_node(nodes: &mut [u32], c: &mut [usize; 7], kind: u32, a: u32, b: u32, name: u32) -> u64
+    requires { ⌜ (length (now nodes) ≤ 2147483647) × (length (now c) ≡ 7) ⌝ }
     ensures { λ r. ⌜ ((input : List ℕ) (room : Room) (limit : ℕ) (row : Row) (re by sy ob : List ℕ) → words row ≡ kind ∷ a ∷ b ∷ 0 ∷ 0 ∷ name ∷ 0 ∷ [] → Plain row → Meets input room limit (add-node room row) (lists (now (nodes .entry)) re by sy ob) (now (c .entry)) r (lists (now (nodes .exit)) re by sy ob) (now (c .exit))) ⌝ }
     ensures { λ r. ⌜ (r < 4294967296 → (r < nodes-of (now (c .exit))) × ((kind ≡ 3 → ⊥) → Free (now (nodes .exit)) r)) ⌝ }
 {
@@ -147,7 +161,7 @@ fn add_node(nodes: &mut [u32], c: &mut [usize; 6], kind: u32, a: u32, b: u32, na
 }
 
 // Node h is put on the object list: h.
-fn add_object(objects: &mut [u32], c: &mut [usize; 6], h: u64) -> u64
+fn add_object(objects: &mut [u32], c: &mut [usize; 7], h: u64) -> u64
     requires { ⌜ (h < nodes-of (now c)) × (h < 4294967296) ⌝ }
     ensures { λ r. ⌜ ((input : List ℕ) (room : Room) (limit : ℕ) (no re by sy : List ℕ) → Meets input room limit (add-object room h) (lists no re by sy (now (objects .entry))) (now (c .entry)) r (lists no re by sy (now (objects .exit))) (now (c .exit))) ⌝ }
     ensures { λ r. ⌜ (r < 4294967296 → (r ≡ h) × (nodes-of (now (c .exit)) ≡ nodes-of (now (c .entry)))) ⌝ }
@@ -165,13 +179,13 @@ fn add_object(objects: &mut [u32], c: &mut [usize; 6], h: u64) -> u64
 fn add_object_node(
     nodes: &mut [u32],
     objects: &mut [u32],
-    c: &mut [usize; 6],
+    c: &mut [usize; 7],
     kind: u32,
     a: u32,
     b: u32,
     name: u32,
 ) -> u64
-    requires { ⌜ (length (now nodes) ≤ 2147483647) × (length (now c) ≡ 6) ⌝ }
+    requires { ⌜ (length (now nodes) ≤ 2147483647) × (length (now c) ≡ 7) ⌝ }
     ensures { λ r. ⌜ ((input : List ℕ) (room : Room) (limit : ℕ) (row : Row) (re by sy : List ℕ) → words row ≡ kind ∷ a ∷ b ∷ 0 ∷ 0 ∷ name ∷ 0 ∷ [] → Plain row → Meets input room limit (add-object-node room row) (lists (now (nodes .entry)) re by sy (now (objects .entry))) (now (c .entry)) r (lists (now (nodes .exit)) re by sy (now (objects .exit))) (now (c .exit))) ⌝ }
     ensures { λ r. ⌜ (r < 4294967296 → (r < nodes-of (now (c .exit))) × ((kind ≡ 3 → ⊥) → Free (now (nodes .exit)) r)) ⌝ }
 {
@@ -183,8 +197,8 @@ fn add_object_node(
 }
 
 // The n bytes before the offset: where they start.
-fn add_bytes(input: &[u8], bytes: &mut [u8], c: &mut [usize; 6], n: u64) -> u64
-    requires { ⌜ (n ≤ at-of (now c)) × (at-of (now c) ≤ length (now input)) × (bytes-of (now c) ≤ length (now bytes)) × (length (now bytes) ≤ 2147483647) × (length (now c) ≡ 6) ⌝ }
+fn add_bytes(input: &[u8], bytes: &mut [u8], c: &mut [usize; 7], n: u64) -> u64
+    requires { ⌜ (n ≤ at-of (now c)) × (at-of (now c) ≤ length (now input)) × (bytes-of (now c) ≤ length (now bytes)) × (length (now bytes) ≤ 2147483647) × (length (now c) ≡ 7) ⌝ }
     ensures { λ r. ⌜ ((room : Room) (limit : ℕ) (no re sy ob : List ℕ) → Meets (now (input .entry)) room limit (add-bytes room (span-of (now (input .entry)) (now (c .entry)) n)) (lists no re (now (bytes .entry)) sy ob) (now (c .entry)) r (lists no re (now (bytes .exit)) sy ob) (now (c .exit))) ⌝ }
     ensures { λ r. ⌜ (r < 4294967296 → r + n ≤ bytes-of (now (c .exit))) ⌝ }
 {
@@ -200,7 +214,7 @@ fn add_bytes(input: &[u8], bytes: &mut [u8], c: &mut [usize; 6], n: u64) -> u64
 }
 
 // Symbol h is put on the symbol list: h.
-fn add_symbol(symbols: &mut [u32], c: &mut [usize; 6], h: u64) -> u64
+fn add_symbol(symbols: &mut [u32], c: &mut [usize; 7], h: u64) -> u64
     requires { ⌜ h < 4294967296 ⌝ }
     ensures { λ r. ⌜ ((input : List ℕ) (room : Room) (limit : ℕ) (no re by ob : List ℕ) → ((s : State) → Holds input room s (lists no re by (now (symbols .entry)) ob) (now (c .entry)) → Symbolic (getD (s .nodes) h nil)) → Meets input room limit (add-symbol room h) (lists no re by (now (symbols .entry)) ob) (now (c .entry)) r (lists no re by (now (symbols .exit)) ob) (now (c .exit))) ⌝ }
     ensures { λ r. ⌜ (r < 4294967296 → (r ≡ h) × (nodes-of (now (c .exit)) ≡ nodes-of (now (c .entry)))) ⌝ }
@@ -218,11 +232,11 @@ fn add_symbol(symbols: &mut [u32], c: &mut [usize; 6], h: u64) -> u64
 fn add_symbol_node(
     nodes: &mut [u32],
     symbols: &mut [u32],
-    c: &mut [usize; 6],
+    c: &mut [usize; 7],
     start: u32,
     n: u32,
 ) -> u64
-    requires { ⌜ (length (now nodes) ≤ 2147483647) × (start + n ≤ bytes-of (now c)) × (length (now c) ≡ 6) ⌝ }
+    requires { ⌜ (length (now nodes) ≤ 2147483647) × (start + n ≤ bytes-of (now c)) × (length (now c) ≡ 7) ⌝ }
     ensures { λ r. ⌜ ((input : List ℕ) (room : Room) (limit l : ℕ) (re by ob : List ℕ) → l ≡ n → Meets input room limit (new-symbol room start l) (lists (now (nodes .entry)) re by (now (symbols .entry)) ob) (now (c .entry)) r (lists (now (nodes .exit)) re by (now (symbols .exit)) ob) (now (c .exit))) ⌝ }
     ensures { λ r. ⌜ (r < 4294967296 → r < nodes-of (now (c .exit))) ⌝ }
 {
@@ -258,7 +272,7 @@ fn entry_at(list: &[u32], known: usize, n: u64, missing: u64) -> u64
 }
 
 // The entry of the object list that the index read names.
-fn read_object_link(input: &[u8], objects: &[u32], c: &mut [usize; 6]) -> u64
+fn read_object_link(input: &[u8], objects: &[u32], c: &mut [usize; 7]) -> u64
     requires { ⌜ ((no : List ℕ) × (re : List ℕ) × (by : List ℕ) × (sy : List ℕ) × Held (now input) (lists no re by sy (now objects)) (now c)) ⌝ }
     ensures { λ r. ⌜ ((room : Room) (limit : ℕ) (no re by sy : List ℕ) → Meets (now (input .entry)) room limit (read-object-link (now (input .entry))) (lists no re by sy (now (objects .entry))) (now (c .entry)) r (lists no re by sy (now (objects .entry))) (now (c .exit))) ⌝ }
     ensures { λ r. ⌜ (r < 4294967296 → r < nodes-of (now (c .exit))) ⌝ }
@@ -268,7 +282,7 @@ fn read_object_link(input: &[u8], objects: &[u32], c: &mut [usize; 6]) -> u64
 }
 
 // The entry of the symbol list that the index read names.
-fn read_symbol_link(input: &[u8], symbols: &[u32], c: &mut [usize; 6]) -> u64
+fn read_symbol_link(input: &[u8], symbols: &[u32], c: &mut [usize; 7]) -> u64
     requires { ⌜ ((no : List ℕ) × (re : List ℕ) × (by : List ℕ) × (ob : List ℕ) × Held (now input) (lists no re by (now symbols) ob) (now c)) ⌝ }
     ensures { λ r. ⌜ ((room : Room) (limit : ℕ) (no re by ob : List ℕ) → Meets (now (input .entry)) room limit (read-symbol-link (now (input .entry))) (lists no re by (now (symbols .entry)) ob) (now (c .entry)) r (lists no re by (now (symbols .entry)) ob) (now (c .exit))) ⌝ }
     ensures { λ r. ⌜ (r < 4294967296 → r < nodes-of (now (c .exit))) ⌝ }
@@ -278,7 +292,7 @@ fn read_symbol_link(input: &[u8], symbols: &[u32], c: &mut [usize; 6]) -> u64
 }
 
 // A node of the integer read.
-fn read_fixnum(input: &[u8], nodes: &mut [u32], c: &mut [usize; 6]) -> u64
+fn read_fixnum(input: &[u8], nodes: &mut [u32], c: &mut [usize; 7]) -> u64
     requires { ⌜ ((re : List ℕ) × (by : List ℕ) × (sy : List ℕ) × (ob : List ℕ) × Held (now input) (lists (now nodes) re by sy ob) (now c)) ⌝ }
     ensures { λ r. ⌜ ((room : Room) (limit : ℕ) (re by sy ob : List ℕ) → Meets (now (input .entry)) room limit (read-fixnum (now (input .entry)) room) (lists (now (nodes .entry)) re by sy ob) (now (c .entry)) r (lists (now (nodes .exit)) re by sy ob) (now (c .exit))) ⌝ }
     ensures { λ r. ⌜ (r < 4294967296 → r < nodes-of (now (c .exit))) ⌝ }
@@ -296,7 +310,7 @@ fn read_text(
     nodes: &mut [u32],
     bytes: &mut [u8],
     objects: &mut [u32],
-    c: &mut [usize; 6],
+    c: &mut [usize; 7],
     kind: u32,
     name: u32,
 ) -> u64
@@ -386,13 +400,13 @@ fn find_symbol(
     REFUSED
 }
 
-// The symbol of the name read, added where it is new, and put on the symbol list.
+// The symbol of the name read, added where it is new, and put on the symbol list. That it is not new is noted.
 fn read_symbol(
     input: &[u8],
     nodes: &mut [u32],
     bytes: &mut [u8],
     symbols: &mut [u32],
-    c: &mut [usize; 6],
+    c: &mut [usize; 7],
 ) -> u64
     requires { ⌜ ((re : List ℕ) × (ob : List ℕ) × Held (now input) (lists (now nodes) re (now bytes) (now symbols) ob) (now c)) ⌝ }
     ensures { λ r. ⌜ ((room : Room) (limit : ℕ) (re ob : List ℕ) → Meets (now (input .entry)) room limit (read-symbol (now (input .entry)) room) (lists (now (nodes .entry)) re (now (bytes .entry)) (now (symbols .entry)) ob) (now (c .entry)) r (lists (now (nodes .exit)) re (now (bytes .exit)) (now (symbols .exit)) ob) (now (c .exit))) ⌝ }
@@ -412,6 +426,7 @@ fn read_symbol(
         n as u32,
     );
     if known < REFUSED {
+        c[FORM] = 1;
         return add_symbol(symbols, c, known);
     }
     let start = add_bytes(&input[..], bytes, c, n);
@@ -427,7 +442,7 @@ pub fn read_symbol_like(
     nodes: &mut [u32],
     bytes: &mut [u8],
     symbols: &mut [u32],
-    c: &mut [usize; 6],
+    c: &mut [usize; 7],
 ) -> u64
     requires { ⌜ ((re : List ℕ) × (ob : List ℕ) × Held (now input) (lists (now nodes) re (now bytes) (now symbols) ob) (now c)) ⌝ }
     ensures { λ r. ⌜ ((room : Room) (limit : ℕ) (re ob : List ℕ) → Meets (now (input .entry)) room limit (read-symbol-like (now (input .entry)) room) (lists (now (nodes .entry)) re (now (bytes .entry)) (now (symbols .entry)) ob) (now (c .entry)) r (lists (now (nodes .exit)) re (now (bytes .exit)) (now (symbols .exit)) ob) (now (c .exit))) ⌝ }
@@ -453,7 +468,7 @@ fn read_user_defined(
     bytes: &mut [u8],
     symbols: &mut [u32],
     objects: &mut [u32],
-    c: &mut [usize; 6],
+    c: &mut [usize; 7],
 ) -> u64
     requires { ⌜ ((re : List ℕ) × Held (now input) (lists (now nodes) re (now bytes) (now symbols) (now objects)) (now c)) ⌝ }
     ensures { λ r. ⌜ ((room : Room) (limit : ℕ) (re : List ℕ) → Meets (now (input .entry)) room limit (read-user-defined (now (input .entry)) room) (lists (now (nodes .entry)) re (now (bytes .entry)) (now (symbols .entry)) (now (objects .entry))) (now (c .entry)) r (lists (now (nodes .exit)) re (now (bytes .exit)) (now (symbols .exit)) (now (objects .exit))) (now (c .exit))) ⌝ }
@@ -492,7 +507,7 @@ pub fn read_leaf(
     bytes: &mut [u8],
     symbols: &mut [u32],
     objects: &mut [u32],
-    c: &mut [usize; 6],
+    c: &mut [usize; 7],
     k: u8,
 ) -> u64
     requires { ⌜ ((re : List ℕ) × Held (now input) (lists (now nodes) re (now bytes) (now symbols) (now objects)) (now c)) ⌝ }
@@ -521,7 +536,7 @@ pub fn read_leaf(
 
 // The entry that a link of the one byte b names, of `known` ones; where it names none of them, a number from `known` on.
 fn link_index(b: u8, known: usize) -> usize
-    ensures { λ r. ⌜ (r < known → form b ≡ value r) ⌝ }
+    ensures { λ r. ⌜ (r < known → (form b ≡ value r) × (integer-bytes r ≡ b ∷ [])) ⌝ }
     ensures { λ r. ⌜ ((n : ℕ) → Link b known n → r ≡ n) ⌝ }
 {
     let i = small(b);
@@ -546,26 +561,21 @@ fn takes_integer(k: u8, to: usize, names: usize, node: usize, room: usize) -> bo
     node < room
 }
 
-// Node `node` becomes the integer at `at`, whose bytes are all there: how many they are.
+// Node `node` becomes the integer at `at`, whose bytes are all there, if dump writes it so: how many they are. Else 0.
 fn put_integer(input: &[u8], nodes: &mut [u32], at: usize, node: usize) -> usize
     requires { ⌜ (at + size-of (form (getD (now input) at 0)) ≤ length (now input)) × (node * width + width ≤ length (now nodes)) ⌝ }
-    ensures { λ r. ⌜ now (nodes .exit) ≡ sets (now (nodes .entry)) (node * width) (2 ∷ word-of (drop (at + 1) (now (input .entry))) (form (getD (now (input .entry)) at 0)) ∷ 0 ∷ 0 ∷ 0 ∷ 0 ∷ 0 ∷ []) ⌝ }
-    ensures { λ r. ⌜ r ≡ size-of (form (getD (now (input .entry)) at 0)) ⌝ }
+    ensures { λ r. ⌜ ((r ≡ 0 → ⊥) → now (nodes .exit) ≡ sets (now (nodes .entry)) (node * width) (2 ∷ word-of (drop (at + 1) (now (input .entry))) (form (getD (now (input .entry)) at 0)) ∷ 0 ∷ 0 ∷ 0 ∷ 0 ∷ 0 ∷ [])) ⌝ }
+    ensures { λ r. ⌜ ((r ≡ 0 → ⊥) → (r ≡ size-of (form (getD (now (input .entry)) at 0))) × (dumped-at (now (input .entry)) at ≡ true)) ⌝ }
+    ensures { λ r. ⌜ (r ≡ 0 → (now (nodes .exit) ≡ now (nodes .entry)) × (dumped-at (now (input .entry)) at ≡ false)) ⌝ }
     ensures { λ r. ⌜ word-of (drop (at + 1) (now (input .entry))) (form (getD (now (input .entry)) at 0)) < 4294967296 ⌝ }
 {
-    let n = integer_size(input[at]);
-    put_node(
-        nodes,
-        node * Node::WIDTH,
-        Node::FIXNUM,
-        integer_at(&input[..], at),
-        0,
-        0,
-        0,
-        0,
-        0,
-    );
-    n
+    let b = input[at];
+    let w = integer_at(&input[..], at);
+    if !in_form(b, w) {
+        return 0;
+    }
+    put_node(nodes, node * Node::WIDTH, Node::FIXNUM, w, 0, 0, 0, 0, 0);
+    integer_size(b)
 }
 
 // Does an integer or a symbol link come next, with a level for it?
@@ -586,22 +596,22 @@ fn small_next(input: &[u8], at: usize, levels: u32) -> bool
 }
 
 // The offset is what the run has come to: `to`.
-fn end_run(c: &mut [usize; 6], at: usize, to: usize) -> usize
+fn end_run(c: &mut [usize; 7], at: usize, to: usize) -> usize
     ensures { λ r. ⌜ (r ≡ to) × (now (c .exit) ≡ set (now (c .entry)) 0 at) ⌝ }
 {
     c[AT] = at;
     to
 }
 
-// Integers, and symbol links of one byte, as far as they come one after the other with six bytes there, for the reference
-// words from `start` to `end`, of which those of parity `names` want a name: the first word that is left. It refuses
-// nothing: what it does not take is left to be read. The offset is in a local meanwhile.
+// Integers, and symbol links of one byte, as far as they come one after the other in dump form with six bytes there, for
+// the reference words from `start` to `end`, of which those of parity `names` want a name: the first word that is left. It
+// refuses and notes nothing: what it does not take is left to be read. The offset is in a local meanwhile.
 pub fn read_run(
     input: &[u8],
     nodes: &mut [u32],
     references: &mut [u32],
     symbols: &[u32],
-    c: &mut [usize; 6],
+    c: &mut [usize; 7],
     start: usize,
     end: usize,
     names: usize,
@@ -637,7 +647,11 @@ pub fn read_run(
         if !takes_integer(k, to, names, node, nodes.len() / Node::WIDTH) {
             return end_run(c, at, to);
         }
-        at = at + 1 + put_integer(&input[..], nodes, at + 1, node);
+        let n = put_integer(&input[..], nodes, at + 1, node);
+        if n == 0 {
+            return end_run(c, at, to);
+        }
+        at = at + 1 + n;
         c[NODES] = node + 1;
         references[to] = node as u32;
         to = to + 1;
@@ -648,8 +662,8 @@ pub fn read_run(
 // ---- values with members
 
 // A nil node for what has members, put on the object list: its number.
-pub fn open_node(nodes: &mut [u32], objects: &mut [u32], c: &mut [usize; 6]) -> u64
-    requires { ⌜ (length (now nodes) ≤ 2147483647) × (length (now c) ≡ 6) ⌝ }
+pub fn open_node(nodes: &mut [u32], objects: &mut [u32], c: &mut [usize; 7]) -> u64
+    requires { ⌜ (length (now nodes) ≤ 2147483647) × (length (now c) ≡ 7) ⌝ }
     ensures { λ r. ⌜ ((input : List ℕ) (room : Room) (limit : ℕ) (re by sy : List ℕ) → Meets input room limit (add-object-node room nil) (lists (now (nodes .entry)) re by sy (now (objects .entry))) (now (c .entry)) r (lists (now (nodes .exit)) re by sy (now (objects .exit))) (now (c .exit))) ⌝ }
     ensures { λ r. ⌜ (r < 4294967296 → (r < nodes-of (now (c .exit))) × Free (now (nodes .exit)) r) ⌝ }
 {
@@ -657,7 +671,7 @@ pub fn open_node(nodes: &mut [u32], objects: &mut [u32], c: &mut [usize; 6]) -> 
 }
 
 // A count, and so many times `each` reference words more, which are zero: the count.
-pub fn read_words(input: &[u8], references: &mut [u32], c: &mut [usize; 6], each: usize) -> u64
+pub fn read_words(input: &[u8], references: &mut [u32], c: &mut [usize; 7], each: usize) -> u64
     requires { ⌜ (each ≤ 2) × ((no : List ℕ) × (by : List ℕ) × (sy : List ℕ) × (ob : List ℕ) × Held (now input) (lists no (now references) by sy ob) (now c)) ⌝ }
     ensures { λ r. ⌜ ((room : Room) (limit : ℕ) (no by sy ob : List ℕ) (k : ℕ → ℕ → Reader ℕ) → Leads (now (input .entry)) room limit (counted (now (input .entry)) room each k) (k (references-of (now (c .exit)) - r * each) r) (lists no (now (references .entry)) by sy ob) (now (c .entry)) r (lists no (now (references .exit)) by sy ob) (now (c .exit))) ⌝ }
     ensures { λ r. ⌜ (r < 4294967296 → (r < 2147483648) × (r * each ≤ references-of (now (c .exit)))) ⌝ }
@@ -702,6 +716,31 @@ pub fn fill_node(
         last,
     );
     h
+}
+
+// Does a string or a user-defined stand at `at`? Dump writes `I` before nothing else.
+fn takes_next(input: &[u8], at: usize) -> bool
+    ensures { λ r. ⌜ r ≡ takes-variables (getD (now (input .entry)) at 0) ⌝ }
+{
+    if input.len() <= at {
+        return false;
+    }
+    let k = input[at];
+    if k == ValueKind::STRING {
+        return true;
+    }
+    k == ValueKind::USER_DEFINED
+}
+
+// After `I`: that something else comes directly is noted.
+pub fn note_inner(input: &[u8], c: &mut [usize; 7])
+    requires { ⌜ Somewhere (now input) (now c) ⌝ }
+    ensures { λ _. ⌜ ((room : Room) (T : Lists) (inner : Reader ℕ) → Goes (now (input .entry)) room (after-i (now (input .entry)) inner) T (now (c .entry)) inner T (now (c .exit))) ⌝ }
+{
+    if takes_next(&input[..], c[AT]) {
+        return;
+    }
+    c[FORM] = 1;
 }
 
 // The variable list of node h is this one, if it is a string or user-defined: h.

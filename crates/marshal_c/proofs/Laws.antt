@@ -50,9 +50,9 @@ unfolding details
 then a words vs e = ap (λ (l : List ℕ). sets l 2 vs) e
 
 -- after the details and the counts
-pub last : (a : Answer) (c : Counts) (words : List ℕ) {t u : List ℕ} (v : ℕ) → t ≡ sets words 0 (details a) → u ≡ sets t 2 (count-words c) → set u 6 v ≡ sets words 0 (details a ++ count-words c ++ (v ∷ []))
+pub last : (a : Answer) (c : Counts) (words : List ℕ) {t u : List ℕ} (vs : List ℕ) → t ≡ sets words 0 (details a) → u ≡ sets t 2 (count-words c) → sets u 6 vs ≡ sets words 0 (details a ++ count-words c ++ vs)
 unfolding details count-words
-last a c words v e f = ap (λ (l : List ℕ). set l 6 v) (f ∙ ap (λ (l : List ℕ). sets l 2 (count-words c)) e)
+last a c words vs e f = ap (λ (l : List ℕ). sets l 6 vs) (f ∙ ap (λ (l : List ℕ). sets l 2 (count-words c)) e)
 
 -- ---- replies
 
@@ -66,11 +66,11 @@ module _ {L : Type 0} (a : Answer) (ws words : List ℕ) (before after : L) wher
   enough {w = w} h e = rw (le-leb (length ws) (length words) h) (ap (λ (m : ℕ). reply m w after) (e .0) ∙ ap (λ (l : List ℕ). reply (answer-numbers a .0) l after) (e .1))
 
 module _ (T : Lists) (words : List ℕ) where
-  pub load-few : (k : LoadCall) → length words < 7 → reply 1 words T ≡ tell-load k T words
+  pub load-few : (k : LoadCall) → length words < 8 → reply 1 words T ≡ tell-load k T words
   unfolding tell-load loaded-words details count-words
   load-few k h = too-few (k .answer .answer) (loaded-words (k .answer)) words T (k .lent) h
 
-  pub load-told : {r : Loaded} {T′ : Lists} {k : LoadCall} {n : ℕ} {w : List ℕ} → 7 ≤ length words → (n ≡ answer-numbers (r .answer) .0) × (w ≡ sets words 0 (loaded-words r)) → record { answer = r; lent = T′ } ≡ k → reply n w T′ ≡ tell-load k T words
+  pub load-told : {r : Loaded} {T′ : Lists} {k : LoadCall} {n : ℕ} {w : List ℕ} → 8 ≤ length words → (n ≡ answer-numbers (r .answer) .0) × (w ≡ sets words 0 (loaded-words r)) → record { answer = r; lent = T′ } ≡ k → reply n w T′ ≡ tell-load k T words
   unfolding tell-load loaded-words details count-words
   load-told {r = r} {T′ = T′} h e g = enough (r .answer) (loaded-words r) words T T′ h e ∙ ap (λ (k : LoadCall). tell-load k T words) g
 

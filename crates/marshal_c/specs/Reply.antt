@@ -1,5 +1,6 @@
 -- What a function for C returns and leaves: the answer's number, the answer words, and everything else lent as it then stands.
 use Prim.Native.Nat.{ℕ, _-_}
+use mathlib.Core.Bool.{Bool, true, false}
 use mathlib.Core.List.{List, [], _∷_, _++_}
 use lib.Dec.{leb}
 use lib.IntN.{ℤ, pos, negsuc}
@@ -36,9 +37,14 @@ details a = word (answer-numbers a .1) ∷ word (answer-numbers a .2) ∷ []
 unfoldable pub count-words : Counts → List ℕ
 count-words c = c .nodes ∷ c .references ∷ c .bytes ∷ c .root ∷ []
 
--- load: then the bytes used
+-- a yes or no as a word
+unfoldable pub flag : Bool → ℕ
+flag true = 1
+flag false = 0
+
+-- load: then the bytes used, and whether dump writes just these
 unfoldable pub loaded-words : Loaded → List ℕ
-loaded-words r = details (r .answer) ++ count-words (r .counts) ++ (r .used ∷ [])
+loaded-words r = details (r .answer) ++ count-words (r .counts) ++ (r .used ∷ flag (r .form) ∷ [])
 
 -- dump: the bytes written
 unfoldable pub dumped-words : Dumped → List ℕ

@@ -42,13 +42,13 @@ ghost use Rattle.definition.specs.Load.{Lists, lists, counts, load-call};
 ghost use Rattle.definition.specs.Dump.{dump-call};
 ghost use Rattle.definition.specs.Build.{lent, build-call, new-call, number-done, words-done, name-done, get-words, get-kind, get-name, get-root, exchange-root, create-nil, create-bool, create-fixnum, create-new-symbol, create-symbol, create-array, create-hash, create-object, create-string, create-user-defined, create-float};
 ghost use Rattle.refusal.specs.Shown.{integer};
-ghost use Rattle.marshal_c.specs.Reply.{word, details, count-words, loaded-words, dumped-words, begun-words, number-words, node-words, name-words, created-words, tables, reply, tell-load, tell-dump, tell-new, tell-build, tell-number, tell-words, tell-name};
+ghost use Rattle.marshal_c.specs.Reply.{word, details, flag, count-words, loaded-words, dumped-words, begun-words, number-words, node-words, name-words, created-words, tables, reply, tell-load, tell-dump, tell-new, tell-build, tell-number, tell-words, tell-name};
 
 // Too few answer words: BAD-TABLES.
 const BAD_TABLES: u32 = 1;
 
 // How many answer words each kind of answer takes.
-const LOADED: usize = 7;
+const LOADED: usize = 8;
 
 const DUMPED: usize = 3;
 
@@ -76,6 +76,13 @@ fn detail(below: bool, n: u32) -> u64
         return 18446744073709551615 - (size - 1);
     }
     size
+}
+
+// A yes or no as a word.
+fn flag_of(b: bool) -> u64
+    ensures { λ r. ⌜ r ≡ flag b ⌝ }
+{
+    if b { 1 } else { 0 }
 }
 
 // Words 0 and 1; the answer's number is returned.
@@ -117,7 +124,7 @@ fn tell_seven(answer: &mut [u64], a: u32, b: u32, c: u32, d: u32, e: u32, f: u32
 
 // Each kind of answer: its words, and its number.
 fn tell_loaded(answer: &mut [u64], r: Loaded) -> u32
-    requires { ⌜ 7 ≤ length (now answer) ⌝ }
+    requires { ⌜ 8 ≤ length (now answer) ⌝ }
     ensures { λ n. ⌜ (n ≡ answer-numbers (r .answer) .0) × (now (answer .exit) ≡ sets (now (answer .entry)) 0 (loaded-words r)) ⌝ }
 {
     let a = r.answer;
@@ -125,6 +132,7 @@ fn tell_loaded(answer: &mut [u64], r: Loaded) -> u32
     let n = tell(answer, a);
     tell_counts(answer, c);
     answer[6] = r.used as u64;
+    answer[7] = flag_of(r.form);
     n
 }
 

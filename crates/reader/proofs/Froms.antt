@@ -1,7 +1,8 @@
 -- A reader's answers at an offset, by what the definition's readers do there.
 use Prim.Native.Nat.{ℕ, _+_, _-_, _≤_, _<_}
 use native.Mathlib.Omega.{arith}
-use mathlib.Core.Path.{_≡_, sym, ap}
+use mathlib.Core.Path.{_≡_, refl, sym, ap, _∙_}
+use mathlib.Core.Bool.{Bool, true, false, _&&_}
 use mathlib.Core.List.{List}
 use lib.ListN.{length, getD, take, drop, length-drop}
 use lib.Seq.{length-take-le}
@@ -9,18 +10,23 @@ use borrow.Author.Tests.{lt-ltb, le-ltb, le-leb, lt-leb}
 use Rattle.definition.specs.Run.{ok, refused, pure, refuse, pick, next, _>>=_}
 use Rattle.definition.specs.Integer.{Form, form}
 use Rattle.definition.specs.Arena.{range}
-use Rattle.definition.specs.Load.{State, read-byte, read-bytes, read-header, read-integer, read-count, read-byte-string}
+use Rattle.definition.specs.Load.{noted, read-byte, read-bytes, read-header, read-integer, read-count, read-byte-string}
 use Rattle.definition.specs.Reader.{starting, taken, passed, spanned, next-byte, next-header, next-integer, next-byte-string}
 use Rattle.definition.specs.declared.Answer.the-variants.{Accepted}
 use Rattle.definition.specs.declared.Refusal.{Refusal}
 use Rattle.definition.specs.declared.Refusal.the-variants.{ShortInput, NegativeCount}
 use Rattle.reader.specs.From.{taken-as, not-taken, no-text}
-use Rattle.reader.specs.Integers.{size-of, word-of, integer-read, integer-short, integer-none}
+use Rattle.reader.specs.Integers.{size-of, word-of, dumped-at, integer-read, integer-short, integer-none}
+
+-- at the start all is in dump form
+and-true : (t : Bool) → (t && true) ≡ t
+and-true true = refl
+and-true false = refl
 
 module _ (input : List ℕ) (at : ℕ) where
   -- ---- a byte and the header
 
-  pub byte-there : at < length input → taken-as (getD input at 0) (at + 1) ≡ next-byte input at
+  pub byte-there : at < length input → taken-as (getD input at 0) (at + 1) true ≡ next-byte input at
   unfolding taken read-byte pick
   byte-there l = simp (lt-ltb _ _ l)
 
@@ -36,9 +42,9 @@ module _ (input : List ℕ) (at : ℕ) where
   unfolding passed
   header-refused e = sym (ap (passed at) e)
 
-  pub header-there : {s : State} → read-header input (starting at) ≡ ok tt s → taken-as 0 (s .at) ≡ next-header input at
+  pub header-there : (t : Bool) {p : ℕ} → read-header input (starting at) ≡ ok tt (noted t (starting p)) → taken-as 0 p t ≡ next-header input at
   unfolding passed
-  header-there e = sym (ap (passed at) e)
+  header-there t {p} e = sym (ap (passed at) e ∙ ap (taken-as 0 p) (and-true t))
 
   -- ---- an integer, which takes n bytes
 
@@ -52,16 +58,16 @@ module _ (input : List ℕ) (at : ℕ) where
     pub integer-cut : length input - at < n → read-integer input (starting at) ≡ refused ShortInput
     integer-cut h = integer-short input (starting at) (omega (arith, e)) l
 
-    pub integer-whole : {w : ℕ} → n ≤ length input - at → w ≡ word-of (drop (at + 1) input) first → read-integer input (starting at) ≡ ok w (starting (at + n))
-    integer-whole h k = rw (e, k) (integer-read input (starting at) (omega (arith, e)) l)
+    pub integer-whole : {w : ℕ} {t : Bool} → n ≤ length input - at → w ≡ word-of (drop (at + 1) input) first → t ≡ dumped-at input at → read-integer input (starting at) ≡ ok w (noted t (starting (at + n)))
+    integer-whole h k q = rw (e, k, q) (integer-read input (starting at) (omega (arith, e)) l)
 
   pub integer-refused : {q : Refusal} → read-integer input (starting at) ≡ refused q → not-taken q at ≡ next-integer input at
   unfolding taken
   integer-refused e = sym (ap (taken at) e)
 
-  pub integer-there : {w : ℕ} {s : State} → read-integer input (starting at) ≡ ok w s → taken-as w (s .at) ≡ next-integer input at
+  pub integer-there : (t : Bool) {w p : ℕ} → read-integer input (starting at) ≡ ok w (noted t (starting p)) → taken-as w p t ≡ next-integer input at
   unfolding taken
-  integer-there e = sym (ap (taken at) e)
+  integer-there t {w} {p} e = sym (ap (taken at) e ∙ ap (taken-as w p) (and-true t))
 
   -- ---- a byte string
 
@@ -69,7 +75,7 @@ module _ (input : List ℕ) (at : ℕ) where
   unfolding spanned read-byte-string read-count _>>=_ next
   text-refused e = simp e
 
-  module _ {w p : ℕ} (e : read-integer input (starting at) ≡ ok w (starting p)) where
+  module _ (t : Bool) {w p : ℕ} (e : read-integer input (starting at) ≡ ok w (noted t (starting p))) where
     pub text-negative : 2147483648 ≤ w → no-text (NegativeCount w) at ≡ next-byte-string input at
     unfolding spanned read-byte-string read-count _>>=_ next pick refuse
     text-negative h = simp (e, le-ltb _ _ h)
@@ -78,9 +84,9 @@ module _ (input : List ℕ) (at : ℕ) where
     unfolding spanned read-byte-string read-count read-bytes _>>=_ next pick pure
     text-short l h = simp (e, lt-ltb _ _ l, lt-leb _ _ h)
 
-    pub text-there : w < 2147483648 → w ≤ length input - p → record { answer = Accepted; start = p; length = w; offset = p + w } ≡ next-byte-string input at
+    pub text-there : w < 2147483648 → w ≤ length input - p → record { answer = Accepted; start = p; length = w; offset = p + w; form = t } ≡ next-byte-string input at
     unfolding spanned read-byte-string read-count read-bytes range _>>=_ next pick pure
     text-there l h =
         let k : length (take w (drop p input)) ≡ w = length-take-le w (drop p input) (simp length-drop h) in
         let m : p + w - w ≡ p = omega arith in
-        simp (e, lt-ltb _ _ l, le-leb _ _ h, k, m)
+        simp (e, lt-ltb _ _ l, le-leb _ _ h, k, m, and-true t)

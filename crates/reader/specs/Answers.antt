@@ -5,7 +5,7 @@ use mathlib.Core.Path.{_≡_, refl, ap, _∙_}
 use lib.Dec.{eqb}
 use borrow.Author.Tests.{ne-eqb}
 use Rattle.definition.specs.Run.{ok, refused, pick}
-use Rattle.definition.specs.Load.{State, Reader, at-set}
+use Rattle.definition.specs.Load.{State, Reader, at-set, noted}
 use Rattle.definition.specs.declared.Refusal.{Refusal}
 use Rattle.definition.specs.declared.Refusal.the-variants.{InvalidVersion, ShortInput, InvalidKind, NegativeCount, MissingSymbol, MissingObject, NotASymbol, NotAnObject, TooDeep, NoSpace}
 
@@ -82,7 +82,7 @@ refusal-last limit r c d e f g h i j k =
     let n = r / 4294967296 in
     simp (ne-eqb n 3 c, ne-eqb n 4 d, ne-eqb n 5 e, ne-eqb n 6 f, ne-eqb n 7 g, ne-eqb n 8 h, ne-eqb n 9 i, ne-eqb n 10 j, ne-eqb n 11 k)
 
--- a reader m at the offset `at`, whose number is r: a value, with the offset then given, or a refusal
-pub record Reads {A : Type 0} (m : Reader A) (v : A) (at r next : ℕ) : Type 0 where
-  pub reads : r < 4294967296 → (s : State) → s .at ≡ at → m s ≡ ok v (at-set next s)
+-- a reader m at the offset `at`, whose number is r: below 2^32 it has come to the offset given, and dump writes what it read just where r is 0; from there on it is a refusal
+pub record Reads (m : Reader (Unit {0})) (at r next : ℕ) : Type 0 where
+  pub reads : r < 4294967296 → (s : State) → s .at ≡ at → m s ≡ ok tt (noted (eqb r 0) (at-set next s))
   pub stops : 4294967296 ≤ r → (limit : ℕ) (s : State) → s .at ≡ at → m s ≡ refused (refusal-at limit r)

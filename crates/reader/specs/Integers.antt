@@ -1,17 +1,19 @@
--- An integer that stands at an offset: how many bytes it takes, and its 32 bits.
+-- An integer that stands at an offset: how many bytes it takes, its 32 bits, and whether dump writes it so.
 use Prim.Native.Nat.{ℕ, suc, _+_, _-_, _%_, _^_, _≤_, _<_}
 use native.Mathlib.Omega.{arith}
 use mathlib.Core.Bool.{Bool, true, false}
-use mathlib.Core.Path.{_≡_, refl}
-use mathlib.Core.List.{List}
+use mathlib.Core.Path.{_≡_, refl, sym}
+use mathlib.Core.List.{List, [], _∷_}
 use lib.Dec.{leb, eqb}
 use lib.ListN.{length, getD, take, drop}
 use borrow.Author.Tests.{lt-ltb, le-ltb, le-leb, lt-leb, ne-eqb, eqb-true, eqb-false, leb-true, leb-false}
-use Rattle.definition.specs.Run.{ok, refused, pure, pick, next, _>>=_}
-use Rattle.definition.specs.Integer.{Form, value, data-bytes, form, little}
+use Rattle.definition.specs.Run.{ok, refused, pick, next, _>>=_}
+use Rattle.definition.specs.Integer.{Form, value, data-bytes, form, little, integer-bytes}
+use Rattle.definition.specs.Node.{equal}
 use Rattle.definition.specs.Arena.{range}
-use Rattle.definition.specs.Load.{State, at-set, read-byte, read-bytes, read-form, read-integer}
+use Rattle.definition.specs.Load.{State, at-set, noted, tell, read-byte, read-bytes, read-form, read-integer}
 use Rattle.definition.specs.declared.Refusal.the-variants.{ShortInput}
+use Rattle.lists.specs.Integers.{same-form}
 
 -- how many bytes the form has, the first one included
 unfoldable pub size-of : Form → ℕ
@@ -22,6 +24,23 @@ size-of (data-bytes n above) = suc n
 unfoldable pub word-of : List ℕ → Form → ℕ
 word-of rest (value w) = w
 word-of rest (data-bytes n above) = little (take n rest) above
+
+-- the bytes after the first that are its own
+unfoldable pub data-of : List ℕ → Form → List ℕ
+data-of rest (value w) = []
+data-of rest (data-bytes n above) = take n rest
+
+-- does dump write it so? b is its first byte
+abbrev pub as-dumped : List ℕ → ℕ → Form → Bool
+as-dumped rest b f = equal (b ∷ data-of rest f) (integer-bytes (word-of rest f))
+
+-- the integer at an offset
+abbrev pub dumped-at : List ℕ → ℕ → Bool
+dumped-at input at = as-dumped (drop (at + 1) input) (getD input at 0) (form (getD input at 0))
+
+-- the least number that dump writes with n data bytes; of a negative number, -1 minus it
+unfoldable pub least : ℕ → ℕ
+least n = pick (eqb n 1) 123 (pick (eqb n 2) 256 (pick (eqb n 3) 65536 16777216))
 
 -- ---- what the first byte says
 
@@ -109,35 +128,36 @@ size-some b = some-byte (form b)
 
 -- ---- the integer reader
 
-module _ (input : List ℕ) (s : State) where
-  form-read : (f : Form) → s .at < length input → s .at + size-of f ≤ length input → read-form input f (at-set (s .at + 1) s) ≡ ok (word-of (drop (s .at + 1) input) f) (at-set (s .at + size-of f) s)
-  unfolding read-form size-of word-of pure read-bytes range _>>=_ next pick
+module _ (input : List ℕ) (s : State) (b : ℕ) where
+  form-read : (f : Form) → s .at < length input → s .at + size-of f ≤ length input → read-form input b f (at-set (s .at + 1) s) ≡ ok (word-of (drop (s .at + 1) input) f) (noted (as-dumped (drop (s .at + 1) input) b f) (at-set (s .at + size-of f) s))
+  unfolding read-form tell size-of word-of data-of read-bytes range _>>=_ next pick
   form-read (value w) l h = refl
   form-read (data-bytes n above) l h =
       let le : n ≤ length input - (s .at + 1) = omega arith in
       let e : s .at + 1 + n ≡ s .at + suc n = omega arith in
       simp (le-leb _ _ le, e)
 
-  form-short : (f : Form) → s .at < length input → length input < s .at + size-of f → read-form input f (at-set (s .at + 1) s) ≡ refused ShortInput
+  form-short : (f : Form) → s .at < length input → length input < s .at + size-of f → read-form input b f (at-set (s .at + 1) s) ≡ refused ShortInput
   unfolding read-form size-of read-bytes _>>=_ next pick
   form-short (value w) l h = absurd (omega arith)
   form-short (data-bytes n above) l h = let lt : length input - (s .at + 1) < n = omega arith in simp (lt-leb _ _ lt)
 
+module _ (input : List ℕ) (s : State) where
   -- all its bytes are there
-  pub integer-read : s .at + size-of (form (getD input (s .at) 0)) ≤ length input → s .at < length input → read-integer input s ≡ ok (word-of (drop (s .at + 1) input) (form (getD input (s .at) 0))) (at-set (s .at + size-of (form (getD input (s .at) 0))) s)
+  pub integer-read : s .at + size-of (form (getD input (s .at) 0)) ≤ length input → s .at < length input → read-integer input s ≡ ok (word-of (drop (s .at + 1) input) (form (getD input (s .at) 0))) (noted (dumped-at input (s .at)) (at-set (s .at + size-of (form (getD input (s .at) 0))) s))
   unfolding read-integer read-byte _>>=_ next pick
-  integer-read h l = simp (lt-ltb _ _ l) (form-read (form (getD input (s .at) 0)) l h)
+  integer-read h l = simp (lt-ltb _ _ l) (form-read input s (getD input (s .at) 0) (form (getD input (s .at) 0)) l h)
 
   -- one is missing
   pub integer-short : length input < s .at + size-of (form (getD input (s .at) 0)) → s .at < length input → read-integer input s ≡ refused ShortInput
   unfolding read-integer read-byte _>>=_ next pick
-  integer-short h l = simp (lt-ltb _ _ l) (form-short (form (getD input (s .at) 0)) l h)
+  integer-short h l = simp (lt-ltb _ _ l) (form-short input s (getD input (s .at) 0) (form (getD input (s .at) 0)) l h)
 
   pub integer-none : length input ≤ s .at → read-integer input s ≡ refused ShortInput
   unfolding read-integer read-byte _>>=_ next pick
   integer-none h = simp (le-ltb _ _ h)
 
-  -- an integer of one byte
-  pub integer-small : (w : ℕ) → form (getD input (s .at) 0) ≡ value w → s .at < length input → read-integer input s ≡ ok w (at-set (s .at + 1) s)
-  unfolding read-integer read-byte read-form pure _>>=_ next pick
-  integer-small w e l = simp (lt-ltb _ _ l, e)
+  -- an integer of one byte, which dump writes so
+  pub integer-small : (w : ℕ) → form (getD input (s .at) 0) ≡ value w → integer-bytes w ≡ getD input (s .at) 0 ∷ [] → s .at < length input → read-integer input s ≡ ok w (at-set (s .at + 1) s)
+  unfolding read-integer read-byte read-form tell _>>=_ next pick
+  integer-small w e f l = simp (lt-ltb _ _ l, e, sym (same-form w f))

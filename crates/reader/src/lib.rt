@@ -5,16 +5,16 @@ use definition::Refusal;
 use definition::Taken;
 use definition::Text;
 ghost use mathlib.Core.Path.{_≡_};
-ghost use mathlib.Core.List.{List};
+ghost use mathlib.Core.List.{List, [], _∷_};
 ghost use Prim.Native.Nat.{ℕ, _+_, _-_, _*_, _^_, _<_, _≤_};
 ghost use lib.ListN.{length, getD, take, drop};
-ghost use Rattle.definition.specs.Integer.{value, form};
+ghost use Rattle.definition.specs.Integer.{value, form, low-bytes, integer-bytes};
 ghost use Rattle.definition.specs.Integer as integer;
 ghost use Rattle.definition.specs.Load.{read-header};
 ghost use Rattle.definition.specs.Reader.{left, next-byte, next-header, next-integer, next-byte-string};
 ghost use Rattle.reader.specs.Answers.{refusal-at, coded, Reads};
 ghost use Rattle.definition.specs.declared.Refusal.the-variants.{ShortInput};
-ghost use Rattle.reader.specs.Integers.{size-of, word-of};
+ghost use Rattle.reader.specs.Integers.{size-of, word-of, data-of, as-dumped, least};
 ghost use Rattle.reader.specs.From.{taken-as, not-taken, no-text};
 
 // A reader answers a number, which comes back in a register: an enum comes back in memory. Below REFUSED it is a value;
@@ -103,6 +103,7 @@ fn little(input: &[u8], at: usize, n: usize) -> u32
     requires { ⌜ (1 ≤ n) × (n ≤ 4) × (at + n ≤ length (now input)) ⌝ }
     ensures { λ r. ⌜ r ≡ integer.little (take n (drop at (now (input .entry)))) 0 ⌝ }
     ensures { λ r. ⌜ r < 256 ^ n ⌝ }
+    ensures { λ r. ⌜ take n (drop at (now (input .entry))) ≡ low-bytes n r ⌝ }
 {
     let one = byte(input[at]);
     if n == 1 {
@@ -136,6 +137,7 @@ fn ones_above(n: usize) -> u32
 pub fn integer_at(input: &[u8], at: usize) -> u32
     requires { ⌜ at + size-of (form (getD (now input) at 0)) ≤ length (now input) ⌝ }
     ensures { λ r. ⌜ r ≡ word-of (drop (at + 1) (now (input .entry))) (form (getD (now (input .entry)) at 0)) ⌝ }
+    ensures { λ r. ⌜ data-of (drop (at + 1) (now (input .entry))) (form (getD (now (input .entry)) at 0)) ≡ low-bytes (size-of (form (getD (now (input .entry)) at 0)) - 1) r ⌝ }
 {
     let b = byte(input[at]);
     if b <= 4 {
@@ -157,17 +159,60 @@ pub fn integer_at(input: &[u8], at: usize) -> u32
     ones_above(n) + little(&input[..], at + 1, n)
 }
 
-// The number that the one byte b is as an integer, where b is at most 127 and the number so at most 122; else 123. The byte
-// 251, another 0, is left to integer_at.
+// The least number that dump writes with n data bytes.
+fn least(n: usize) -> u32
+    requires { ⌜ (1 ≤ n) × (n ≤ 4) ⌝ }
+    ensures { λ r. ⌜ r ≡ least n ⌝ }
+{
+    match n {
+        1 => 123,
+        2 => 256,
+        3 => 65536,
+        _ => 16777216,
+    }
+}
+
+// Does dump write the integer so: its first byte is b, its 32 bits are w? b is tested as in integer_at. Of a negative number
+// dump counts the bytes of -1 minus the number, v.
+pub fn in_form(b: u8, w: u32) -> bool
+    ensures { λ r. ⌜ ((rest : List ℕ) → w ≡ word-of rest (form b) → data-of rest (form b) ≡ low-bytes (size-of (form b) - 1) w → r ≡ as-dumped rest b (form b)) ⌝ }
+{
+    if b <= 4 {
+        if b == 0 {
+            return true;
+        }
+        if 2147483648 <= w {
+            return false;
+        }
+        return least(b as usize) <= w;
+    }
+    if b == 5 {
+        return false;
+    }
+    if b <= 250 {
+        return true;
+    }
+    if b == 251 {
+        return false;
+    }
+    let v = 4294967295 - w;
+    if 2147483648 <= v {
+        return false;
+    }
+    least(256 - b as usize) <= v
+}
+
+// The number that the one byte b is as an integer in the form that dump writes, where b is at most 127 and the number so at
+// most 122; else 123. The bytes 5 and 251, other forms of 0, are left to integer_at.
 pub fn small(b: u8) -> usize
-    ensures { λ r. ⌜ (r < 123 → form b ≡ value r) ⌝ }
-    ensures { λ r. ⌜ ((n : ℕ) → b ≤ 127 → form b ≡ value n → r ≡ n) ⌝ }
+    ensures { λ r. ⌜ (r < 123 → (form b ≡ value r) × (integer-bytes r ≡ b ∷ [])) ⌝ }
+    ensures { λ r. ⌜ ((n : ℕ) → b ≤ 127 → form b ≡ value n → integer-bytes n ≡ b ∷ [] → r ≡ n) ⌝ }
     ensures { λ r. ⌜ (127 < b → r ≡ 123) × (r ≤ 123) ⌝ }
 {
     if b == 0 {
         return 0;
     }
-    if b < 5 {
+    if b < 6 {
         return 123;
     }
     if 127 < b {
@@ -186,10 +231,10 @@ fn invalid_version(major: u32, minor: u32) -> u64
     INVALID_VERSION + (major * 256 + minor) as u64
 }
 
-// The header at `at`; both bytes are read first.
+// The header at `at`; both bytes are read first. 0 is dump's own, 1 an older version.
 pub fn header_at(input: &[u8], at: usize) -> u64
     requires { ⌜ at ≤ length (now input) ⌝ }
-    ensures { λ r. ⌜ Reads (read-header (now (input .entry))) tt at r (at + 2) ⌝ }
+    ensures { λ r. ⌜ Reads (read-header (now (input .entry))) at r (at + 2) ⌝ }
     ensures { λ r. ⌜ (r < 4294967296 → at + 2 ≤ length (now (input .entry))) ⌝ }
 {
     if input.len() - at < 2 {
@@ -202,6 +247,9 @@ pub fn header_at(input: &[u8], at: usize) -> u64
     }
     if 8 < minor {
         return invalid_version(major, minor);
+    }
+    if minor < 8 {
+        return 1;
     }
     0
 }
@@ -226,17 +274,19 @@ fn short(at: usize) -> Taken
         answer: Answer::Refused(Refusal::ShortInput),
         value: 0,
         offset: at,
+        form: false,
     }
 }
 
-// A value, and the offset after it.
-fn took(value: u32, at: usize) -> Taken
-    ensures { λ r. ⌜ r ≡ taken-as value at ⌝ }
+// A value, the offset after it, and whether dump writes its bytes.
+fn took(value: u32, at: usize, form: bool) -> Taken
+    ensures { λ r. ⌜ r ≡ taken-as value at form ⌝ }
 {
     Taken {
         answer: Answer::Accepted,
         value: value,
         offset: at,
+        form: form,
     }
 }
 
@@ -245,7 +295,7 @@ pub fn byte_from(input: &[u8], at: usize) -> Taken
     ensures { λ r. ⌜ r ≡ next-byte (now (input .entry)) at ⌝ }
 {
     if at < input.len() {
-        return took(byte(input[at]), at + 1);
+        return took(byte(input[at]), at + 1, true);
     }
     short(at)
 }
@@ -263,9 +313,10 @@ pub fn header_from(input: &[u8], at: usize) -> Taken
             answer: Answer::Refused(refusal_of(w, 0)),
             value: 0,
             offset: at,
+            form: false,
         };
     }
-    took(0, at + 2)
+    took(0, at + 2, w == 0)
 }
 
 // An integer.
@@ -279,7 +330,8 @@ pub fn integer_from(input: &[u8], at: usize) -> Taken
     if input.len() - at < n {
         return short(at);
     }
-    took(integer_at(&input[..], at), at + n)
+    let w = integer_at(&input[..], at);
+    took(w, at + n, in_form(input[at], w))
 }
 
 // A refused byte string.
@@ -291,6 +343,7 @@ fn no_text(q: Refusal, at: usize) -> Text
         start: 0,
         length: 0,
         offset: at,
+        form: false,
     }
 }
 
@@ -319,6 +372,7 @@ pub fn byte_string_from(input: &[u8], at: usize) -> Text
         start: start,
         length: k,
         offset: start + k,
+        form: in_form(input[at], w),
     }
 }
 

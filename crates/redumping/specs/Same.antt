@@ -7,15 +7,15 @@ use mathlib.Core.List.{List}
 use lib.Dec.{ltb}
 use lib.ListN.{length, take}
 use Rattle.definition.specs.Run.{pick}
-use Rattle.definition.specs.Load.{Lists, load-call}
-use Rattle.definition.specs.Dump.{DumpCall, dump-call, dump-call-of}
+use Rattle.definition.specs.Load.{Lists, LoadCall, load-call}
+use Rattle.definition.specs.Dump.{DumpCall, dump-call}
 use Rattle.definition.specs.Graph.{SameGraph}
 use Rattle.definition.specs.declared.Answer.{Answer}
 use Rattle.definition.specs.declared.Answer.the-variants.{Accepted, Refused}
-use Rattle.definition.specs.declared.Refusal.the-variants.{NoSpace}
 use Rattle.lists.specs.Lists.{apart}
 use Rattle.round_trip.specs.Statement.{AreBytes, LoadAccepted, filled, tables, counts}
 use Rattle.round_trip.specs.Theorem.{round-trip}
+use Rattle.console.specs.Call.{too-long, input-call}
 use Rattle.redumping.specs.Redump.{redump-loaded, redump-after, redump-call}
 
 -- an accepted redump loaded its input and dumped what was loaded
@@ -24,17 +24,20 @@ record Done (input : List ℕ) (T : Lists) (scratch output : List ℕ) : Type 0 
   same : redump-call input T scratch output ≡ dump-call (tables input T 64) (counts input T 64) scratch output 64
 
 done : (input : List ℕ) (T : Lists) (scratch output : List ℕ) → redump-call input T scratch output .answer .answer ≡ Accepted → Done input T scratch output
-unfolding redump-call pick redump-loaded
+unfolding redump-call input-call pick redump-loaded
 done input T scratch output = long (ltb 16384 (length input)) refl
   where
     answered : (r : Answer) → load-call input T 64 .answer .answer ≡ r → (d : DumpCall) → d ≡ redump-loaded r (tables input T 64) (counts input T 64) scratch output → d .answer .answer ≡ Accepted → (load-call input T 64 .answer .answer ≡ Accepted) × (d ≡ dump-call (tables input T 64) (counts input T 64) scratch output 64)
     answered Accepted e d q a = (e, q)
     answered (Refused r) e d q a = let z : Refused r ≡ Accepted = sym (ap (λ (k : DumpCall). k .answer .answer) q) ∙ a in apart (cc)
 
-    long : (b : Bool) → ltb 16384 (length input) ≡ b → pick (ltb 16384 (length input)) (dump-call-of (Refused (NoSpace 8)) 0 scratch output) (redump-after (load-call input T 64) scratch output) .answer .answer ≡ Accepted → Done input T scratch output
-    long true e a = let z : Refused (NoSpace 8) ≡ Accepted = sym (ap (λ (b : Bool). pick b (dump-call-of (Refused (NoSpace 8)) 0 scratch output) (redump-after (load-call input T 64) scratch output) .answer .answer) e) ∙ a in apart (cc)
+    after : Bool → DumpCall
+    after b = redump-after (pick b (too-long T) (load-call input T 64)) scratch output
+
+    long : (b : Bool) → ltb 16384 (length input) ≡ b → after (ltb 16384 (length input)) .answer .answer ≡ Accepted → Done input T scratch output
+    long true e a = let z : after true .answer .answer ≡ Accepted = sym (ap (λ (b : Bool). after b .answer .answer) e) ∙ a in apart (cc)
     long false e a =
-        let p : redump-call input T scratch output ≡ redump-after (load-call input T 64) scratch output = ap (λ (b : Bool). pick b (dump-call-of (Refused (NoSpace 8)) 0 scratch output) (redump-after (load-call input T 64) scratch output)) e in
+        let p : redump-call input T scratch output ≡ redump-after (load-call input T 64) scratch output = ap after e in
         let r = answered (load-call input T 64 .answer .answer) refl (redump-call input T scratch output) p a in
         record { loaded = r .0; same = r .1 }
 

@@ -1,15 +1,14 @@
 // What the program redump writes: an input loaded, and its arena dumped.
 use console::LIMIT;
-use console::LONGEST;
+use console::load_input;
 use definition::Answer;
 use definition::Dumped;
-use definition::Refusal;
 use dump::dump;
-use load::load;
 ghost use mathlib.Core.Path.{_≡_};
 ghost use Rattle.definition.specs.Load.{lists};
 ghost use Rattle.definition.specs.Dump.{dump-call-of};
-ghost use Rattle.redumping.specs.Redump.{redump-call, redump-lent};
+ghost use Rattle.console.specs.Call.{input-call};
+ghost use Rattle.redumping.specs.Redump.{redump-call};
 
 // The input's dump, put into `output`; or the refusal of load, or of dump.
 pub fn redump(
@@ -23,23 +22,9 @@ pub fn redump(
     output: &mut [u8],
 ) -> Dumped
     ensures { λ r. ⌜ dump-call-of (r .answer) (r .written) (now (scratch .exit)) (now (output .exit)) ≡ redump-call (now (input .entry)) (lists (now (nodes .entry)) (now (references .entry)) (now (bytes .entry)) (now (symbols .entry)) (now (objects .entry))) (now (scratch .entry)) (now (output .entry)) ⌝ }
-    ensures { λ r. ⌜ lists (now (nodes .exit)) (now (references .exit)) (now (bytes .exit)) (now (symbols .exit)) (now (objects .exit)) ≡ redump-lent (now (input .entry)) (lists (now (nodes .entry)) (now (references .entry)) (now (bytes .entry)) (now (symbols .entry)) (now (objects .entry))) ⌝ }
+    ensures { λ r. ⌜ lists (now (nodes .exit)) (now (references .exit)) (now (bytes .exit)) (now (symbols .exit)) (now (objects .exit)) ≡ input-call (now (input .entry)) (lists (now (nodes .entry)) (now (references .entry)) (now (bytes .entry)) (now (symbols .entry)) (now (objects .entry))) .lent ⌝ }
 {
-    if LONGEST < input.len() {
-        return Dumped {
-            answer: Answer::Refused(Refusal::NoSpace(8)),
-            written: 0,
-        };
-    }
-    let r = load(
-        &input[..],
-        nodes,
-        references,
-        bytes,
-        symbols,
-        objects,
-        LIMIT,
-    );
+    let r = load_input(&input[..], nodes, references, bytes, symbols, objects);
     let answer = r.answer;
     let counts = r.counts;
     match answer {

@@ -1,6 +1,7 @@
--- Demand 3 of load and dump as a user calls them: a call is known by its contract alone, the answer and what is lent as it then stands.
+-- Demand 3 and dump form of load and dump as a user calls them: a call is known by its contract alone, the answer and what is lent as it then stands.
 use Prim.Native.Nat.{ℕ, _≤_}
 use mathlib.Core.Path.{_≡_, sym, ap, _∙_, subst}
+use mathlib.Core.Bool.{true}
 use mathlib.Core.Logic.{_↔_}
 use mathlib.Core.List.{List}
 use lib.ListN.{length, take}
@@ -14,6 +15,7 @@ use Rattle.definition.specs.declared.Loaded.{Loaded}
 use Rattle.definition.specs.declared.Dumped.{Dumped}
 use Rattle.round_trip.specs.Statement.{AreBytes, LoadAllowed, NoSmaller, DumpAllowed, Again, filled, tables, counts, written}
 use Rattle.round_trip.specs.Theorem.{round-trip}
+use Rattle.round_trip.specs.FormTheorem.{yes-exactly-when}
 
 -- ---- a call
 
@@ -71,6 +73,13 @@ RoundTripDone =
     → ((bytes-written p ≡ bytes-written q) ↔ SameGraph (arena-after x) (arena-after y))
     × ((T′ : Lists) (limit : ℕ) → LoadAllowed T′ limit → NoSmaller T T′ → limit-p ≤ limit → (z : LoadDone (bytes-written p) T′ limit) → AgainDone (arena-after x) (bytes-written p) z)
 
+-- x is an accepted load, d a dump of the arena that it left under its limit, with scratch and output that are allowed, the output of at least the bytes used
+abbrev pub YesExactlyWhenDone : Type 0
+YesExactlyWhenDone =
+    (X : List ℕ) (T : Lists) (limit : ℕ) → AreBytes X → (x : LoadDone X T limit) → x .answer .answer ≡ Accepted
+    → (scratch output : List ℕ) → DumpAllowed (tables-after x) scratch output limit → x .answer .used ≤ length output → (d : DumpDone (tables-after x) (x .answer .counts) scratch output limit)
+    → ((x .answer .form ≡ true) ↔ ((d .answer .answer ≡ Accepted) × (bytes-written d ≡ take (x .answer .used) X)))
+
 -- ---- the proof
 
 -- a dump of what a load left is the dump of what its definition leaves
@@ -106,4 +115,15 @@ round-trip-done X Y T U limit-x limit-y bx by x y ax ay scratch-p scratch-q outp
       ),
       λ T′ limit al up h z.
           again-done (arena-after x) (bytes-written p) z (subst (λ (A : Arena). Again A (bytes-written p) T′ limit) (sym (same-arena x)) (subst (λ (c : List ℕ). Again P c T′ limit) (sym (same-bytes x p)) (r .1 T′ limit al up h))),
+    )
+
+pub yes-exactly-when-done : YesExactlyWhenDone
+yes-exactly-when-done X T limit by x ax scratch output al en d =
+    let lx = sym (ap (λ (k : LoadCall). k .answer .answer) (x .ensures)) ∙ ax in
+    let used-same = ap (λ (k : LoadCall). k .answer .used) (x .ensures) in
+    let form-same = ap (λ (k : LoadCall). k .answer .form) (x .ensures) in
+    let accepted-same = ap (λ (k : DumpCall). k .answer .answer) (same-dump x d) in
+    let r = yes-exactly-when X T limit by lx .1 scratch output (subst (λ (t : Tables). DumpAllowed t scratch output limit) (same-tables x) al, subst (λ (n : ℕ). n ≤ length output) used-same en) in (
+      λ y. let (a, w) = r .0 (sym form-same ∙ y) in (accepted-same ∙ a, same-bytes x d ∙ w ∙ ap (λ (n : ℕ). take n X) (sym used-same)),
+      λ (a, w). form-same ∙ r .1 (sym accepted-same ∙ a, sym (same-bytes x d) ∙ w ∙ ap (λ (n : ℕ). take n X) used-same),
     )

@@ -6,4 +6,6 @@ pub mod Loaded
 pub mod Graphs
 pub mod Print
 pub mod Equal
+pub mod FormStatement
+pub mod FormTheorem
 pub mod Called

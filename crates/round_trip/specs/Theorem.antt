@@ -5,7 +5,7 @@ use mathlib.Core.Path.{sym as psym, _∙_}
 use mathlib.Core.Bool.{false}
 use mathlib.Core.Logic.{_↔_}
 use mathlib.Core.Option.{none}
-use mathlib.Core.List.{List, [], _∷_}
+use mathlib.Core.List.{List, [], _∷_, append-nil}
 use lib.ListN.{length, take}
 use native.Mathlib.Omega.{arith}
 use borrow.Author.Tests.{lt-leb}
@@ -38,7 +38,7 @@ use Rattle.round_trip.specs.Space.{room-for}
 
 -- ---- rooms
 
-record Smaller (room room′ : Room) : Type 0 where
+pub record Smaller (room room′ : Room) : Type 0 where
   nodes : room .nodes ≤ room′ .nodes
   references : room .references ≤ room′ .references
   bytes : room .bytes ≤ room′ .bytes
@@ -46,7 +46,7 @@ record Smaller (room room′ : Room) : Type 0 where
   objects : room .objects ≤ room′ .objects
 
 -- no slice is longer
-abbrev largest : Room
+abbrev pub largest : Room
 largest = record { nodes = 2147483647; references = 2147483647; bytes = 2147483647; symbols = 2147483647; objects = 2147483647 }
 
 room-up : (room room′ : Room) (g : F) → Smaller room room′ → RoomFor room g → RoomFor room′ g
@@ -61,7 +61,7 @@ room-up room room′ g l r = record {
 small : (room : Room) → Smaller room largest → Small room
 small room l = record { references = omega (arith, l .references); bytes = omega (arith, l .bytes); symbols = omega (arith, l .symbols); objects = omega (arith, l .objects) }
 
-room-largest : (input : List ℕ) (T : Lists) (limit : ℕ) → load-wrong input T limit ≡ 0 → Smaller (room-of T) largest
+pub room-largest : (input : List ℕ) (T : Lists) (limit : ℕ) → load-wrong input T limit ≡ 0 → Smaller (room-of T) largest
 unfolding room-of
 room-largest input T limit e =
     let a = load-allowed input T limit e in
@@ -73,7 +73,7 @@ room-largest input T limit e =
       objects = a .objects-most;
     }
 
-room-larger : (T U : Lists) → NoSmaller T U → Smaller (room-of T) (room-of U)
+pub room-larger : (T U : Lists) → NoSmaller T U → Smaller (room-of T) (room-of U)
 unfolding room-of
 room-larger T U l = record { nodes = omega (arith, l .nodes); references = l .references; bytes = l .bytes; symbols = l .symbols; objects = l .objects }
 
@@ -84,30 +84,30 @@ unfolding dump-wrong
 output-most T scratch output limit e =
     short (length output) (lowest-none 5 _ _ (tables-right _ _ _ _ e .1) .0)
 
-not-long : (n : ℕ) → n ≤ 2147483647 → too-long n ≡ false
+pub not-long : (n : ℕ) → n ≤ 2147483647 → too-long n ≡ false
 unfolding too-long
 not-long n h = lt-leb 2147483648 n (omega arith)
 
 -- an input that isn't too long is allowed wherever the empty one is
-input-allowed : (input : List ℕ) (T : Lists) (limit : ℕ) → length input ≤ 2147483647 → LoadAllowed T limit → load-wrong input T limit ≡ 0
+pub input-allowed : (input : List ℕ) (T : Lists) (limit : ℕ) → length input ≤ 2147483647 → LoadAllowed T limit → load-wrong input T limit ≡ 0
 unfolding load-wrong
 input-allowed input T limit h e = rw (not-long (length input) h) (rw (not-long 0 (omega arith)) at e)
 
 -- ---- a load and a dump of the arena filled, both accepted
 
 -- the arena P was loaded in this room; dumping it within this limit wrote C
-record Trip (P : Arena) (room : Room) (C : List ℕ) (limit : ℕ) : Type 0 where
-  forest : F
-  text : List ℕ
+pub record Trip (P : Arena) (room : Room) (C : List ℕ) (limit : ℕ) : Type 0 where
+  pub forest : F
+  pub text : List ℕ
   numbers : Num
-  is : C ≡ 0x04 ∷ 0x08 ∷ text
+  pub is : C ≡ 0x04 ∷ 0x08 ∷ text
   writes : Text values limit forest text
   says : E (seen P) forest (P .root ∷ []) fresh numbers
   right : Right P
   names : Names (seen P)
   fits : RoomFor room forest
   in-largest : Smaller room largest
-  length-most : length C ≤ 2147483647
+  pub length-most : length C ≤ 2147483647
 
 trip-of : (X : List ℕ) (room : Room) (limit h : ℕ) (s : State) → AreBytes X → 1 ≤ room .nodes → Smaller room largest → load X room limit ≡ ok h s → Right (arena-of s h)
     → (size : ℕ) → size ≤ 2147483647 → (dump-limit : ℕ) (w : Written) → dump size (arena-of s h) dump-limit ≡ ok tt w → Trip (arena-of s h) room (w .bytes) dump-limit
@@ -127,7 +127,7 @@ trip-of X room limit h s by one sm e ρ size m dump-limit w f =
       length-most = omega (arith, d .fits);
     }
 
-trip : (X : List ℕ) (T : Lists) (limit : ℕ) → AreBytes X → LoadAccepted X T limit
+pub trip : (X : List ℕ) (T : Lists) (limit : ℕ) → AreBytes X → LoadAccepted X T limit
     → (scratch output : List ℕ) (dump-limit : ℕ) → DumpAccepted (tables X T limit) (counts X T limit) scratch output dump-limit
     → Trip (filled X T limit) (room-of T) (written (tables X T limit) (counts X T limit) scratch output dump-limit) dump-limit
 trip X T limit by l scratch output dump-limit k =
@@ -145,23 +145,23 @@ trip X T limit by l scratch output dump-limit k =
 
 -- ---- the first part
 
-same-load : (o : Outcome State ℕ) (h h′ : ℕ) (s s′ : State) → o ≡ ok h s → o ≡ ok h′ s′ → (h ≡ h′) × (s ≡ s′)
+pub same-load : (o : Outcome State ℕ) (h h′ : ℕ) (s s′ : State) → o ≡ ok h s → o ≡ ok h′ s′ → (h ≡ h′) × (s ≡ s′)
 same-load o h h′ s s′ e e′ = (cc, cc)
 
 pub same-text : (x y : List ℕ) → _≡_ {A = List ℕ} (0x04 ∷ 0x08 ∷ x) (0x04 ∷ 0x08 ∷ y) → x ≡ y
 same-text x y e = cc
 
--- what was written is loaded in any room that is large enough
-back : (P : Arena) (room : Room) (C : List ℕ) (l : ℕ) (t : Trip P room C l) (room′ : Room) (limit : ℕ) → Smaller room room′ → Smaller room′ largest → l ≤ limit
-    → Back room′ limit (t .forest) (t .text)
-back P room C l t room′ limit up sm h =
-    load-back (seen P) (t .names) limit (P .root) (t .forest) (t .text) (t .numbers) room′ (small room′ sm) (room-up room room′ (t .forest) up (t .fits)) (text-up limit h (t .writes)) (t .says)
+-- what was written is loaded in any room that is large enough, whatever follows it
+pub back : (P : Arena) (room : Room) (C : List ℕ) (l : ℕ) (t : Trip P room C l) (y : List ℕ) (room′ : Room) (limit : ℕ) → Smaller room room′ → Smaller room′ largest → l ≤ limit
+    → Back room′ limit (t .forest) (t .text) y
+back P room C l t y room′ limit up sm h =
+    load-back (seen P) (t .names) limit (P .root) (t .forest) (t .text) y (t .numbers) room′ (small room′ sm) (room-up room room′ (t .forest) up (t .fits)) (text-up limit h (t .writes)) (t .says)
 
 as-arena : (s s′ : State) (h h′ : ℕ) → h ≡ h′ → s ≡ s′ → arena-of s h ≡ arena-of s′ h′
 as-arena s s′ h h′ p q = rw (p, q)
 
 -- one load fills one arena: both graphs are its
-loaded-same : (P Q : Arena) (room : Room) (limit : ℕ) (g g′ : F) (x : List ℕ) → Says (graph-of P) g → Says (graph-of Q) g′ → Back room limit g x → Back room limit g′ x → SameGraph P Q
+loaded-same : (P Q : Arena) (room : Room) (limit : ℕ) (g g′ : F) (x : List ℕ) → Says (graph-of P) g → Says (graph-of Q) g′ → Back room limit g x [] → Back room limit g′ x [] → SameGraph P Q
 loaded-same P Q room limit g g′ x d d′ b b′ =
     let A = arena-of (b .state) (b .root) in
     let A′ = arena-of (b′ .state) (b′ .root) in
@@ -170,7 +170,7 @@ loaded-same P Q room limit g g′ x d d′ b b′ =
     let r : SameGraph Q A = subst (SameGraph Q) (psym e) (one-graph Q A′ g′ d′ (b′ .num, b′ .says)) in
     same-trans P A Q (one-graph P A g d (b .num, b .says)) (same-sym Q A r)
 
-up-refl : (room : Room) → Smaller room room
+pub up-refl : (room : Room) → Smaller room room
 up-refl room = record { nodes = omega arith; references = omega arith; bytes = omega arith; symbols = omega arith; objects = omega arith }
 
 same-bytes : (P Q : Arena) (room room′ : Room) (C D : List ℕ) (l l′ : ℕ) → Trip P room C l → Trip Q room′ D l′ → ((C ≡ D) ↔ SameGraph P Q)
@@ -179,10 +179,10 @@ same-bytes P Q room room′ C D l l′ t t′ = (to-graph, to-bytes)
     to-graph : C ≡ D → SameGraph P Q
     to-graph e =
         let z : t′ .text ≡ t .text = same-text (t′ .text) (t .text) (psym (t′ .is) ∙ psym e ∙ t .is) in
-        let b = back P room C l t largest (l + l′) (t .in-largest) (up-refl largest) (omega arith) in
-        let b′ = back Q room′ D l′ t′ largest (l + l′) (t′ .in-largest) (up-refl largest) (omega arith) in
+        let b = back P room C l t [] largest (l + l′) (t .in-largest) (up-refl largest) (omega arith) in
+        let b′ = back Q room′ D l′ t′ [] largest (l + l′) (t′ .in-largest) (up-refl largest) (omega arith) in
         loaded-same P Q largest (l + l′) (t .forest) (t′ .forest) (t .text) (t .numbers, t .says) (t′ .numbers, t′ .says) b
-        (subst (Back largest (l + l′) (t′ .forest)) z b′)
+        (subst (λ (x : List ℕ). Back largest (l + l′) (t′ .forest) x []) z b′)
 
     to-bytes : SameGraph P Q → C ≡ D
     to-bytes s =
@@ -193,13 +193,13 @@ same-bytes P Q room room′ C D l l′ t t′ = (to-graph, to-bytes)
 -- ---- the second part
 
 -- an allowed load that is accepted: the call's answer and the arena filled
-record Filled (input : List ℕ) (T : Lists) (limit h : ℕ) (s : State) : Type 0 where
-  accepted : LoadAccepted input T limit
-  uses : used input T limit ≡ s .at
-  arena-is : filled input T limit ≡ arena-of s h
-  no-fault : fault (tables input T limit) (counts input T limit) ≡ none
+pub record Filled (input : List ℕ) (T : Lists) (limit h : ℕ) (s : State) : Type 0 where
+  pub accepted : LoadAccepted input T limit
+  pub uses : used input T limit ≡ s .at
+  pub arena-is : filled input T limit ≡ arena-of s h
+  pub no-fault : fault (tables input T limit) (counts input T limit) ≡ none
 
-fills : (input : List ℕ) (T : Lists) (limit h : ℕ) (s : State) → load-wrong input T limit ≡ 0 → load input (room-of T) limit ≡ ok h s → Filled input T limit h s
+pub fills : (input : List ℕ) (T : Lists) (limit h : ℕ) (s : State) → load-wrong input T limit ≡ 0 → load input (room-of T) limit ≡ ok h s → Filled input T limit h s
 fills input T limit h s w e =
     let a = accepted-load input T limit h s w e in
     let (p, q) = same-load _ (a .root) h (a .state) s (a .loads) e in
@@ -211,7 +211,7 @@ fills input T limit h s w e =
     }
 
 -- an arena without fault that a forest describes is dumped
-dumps-text : (T : Tables) (c : Counts) (limit : ℕ) (g : F) (x : List ℕ) → fault T c ≡ none → Text values limit g x → Says (graph-of (arena T c)) g
+pub dumps-text : (T : Tables) (c : Counts) (limit : ℕ) (g : F) (x : List ℕ) → fault T c ≡ none → Text values limit g x → Says (graph-of (arena T c)) g
     → (scratch output : List ℕ) → DumpAllowed T scratch output limit → length x + 2 ≤ length output
     → DumpAccepted T c scratch output limit × (written T c scratch output limit ≡ 0x04 ∷ 0x08 ∷ x)
 dumps-text T c limit g x nf t (σ, d) scratch output al h =
@@ -220,10 +220,10 @@ dumps-text T c limit g x nf t (σ, d) scratch output al h =
     (ap (λ (q : DumpCall). q .answer .answer) e, ap (λ (q : DumpCall). take (q .answer .written) (q .output)) e ∙ take-padded output C)
 
 again-of : (P : Arena) (T : Lists) (limit : ℕ) (g : F) (x : List ℕ) → Says (graph-of P) g → Text values limit g x → load-wrong (0x04 ∷ 0x08 ∷ x) T limit ≡ 0
-    → Back (room-of T) limit g x → Again P (0x04 ∷ 0x08 ∷ x) T limit
+    → Back (room-of T) limit g x [] → Again P (0x04 ∷ 0x08 ∷ x) T limit
 again-of P T limit g x d t w b =
     let C : List ℕ = 0x04 ∷ 0x08 ∷ x in
-    let f = fills C T limit (b .root) (b .state) w (b .runs) in
+    let f = fills C T limit (b .root) (b .state) w (subst (λ (z : List ℕ). load (0x04 ∷ 0x08 ∷ z) (room-of T) limit ≡ ok (b .root) (b .state)) (append-nil x) (b .runs)) in
     let d′ : Says (graph-of (filled C T limit)) g = subst (λ (A : Arena). Says (graph-of A) g) (psym (f .arena-is)) (b .num, b .says) in
     record {
       accepted = f .accepted;
@@ -235,7 +235,7 @@ again-of P T limit g x d t w b =
 again : (P : Arena) (T T′ : Lists) (C : List ℕ) (l limit : ℕ) → Trip P (room-of T) C l → LoadAllowed T′ limit → NoSmaller T T′ → l ≤ limit → Again P C T′ limit
 again P T T′ C l limit t al up h =
     let w : load-wrong C T′ limit ≡ 0 = input-allowed C T′ limit (t .length-most) al in
-    let b = back P (room-of T) C l t (room-of T′) limit (room-larger T T′ up) (room-largest C T′ limit w) h in
+    let b = back P (room-of T) C l t [] (room-of T′) limit (room-larger T T′ up) (room-largest C T′ limit w) h in
     subst (λ (c : List ℕ). Again P c T′ limit) (psym (t .is))
     (again-of P T′ limit (t .forest) (t .text) (t .numbers, t .says) (text-up limit h (t .writes)) (subst (λ (c : List ℕ). load-wrong c T′ limit ≡ 0) (t .is) w) b)
 

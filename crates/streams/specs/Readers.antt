@@ -4,10 +4,11 @@ use mathlib.Core.Path.{_≡_, refl}
 use mathlib.Core.Bool.{Bool, true, false}
 use mathlib.Core.Option.{Option, none, some}
 use mathlib.Core.List.{List, _++_}
-use lib.ListN.{length, List·getD-append, length-append}
+use lib.Dec.{ltb}
+use lib.ListN.{length, getD, List·getD-append, length-append}
 use native.Mathlib.Nat.{le-refl}
 use native.Mathlib.Omega.{arith}
-use borrow.Author.Tests.{ltb-true, ltb-false, lt-ltb, leb-true, leb-false, le-leb}
+use borrow.Author.Tests.{ltb-true, ltb-false, lt-ltb, le-ltb, leb-true, leb-false, le-leb}
 use Rattle.definition.specs.declared.Refusal.{Refusal}
 use Rattle.definition.specs.declared.Refusal.the-variants.{ShortInput}
 use Rattle.definition.specs.Run.{Outcome, ok, refused, pure, refuse, next, _>>=_, look, pick}
@@ -15,7 +16,7 @@ use Rattle.definition.specs.Integer.{Form, value, data-bytes, form}
 use Rattle.definition.specs.Node.{Row, nil, bool, fixnum, symbol, array, hash, object, string, user, float}
 use Rattle.definition.specs.Arena.{range, find-symbol}
 use Rattle.definition.specs.Load as L
-use Rattle.definition.specs.Load.{State, Room, Reader, Head, at-set, begin}
+use Rattle.definition.specs.Load.{State, Room, Reader, Head, at-set, noted, takes-variables, begin}
 use Rattle.lists.specs.Ranges.{range-none, range-more}
 
 -- ---- the relation
@@ -103,6 +104,17 @@ module _ {n : ℕ} {A : Type 0} where
   either true x y = x
   either false x y = y
 
+-- ---- the notes
+
+module _ {n : ℕ} where
+  note : (b : Bool) → Blind n (L.note b)
+  unfolding L.note
+  note b = record { alike = λ s. same _ _ (le-refl (s .at)) }
+
+  tell : (bs : List ℕ) (w : ℕ) → Blind n (L.tell bs w)
+  unfolding L.tell
+  tell bs w = record { alike = λ s. same _ _ (le-refl (s .at)) }
+
 -- ---- the tables and lists
 
 module _ {n : ℕ} (room : Room) where
@@ -132,7 +144,7 @@ module _ {n : ℕ} (room : Room) where
 
   intern-as : (name : List ℕ) (o : Option ℕ) → Blind n (L.intern-as room name o)
   unfolding L.intern-as
-  intern-as name (some h) = give h
+  intern-as name (some h) = then (note false) λ _. give h
   intern-as name none = then (add-bytes name) λ start. add-node (symbol start (length name))
 
   intern : (name : List ℕ) → Blind n (L.intern room name)
@@ -171,6 +183,10 @@ range-on : (l m : List ℕ) (a k : ℕ) → k ≤ length l - a → range (l ++ m
 range-on l m a zero h = rw (range-none (l ++ m) a, range-none l a)
 range-on l m a (suc k) h = range-more l m a (suc k) (omega arith)
 
+-- before an I's value its kind byte is noted
+abbrev ahead-noted : List ℕ → State → State
+ahead-noted input s = noted (takes-variables (getD input (s .at) 0)) s
+
 module _ (input more : List ℕ) where
   abbrev n : ℕ
   n = length input
@@ -200,16 +216,16 @@ module _ (input more : List ℕ) where
 
   read-header : Reads L.read-header
   unfolding L.read-header
-  read-header = then read-byte λ major. then read-byte λ minor. either _ (give tt) (stop _)
+  read-header = then read-byte λ major. then read-byte λ minor. either _ (note _) (stop _)
 
-  read-form : (f : Form) → Reads (λ i. L.read-form i f)
+  read-form : (b : ℕ) (f : Form) → Reads (λ i. L.read-form i b f)
   unfolding L.read-form
-  read-form (value w) = give w
-  read-form (data-bytes k above) = then (read-bytes k) λ bs. give _
+  read-form b (value w) = tell _ w
+  read-form b (data-bytes k above) = then (read-bytes k) λ bs. tell _ _
 
   read-integer : Reads L.read-integer
   unfolding L.read-integer
-  read-integer = then read-byte λ b. read-form (form b)
+  read-integer = then read-byte λ b. read-form b (form b)
 
   read-count : Reads L.read-count
   unfolding L.read-count
@@ -252,8 +268,8 @@ module _ (input more : List ℕ) where
     unfolding L.counted
     counted each x = then read-count λ k. then (reserve room (k * each)) λ start. x start k
 
-    -- ---- values; v and w read a value one level deeper
-    module _ {v w : Reader ℕ} (inner : GoesOn n v w) where
+    -- ---- values; v and w read a value one level deeper, and where the n bytes end v answers alike from every state
+    module _ {v w : Reader ℕ} (inner : GoesOn n v w) (at-end : (s t : State) → n ≤ s .at → n ≤ t .at → v s ≡ v t) where
       read-elements : (k i : ℕ) → GoesOn n (L.read-elements v k i) (L.read-elements w k i)
       unfolding L.read-elements
       read-elements zero i = give tt
@@ -285,9 +301,19 @@ module _ (input more : List ℕ) where
       unfolding L.read-object
       read-object = then (add-object-node room nil) λ h. then read-symbol-like λ c. read-instance-variables λ start k. fill h _
 
+      -- the byte noted is one of the n, or v has none left
+      noted-inner : (s : State) → Alike n (s .at) (v (ahead-noted input s)) (w (ahead-noted all s))
+      noted-inner s = go (ltb (s .at) n) refl
+        where
+          go : (b : Bool) → ltb (s .at) n ≡ b → Alike n (s .at) (v (ahead-noted input s)) (w (ahead-noted all s))
+          go true e = rw (List·getD-append input more 0 (s .at) (ltb-true (s .at) n e)) (inner .alike (ahead-noted input s))
+          go false e = let h = ltb-false (s .at) n e in rw (at-end (ahead-noted input s) (ahead-noted all s) h h) (inner .alike (ahead-noted all s))
+
       read-variables : GoesOn n (L.read-variables input room v) (L.read-variables all room w)
-      unfolding L.read-variables
-      read-variables = then inner λ h. read-instance-variables λ start k. looking λ s. set-variables h start k _
+      unfolding L.read-variables L.note look _>>=_ next
+      read-variables = record {
+        alike = λ s. alike-next n _ _ (λ h t. read-instance-variables (λ start k. looking λ u. set-variables h start k _) .alike t) (s .at) (noted-inner s);
+      }
 
       value-of : (k : ℕ) (h : Head) → GoesOn n (L.value-of input room v k h) (L.value-of all room w k h)
       unfolding L.value-of L.read-string L.read-float
@@ -308,10 +334,16 @@ module _ (input more : List ℕ) where
       value-of k Head.Float = read-text _
       value-of k Head.Unknown = stop _
 
+    -- SHORT-INPUT, or TOO-DEEP with no level left
+    value-at-end : (limit levels : ℕ) (s t : State) → n ≤ s .at → n ≤ t .at → L.read-value input room limit levels s ≡ L.read-value input room limit levels t
+    unfolding L.read-value L.read-byte refuse _>>=_ pick
+    value-at-end limit zero s t h k = refl
+    value-at-end limit (suc levels) s t h k = rw (le-ltb (s .at) n h, le-ltb (t .at) n k)
+
     read-value : (limit levels : ℕ) → GoesOn n (L.read-value input room limit levels) (L.read-value all room limit levels)
     unfolding L.read-value
     read-value limit zero = stop _
-    read-value limit (suc levels) = then read-byte λ k. value-of (read-value limit levels) k (L.head k)
+    read-value limit (suc levels) = then read-byte λ k. value-of (read-value limit levels) (value-at-end limit levels) k (L.head k)
 
     -- the header and the root value
     pub load : (limit : ℕ) → Alike n 0 (L.load input room limit) (L.load all room limit)

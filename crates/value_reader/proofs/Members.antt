@@ -10,11 +10,11 @@ use lib.ListN.{length, set}
 use borrow.Author.Tests.{eq-eqb, ne-eqb, ltb-true, ltb-false}
 use mir.Syntax.{w32}
 use mir.Val.{Fits}
-use Rattle.definition.specs.Run.{Outcome, pure, pick, next, _>>=_}
+use Rattle.definition.specs.Run.{Outcome, pure, pick, look, next, _>>=_}
 use Rattle.definition.specs.Kind.{HASH, HASH-DEFAULT, STRING}
 use Rattle.definition.specs.Node.{nil, array, hash, object}
-use Rattle.definition.specs.Load.{Room, State, Reader, Lists, lists, Hash, HashDefault, head, value-of, read-hash, read-elements, read-pairs, read-default, read-value, read-symbol-like, put-reference, fill, counted, add-object-node}
-use Rattle.loader.specs.Holds.{Held, Goes, Leads, Meets, Free, Leaf, slot, slots, more-of, members, settle, nodes-of, references-of}
+use Rattle.definition.specs.Load.{Room, State, Reader, Lists, lists, Hash, HashDefault, note, head, value-of, read-hash, read-variables, read-instance-variables, read-elements, read-pairs, read-default, read-value, read-symbol-like, put-reference, fill, counted, add-object-node}
+use Rattle.loader.specs.Holds.{Held, Goes, Leads, Meets, Free, Leaf, slot, slots, more-of, members, settle, after-i, nodes-of, references-of}
 use Rattle.loader.proofs.Laws.{then, still, held, held-goes, goes-to, grew-there, still-below, lead-first, lead-after, lead-stop, lead-as, gives, bind-assoc}
 use Rattle.loader.proofs.Readers.{headed}
 use Rattle.loader.proofs.Run.{slot-put, slot-value}
@@ -127,6 +127,11 @@ one-each end n = omega arith
 
 pub list-parity : (end n : ℕ) → n * 2 ≤ end → (end - n * 2) % 2 ≡ end % 2
 list-parity end n l = omega arith
+
+-- what comes after `I`: the value, noted, and then its variables
+pub variables-after : (input : List ℕ) (room : Room) (inner : Reader ℕ) → read-variables input room inner ≡ (after-i input inner >>= λ h. read-instance-variables input room inner (settle h))
+unfolding read-variables look note _>>=_ next
+variables-after input room inner = refl
 
 -- no words, and one value
 pub after-members : (name inner : Reader ℕ) (names to : ℕ) → members name inner names 1 (0 - 0) to ≡ inner

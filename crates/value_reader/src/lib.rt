@@ -7,6 +7,7 @@ use definition::ValueKind;
 use loader::AT;
 use loader::REFERENCES;
 use loader::fill_node;
+use loader::note_inner;
 use loader::open_node;
 use loader::read_header;
 use loader::read_leaf;
@@ -22,7 +23,7 @@ ghost use Prim.Native.Nat.{ℕ, _-_, _<_, _≤_};
 ghost use lib.Dec.{eqb};
 ghost use Rattle.definition.specs.Kind.{HASH-DEFAULT};
 ghost use Rattle.definition.specs.Load.{Room, lists, read-array, read-hash, read-object, read-variables, read-value, read-symbol-like};
-ghost use Rattle.loader.specs.Holds.{Held, Meets, members, nodes-of, references-of};
+ghost use Rattle.loader.specs.Holds.{Held, Meets, after-i, members, nodes-of, references-of};
 ghost use Rattle.value_reader.specs.Root.{whole};
 
 // The parity of names in a list without names.
@@ -39,7 +40,7 @@ fn read_members(
     bytes: &mut [u8],
     symbols: &mut [u32],
     objects: &mut [u32],
-    c: &mut [usize; 6],
+    c: &mut [usize; 7],
     start: usize,
     end: usize,
     more: usize,
@@ -105,7 +106,7 @@ fn read_array(
     bytes: &mut [u8],
     symbols: &mut [u32],
     objects: &mut [u32],
-    c: &mut [usize; 6],
+    c: &mut [usize; 7],
     levels: u32,
 ) -> u64
     requires { ⌜ Held (now input) (lists (now nodes) (now references) (now bytes) (now symbols) (now objects)) (now c) ⌝ }
@@ -157,7 +158,7 @@ fn read_hash(
     bytes: &mut [u8],
     symbols: &mut [u32],
     objects: &mut [u32],
-    c: &mut [usize; 6],
+    c: &mut [usize; 7],
     more: usize,
     levels: u32,
 ) -> u64
@@ -210,7 +211,7 @@ fn read_object(
     bytes: &mut [u8],
     symbols: &mut [u32],
     objects: &mut [u32],
-    c: &mut [usize; 6],
+    c: &mut [usize; 7],
     levels: u32,
 ) -> u64
     requires { ⌜ Held (now input) (lists (now nodes) (now references) (now bytes) (now symbols) (now objects)) (now c) ⌝ }
@@ -259,7 +260,8 @@ fn read_object(
     )
 }
 
-// The value after `I`; a string, which is the most frequent, with no call of the reader of members.
+// The value after `I`, which is noted where dump writes no `I` before it; a string, which is the most frequent, with no call
+// of the reader of members.
 fn read_inner(
     input: &[u8],
     nodes: &mut [u32],
@@ -267,11 +269,11 @@ fn read_inner(
     bytes: &mut [u8],
     symbols: &mut [u32],
     objects: &mut [u32],
-    c: &mut [usize; 6],
+    c: &mut [usize; 7],
     levels: u32,
 ) -> u64
     requires { ⌜ Held (now input) (lists (now nodes) (now references) (now bytes) (now symbols) (now objects)) (now c) ⌝ }
-    ensures { λ r. ⌜ ((room : Room) (limit : ℕ) → Meets (now (input .entry)) room limit (read-value (now (input .entry)) room limit levels) (lists (now (nodes .entry)) (now (references .entry)) (now (bytes .entry)) (now (symbols .entry)) (now (objects .entry))) (now (c .entry)) r (lists (now (nodes .exit)) (now (references .exit)) (now (bytes .exit)) (now (symbols .exit)) (now (objects .exit))) (now (c .exit))) ⌝ }
+    ensures { λ r. ⌜ ((room : Room) (limit : ℕ) → Meets (now (input .entry)) room limit (after-i (now (input .entry)) (read-value (now (input .entry)) room limit levels)) (lists (now (nodes .entry)) (now (references .entry)) (now (bytes .entry)) (now (symbols .entry)) (now (objects .entry))) (now (c .entry)) r (lists (now (nodes .exit)) (now (references .exit)) (now (bytes .exit)) (now (symbols .exit)) (now (objects .exit))) (now (c .exit))) ⌝ }
     ensures { λ r. ⌜ (r < 4294967296 → r < nodes-of (now (c .exit))) ⌝ }
 {
     let at = c[AT];
@@ -291,6 +293,7 @@ fn read_inner(
             }
         }
     }
+    note_inner(&input[..], c);
     read_members(
         &input[..],
         nodes,
@@ -315,7 +318,7 @@ fn read_variables(
     bytes: &mut [u8],
     symbols: &mut [u32],
     objects: &mut [u32],
-    c: &mut [usize; 6],
+    c: &mut [usize; 7],
     levels: u32,
 ) -> u64
     requires { ⌜ Held (now input) (lists (now nodes) (now references) (now bytes) (now symbols) (now objects)) (now c) ⌝ }
@@ -369,7 +372,7 @@ fn read_value(
     bytes: &mut [u8],
     symbols: &mut [u32],
     objects: &mut [u32],
-    c: &mut [usize; 6],
+    c: &mut [usize; 7],
     levels: u32,
 ) -> u64
     requires { ⌜ Held (now input) (lists (now nodes) (now references) (now bytes) (now symbols) (now objects)) (now c) ⌝ }
@@ -439,7 +442,7 @@ pub fn read_root(
     bytes: &mut [u8],
     symbols: &mut [u32],
     objects: &mut [u32],
-    c: &mut [usize; 6],
+    c: &mut [usize; 7],
     limit: u32,
 ) -> u64
     requires { ⌜ Held (now input) (lists (now nodes) (now references) (now bytes) (now symbols) (now objects)) (now c) ⌝ }

@@ -1,4 +1,4 @@
--- The bytes of an integer: data bytes, and how many they are.
+-- The bytes of an integer: storing its data bytes, and how many bytes it takes.
 use Prim.Native.Nat.{ℕ, zero, suc, _+_, _-_, _/_, _%_, _≤_, _<_}
 use native.Mathlib.Omega.{arith}
 use native.Mathlib.Numerals.{add-one}
@@ -6,14 +6,13 @@ use native.Mathlib.Nat.{add-zero, sub-zero}
 use mathlib.Core.Bool.{Bool, true, false}
 use mathlib.Core.Path.{_≡_, refl, sym, ap, _∙_}
 use mathlib.Core.List.{List, [], _∷_}
-use lib.Count.{leading-top}
 use lib.Dec.{leb, ltb}
 use lib.ListN.{length, set}
 use lib.Seq.{sets}
-use borrow.Author.Tests.{lt-ltb, le-ltb, le-leb, lt-leb, eq-eqb, ne-eqb, leb-true, leb-false, ltb-true, ltb-false}
-use Rattle.definition.specs.Run.{pick}
+use borrow.Author.Tests.{leb-true, leb-false, ltb-true, ltb-false}
 use Rattle.definition.specs.Integer.{integer-bytes, low-bytes, fewest}
 use Rattle.lists.specs.Words.{length-low}
+pub use Rattle.lists.specs.Integers.{fewest-most, fewest-some, bytes-zero, bytes-small, bytes-last, large-as, negative-as}
 
 -- ---- storing the low bytes
 
@@ -32,48 +31,6 @@ unfolding low-bytes
 low-end out at n i w h =
     let a : n - i ≡ 0 = omega arith in
     rw a refl
-
--- ---- how many data bytes
-
-pub fewest-most : (v : ℕ) → fewest v ≤ 4
-unfolding fewest
-fewest-most v = omega arith
-
-pub fewest-some : (v : ℕ) → 0 < v → v < 4294967296 → 1 ≤ fewest v
-unfolding fewest
-fewest-some v h l =
-    let (j, e, lo, hi) = leading-top 32 v h l in
-    omega (arith, e)
-
--- ---- the five forms
-
-module _ (w : ℕ) where
-  pub bytes-zero : w ≡ 0 → integer-bytes w ≡ 0 ∷ []
-  unfolding integer-bytes pick
-  bytes-zero e = rw (eq-eqb w 0 e) refl
-
-  pub bytes-small : (w ≡ 0 → ⊥) → w ≤ 122 → integer-bytes w ≡ (w + 5) ∷ []
-  unfolding integer-bytes pick
-  bytes-small n h = rw (ne-eqb w 0 n, le-leb w 122 h) refl
-
-  bytes-large : 122 < w → w < 2147483648 → integer-bytes w ≡ fewest w ∷ low-bytes (fewest w) w
-  unfolding integer-bytes pick
-  bytes-large h l = rw (ne-eqb w 0 (omega arith), lt-leb w 122 h, lt-ltb w 2147483648 l) refl
-
-  bytes-negative : 2147483648 ≤ w → w < 4294967173 → integer-bytes w ≡ (256 - fewest (4294967295 - w)) ∷ low-bytes (fewest (4294967295 - w)) w
-  unfolding integer-bytes pick
-  bytes-negative h l = rw (ne-eqb w 0 (omega arith), lt-leb w 122 (omega arith), le-ltb w 2147483648 h, lt-ltb w 4294967173 l) refl
-
-  pub bytes-last : 4294967173 ≤ w → integer-bytes w ≡ ((w - 5) % 256) ∷ []
-  unfolding integer-bytes pick
-  bytes-last h = rw (ne-eqb w 0 (omega arith), lt-leb w 122 (omega arith), le-ltb w 2147483648 (omega arith), le-ltb w 4294967173 h) refl
-
--- the same with a size byte and a number of bytes that were found
-pub large-as : (w k n : ℕ) → 122 < w → w < 2147483648 → k ≡ fewest w → n ≡ k → integer-bytes w ≡ k ∷ low-bytes n w
-large-as w k n h l e f = bytes-large w h l ∙ λ i. sym e i ∷ low-bytes (sym (f ∙ e) i) w
-
-pub negative-as : (w k n : ℕ) → 2147483648 ≤ w → w < 4294967173 → k ≡ fewest (4294967295 - w) → n ≡ k → integer-bytes w ≡ (256 - k) ∷ low-bytes n w
-negative-as w k n h l e f = bytes-negative w h l ∙ λ i. (256 - sym e i) ∷ low-bytes (sym (f ∙ e) i) w
 
 -- ---- how many bytes
 

@@ -38,6 +38,7 @@ pub struct Tables {
     /// nodes, references, bytes and root
     pub counts: [usize; 4],
     pub used: usize,
+    pub dump_form: bool,
     pub written: usize,
 }
 
@@ -53,6 +54,7 @@ impl Tables {
             output: vec![0; output],
             counts: [0; 4],
             used: 0,
+            dump_form: false,
             written: 0,
         }
     }
@@ -68,6 +70,7 @@ impl Tables {
         let Counts { nodes, references, bytes, root } = loaded.counts;
         self.counts = [nodes, references, bytes, root as usize];
         self.used = loaded.used;
+        self.dump_form = loaded.dump_form;
         loaded.answer.into()
     }
 

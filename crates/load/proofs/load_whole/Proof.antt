@@ -165,6 +165,9 @@ cast-t68 c = search needs
 array-read-t12 : tie.Need-array-read-t12
 array-read-t12 c = search needs
 
+array-read-t15 : tie.Need-array-read-t15
+array-read-t15 c = search needs
+
 same-length-6 : tie.Need-same-length-6
 same-length-6 c =
     let c10 = c .before .before .before .before .before .before .before .before .before .before in
@@ -243,6 +246,7 @@ load-whole-spec =
     array-read-t14
     cast-t68
     array-read-t12
+    array-read-t15
     same-length-6
     same-length-7
     same-length-8

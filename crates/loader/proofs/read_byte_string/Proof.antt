@@ -55,11 +55,11 @@ returns-3 c =
     let c-read-count = c3 .read-count in
     let c6 = c3 .before .before .before in
     let H = held {m = λ room. read-count _} {m' = λ room. _} (c6 .pre .held) (c-if1 .left) (λ room. c-read-count .ensures .0 room 0 _) in
-    let six = R.six H in
+    let seven = R.seven H in
     let inside = R.at-inside H in
     let l = c-read-count .last .1 .0 in
-    let e = is 0 (at-of l + c-read-count .result) l six (omega arith) in
-    (λ room limit T. lead-after (lead-first _ (c-read-count .ensures .0 room limit T) .goes (c-if1 .left)) (span-read _ inside (c .if2 .left) (c-if1 .left) six), λ l. (omega (arith, e), omega (arith, e)))
+    let e = is 0 (at-of l + c-read-count .result) l seven (omega arith) in
+    (λ room limit T. lead-after (lead-first _ (c-read-count .ensures .0 room limit T) .goes (c-if1 .left)) (span-read _ inside (c .if2 .left) (c-if1 .left) seven), λ l. (omega (arith, e), omega (arith, e)))
 
 pub read-byte-string-spec : {M : Type 1} → statement M
 read-byte-string-spec =

@@ -33,7 +33,7 @@ returns c =
     let c3 = c .before .before .before in
     let v = c .if2 .taken in (
       λ room limit T.
-          lead-after (lead-first _ (integer-one {limit = limit} (c-small .result) (c3 .if1 .taken) (c-small .ensures .0 v) (omega arith)) .goes (omega arith))
+          lead-after (lead-first _ (integer-one {limit = limit} (c-small .result) (c3 .if1 .taken) (c-small .ensures .0 v .0) (c-small .ensures .0 v .1) (omega arith)) .goes (omega arith))
           (lead-as (simp (lt-ltb (c-small .result) 2147483648 (omega arith))) (gives _ (omega arith))),
       λ l. omega arith,
     )

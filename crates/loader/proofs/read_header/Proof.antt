@@ -1,6 +1,6 @@
 -- The proof of read_header.
 use borrow.Author.Needs.{needs}
-use Rattle.loader.proofs.Readers.{header-read, header-stop}
+use Rattle.loader.proofs.Readers.{header-read, header-older, header-stop}
 use Rattle.loader.proofs.read_header.Statement.{statement}
 use Rattle.loader.proofs.read_header.Tie as tie
 
@@ -22,11 +22,27 @@ element-write-c c = search needs
 
 returns-2 : tie.Need-returns-2
 returns-2 c =
-    let c-if1 = c .if1 in
-    let c-header-at = c .before .header-at in
-    λ room limit T. header-read (c-if1 .left) (c-header-at .ensures .1 (c-if1 .left)) (c-header-at .ensures .0)
+    let c-header-at = c .before .before .header-at in
+    λ room limit T. header-read (c .if2 .taken) (c-header-at .ensures .1 (c .before .if1 .left)) (c-header-at .ensures .0)
+
+element-write-c-2 : tie.Need-element-write-c-2
+element-write-c-2 c = search needs
+
+returns-3 : tie.Need-returns-3
+returns-3 c =
+    let c-if1 = c .before .if1 in
+    let c-header-at = c .before .before .header-at in
+    λ room limit T. header-older (c .if2 .left) (c-if1 .left) (c-header-at .ensures .1 (c-if1 .left)) (c-header-at .ensures .0)
 
 pub read-header-spec : {M : Type 1} → statement M
 read-header-spec =
     tie.close
-    (tie.spec element-copy-out-at header-at-requires returns add-c element-write-c returns-2)
+    (tie.spec
+    element-copy-out-at
+    header-at-requires
+    returns
+    add-c
+    element-write-c
+    returns-2
+    element-write-c-2
+    returns-3)

@@ -1,7 +1,8 @@
 -- The proof of read_integer.
 use borrow.Author.Needs.{needs}
 use native.Mathlib.Omega.{arith}
-use Rattle.loader.proofs.Steps.{integer-whole, integer-cut, integer-gone}
+use mathlib.Core.Path.{sym, _∙_}
+use Rattle.loader.proofs.Steps.{integer-whole, integer-other, integer-cut, integer-gone}
 use Rattle.loader.proofs.read_integer.Statement.{statement}
 use Rattle.loader.proofs.read_integer.Tie as tie
 
@@ -12,8 +13,8 @@ returns : tie.Need-returns
 returns c =
     λ room limit T. integer-gone (c .if1 .taken)
 
-shared-slice-read-integer-size : tie.Need-shared-slice-read-integer-size
-shared-slice-read-integer-size c = search needs
+shared-slice-read-b : tie.Need-shared-slice-read-b
+shared-slice-read-b c = search needs
 
 integer-size-requires : tie.Need-integer-size-requires
 integer-size-requires c κs = search needs
@@ -26,22 +27,40 @@ returns-2 c =
     let c3 = c .before .before .before in
     λ room limit T. integer-cut (c3 .if1 .left) (omega (arith, c .before .integer-size .ensures))
 
+integer-at-requires : tie.Need-integer-at-requires
+integer-at-requires c κs = search needs
+
 add-c : tie.Need-add-c
 add-c c = search needs
 
 element-write-c : tie.Need-element-write-c
 element-write-c c = search needs
 
-integer-at-requires : tie.Need-integer-at-requires
-integer-at-requires c κs = search needs
+in-form-requires : tie.Need-in-form-requires
+in-form-requires c κs = search needs
 
 cast-result : tie.Need-cast-result
 cast-result c = search needs
 
 returns-3 : tie.Need-returns-3
 returns-3 c =
-    let c-integer-size = c .before .before .integer-size in
-    λ room limit T. rw (c-integer-size .ensures) (integer-whole _ (omega (arith, c-integer-size .ensures, c .before .if2 .left)) (c .integer-at .ensures) (omega arith))
+    let c4 = c .before .before .before .before in
+    let n = c4 .integer-size .ensures in
+    let w = c .before .before .integer-at .ensures in
+    λ room limit T. rw n (integer-whole _ (omega (arith, n, c .before .before .before .if2 .left)) (w .0) (sym (c .if3 .taken) ∙ c .before .in-form .ensures _ (w .0) (w .1)) (omega arith))
+
+element-write-c-2 : tie.Need-element-write-c-2
+element-write-c-2 c = search needs
+
+cast-result-2 : tie.Need-cast-result-2
+cast-result-2 c = search needs
+
+returns-4 : tie.Need-returns-4
+returns-4 c =
+    let c4 = c .before .before .before .before in
+    let n = c4 .integer-size .ensures in
+    let w = c .before .before .integer-at .ensures in
+    λ room limit T. rw n (integer-other _ (omega (arith, n, c .before .before .before .if2 .left)) (w .0) (sym (c .if3 .left) ∙ c .before .in-form .ensures _ (w .0) (w .1)) (omega arith))
 
 pub read-integer-spec : {M : Type 1} → statement M
 read-integer-spec =
@@ -49,12 +68,16 @@ read-integer-spec =
     (tie.spec
     element-copy-out-at
     returns
-    shared-slice-read-integer-size
+    shared-slice-read-b
     integer-size-requires
     sub-if2
     returns-2
+    integer-at-requires
     add-c
     element-write-c
-    integer-at-requires
+    in-form-requires
     cast-result
-    returns-3)
+    returns-3
+    element-write-c-2
+    cast-result-2
+    returns-4)

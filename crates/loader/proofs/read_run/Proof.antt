@@ -8,7 +8,7 @@ use borrow.Author.Tests.{not-true, not-false}
 use Rattle.reader.specs.Integers.{size-small}
 use Rattle.loader.proofs.Laws.{still}
 use Rattle.loader.proofs.Names.{untrue}
-use Rattle.loader.proofs.Run.{Running, running-start, run-over, run-link, run-integer, at-inside, coming-next, over-short, over-link, over-integer}
+use Rattle.loader.proofs.Run.{Running, running-start, run-over, run-link, run-integer, at-inside, coming-next, over-short, over-link, over-integer, over-form, run-same}
 use Rattle.loader.proofs.read_run.Statement.{statement}
 use Rattle.loader.proofs.read_run.Tie as tie
 
@@ -138,7 +138,7 @@ loop-again c =
     let c11 = c7 .before .before .before .before in
     let R = c7 .before .loop .inv in
     let inside = at-inside R in
-    run-link R (c-link-index .result) (c11 .before .small-next .ensures .0 (not-false _ (c11 .if1 .left)) .0) (c7 .loop-test .taken) (omega (arith, c4 .before .before .if2 .left, inside)) (c4 .if3 .taken) (c-link-index .ensures .0 (c-if4 .left)) (c-if4 .left)
+    run-link R (c-link-index .result) (c11 .before .small-next .ensures .0 (not-false _ (c11 .if1 .left)) .0) (c7 .loop-test .taken) (omega (arith, c4 .before .before .if2 .left, inside)) (c4 .if3 .taken) (c-link-index .ensures .0 (c-if4 .left) .0) (c-link-index .ensures .0 (c-if4 .left) .1) (c-if4 .left)
 
 element-copy-out-node : tie.Need-element-copy-out-node Inv-loop μ-loop
 element-copy-out-node c = search needs
@@ -168,9 +168,6 @@ returns-4 c =
     let e = c .end-run3 .ensures in
     ((omega (arith, e .0, R .from), omega (arith, e .0, R .within)), (run-over R (e .0) (e .1), λ n l t. over-integer R (e .1) (e .0) t (c5 .if3 .left) (c3 .takes-integer .ensures .1) (not-true _ (c .before .before .if5 .taken))))
 
-add-at-2 : tie.Need-add-at-2 Inv-loop μ-loop
-add-at-2 c = search needs
-
 add-put-integer : tie.Need-add-put-integer Inv-loop μ-loop
 add-put-integer c = search needs
 
@@ -185,25 +182,53 @@ put-integer-requires c κs =
     let t = c .before .before .takes-integer .ensures .0 (not-false _ (c .before .if5 .left)) in
     (omega (arith, c6 .if2 .left, inside, size-small (getD (a .input .now) (c-loop .at + 1) 0)), omega (arith, t .2))
 
+end-run-requires-4 : tie.Need-end-run-requires-4 Inv-loop μ-loop
+end-run-requires-4 c κs = search needs
+
+same-length-7 : tie.Need-same-length-7 Inv-loop μ-loop
+same-length-7 c =
+    let c5 = c .before .before .before .before .before in
+    let c14 = c5 .before .before .before .before .before .before .before .before .before in
+    c5 .put-integer .kept .1 .0 ∙ c14 .loop .inv .nodes
+
+same-length-8 : tie.Need-same-length-8 Inv-loop μ-loop
+same-length-8 c =
+    let c5 = c .before .before .before .before .before in
+    let c14 = c5 .before .before .before .before .before .before .before .before .before in
+    c14 .loop .inv .references
+
+-- an integer in another form
+returns-5 : tie.Need-returns-5 Inv-loop μ-loop
+returns-5 c =
+    let c5 = c .before .before .before .before .before in
+    let c10 = c5 .before .before .before .before .before in
+    let p = c5 .put-integer .ensures .1 .1 .0 (c .before .before .if6 .taken) in
+    let R = run-same (c10 .before .before .before .before .loop .inv) (p .0) in
+    let e = c .end-run4 .ensures in
+    ((omega (arith, e .0, R .from), omega (arith, e .0, R .within)), (run-over R (e .0) (e .1), λ n l t. over-form R (e .1) (e .0) t (c10 .if3 .left) (p .1)))
+
+add-at-2 : tie.Need-add-at-2 Inv-loop μ-loop
+add-at-2 c = search needs
+
 add-at-3 : tie.Need-add-at-3 Inv-loop μ-loop
 add-at-3 c =
-    let c-put-integer = c .before .before .put-integer in
-    let c9 = c .before .before .before .before .before .before .before .before .before in
-    let c-loop = c9 .before .before .loop in
-    let c21 = c9 .before .before .before .before .before .before .before .before .before .before .before .before in
-    let a = c21 .args in
+    let c-put-integer = c .before .before .before .put-integer in
+    let c10 = c .before .before .before .before .before .before .before .before .before .before in
+    let c-loop = c10 .before .before .loop in
+    let c22 = c10 .before .before .before .before .before .before .before .before .before .before .before .before in
+    let a = c22 .args in
     let at = c-loop .at in
     let n = c-put-integer .result in
     let inside = at-inside (c-loop .inv) in
-    let end : at + 1 + n ≤ length (a .input .now) = omega (arith, c9 .if2 .left, inside, c-put-integer .ensures .1 .0, size-small (getD (a .input .now) (at + 1) 0)) in
+    let end : at + 1 + n ≤ length (a .input .now) = omega (arith, c10 .if2 .left, inside, c-put-integer .ensures .1 .0 (c .if6 .left) .0, size-small (getD (a .input .now) (at + 1) 0)) in
     search needs
 
 add-c : tie.Need-add-c Inv-loop μ-loop
 add-c c =
-    let c4 = c .before .before .before .before in
-    let c11 = c4 .before .before .before .before .before .before .before in
-    let t = c4 .before .takes-integer .ensures .0 (not-false _ (c4 .if5 .left)) in
-    let H = c11 .loop .inv .held .2 .holds in
+    let c5 = c .before .before .before .before .before in
+    let c12 = c5 .before .before .before .before .before .before .before in
+    let t = c5 .before .takes-integer .ensures .0 (not-false _ (c5 .if5 .left)) in
+    let H = c12 .loop .inv .held .2 .holds in
     record { fits = omega (arith, t .2, H .small .nodes, H .nodes .sized) }
 
 element-write-c : tie.Need-element-write-c Inv-loop μ-loop
@@ -211,10 +236,10 @@ element-write-c c = search needs
 
 cast-references : tie.Need-cast-references Inv-loop μ-loop
 cast-references c =
-    let c4 = c .before .before .before .before in
-    let c11 = c4 .before .before .before .before .before .before .before in
-    let t = c4 .before .takes-integer .ensures .0 (not-false _ (c4 .if5 .left)) in
-    let H = c11 .loop .inv .held .2 .holds in
+    let c5 = c .before .before .before .before .before in
+    let c12 = c5 .before .before .before .before .before .before .before in
+    let t = c5 .before .takes-integer .ensures .0 (not-false _ (c5 .if5 .left)) in
+    let H = c12 .loop .inv .held .2 .holds in
     omega (arith, t .2, H .small .nodes, H .nodes .sized)
 
 mul-references-3 : tie.Need-mul-references-3 Inv-loop μ-loop
@@ -222,10 +247,10 @@ mul-references-3 c = search needs
 
 slice-write-references-2 : tie.Need-slice-write-references-2 Inv-loop μ-loop
 slice-write-references-2 c =
-    let c10 = c .before .before .before .before .before .before .before .before .before .before in
-    let R = c10 .before .loop .inv in
+    let c11 = c .before .before .before .before .before .before .before .before .before .before .before in
+    let R = c11 .before .loop .inv in
     let H = R .held .2 .holds in
-    omega (arith, c10 .loop-test .taken, R .inside, H .count-references, H .references .fits, H .references .sized)
+    omega (arith, c11 .loop-test .taken, R .inside, H .count-references, H .references .fits, H .references .sized)
 
 add-to-2 : tie.Need-add-to-2 Inv-loop μ-loop
 add-to-2 c = search needs
@@ -235,34 +260,35 @@ loop-less-2 c = search needs
 
 loop-again-2 : tie.Need-loop-again-2 Inv-loop μ-loop
 loop-again-2 c =
-    let c-put-integer = c .before .before .put-integer in
-    let c4 = c .before .before .before .before in
-    let c9 = c4 .before .before .before .before .before in
-    let c14 = c9 .before .before .before .before .before in
-    let R = c9 .before .before .loop .inv in
+    let c-put-integer = c .before .before .before .put-integer in
+    let c5 = c .before .before .before .before .before in
+    let c10 = c5 .before .before .before .before .before in
+    let c15 = c10 .before .before .before .before .before in
+    let R = c10 .before .before .loop .inv in
     let inside = at-inside R in
-    let t = c4 .before .takes-integer .ensures .0 (not-false _ (c4 .if5 .left)) in
+    let t = c5 .before .takes-integer .ensures .0 (not-false _ (c5 .if5 .left)) in
     let p = c-put-integer .ensures in
-    run-integer R (c-put-integer .result) (c14 .before .small-next .ensures .0 (not-false _ (c14 .if1 .left)) .0) (c9 .before .loop-test .taken) (omega (arith, c9 .if2 .left, inside)) (t .0) (t .1) (t .2) (p .1 .0) (p .1 .1) (p .0) (c-put-integer .kept .1 .0)
+    let n = p .1 .0 (c .if6 .left) in
+    run-integer R (c-put-integer .result) (c15 .before .small-next .ensures .0 (not-false _ (c15 .if1 .left)) .0) (c10 .before .loop-test .taken) (omega (arith, c10 .if2 .left, inside)) (t .0) (n .1) (t .1) (t .2) (n .0) (p .1 .1 .1) (p .0 (c .if6 .left)) (c-put-integer .kept .1 .0)
 
-end-run-requires-4 : tie.Need-end-run-requires-4 Inv-loop μ-loop
-end-run-requires-4 c κs = search needs
+end-run-requires-5 : tie.Need-end-run-requires-5 Inv-loop μ-loop
+end-run-requires-5 c κs = search needs
 
-same-length-7 : tie.Need-same-length-7 Inv-loop μ-loop
-same-length-7 c =
+same-length-9 : tie.Need-same-length-9 Inv-loop μ-loop
+same-length-9 c =
     let c3 = c .before .before .before in
     c3 .loop .inv .nodes
 
-same-length-8 : tie.Need-same-length-8 Inv-loop μ-loop
-same-length-8 c =
+same-length-10 : tie.Need-same-length-10 Inv-loop μ-loop
+same-length-10 c =
     let c3 = c .before .before .before in
     c3 .loop .inv .references
 
-returns-5 : tie.Need-returns-5 Inv-loop μ-loop
-returns-5 c =
+returns-6 : tie.Need-returns-6 Inv-loop μ-loop
+returns-6 c =
     let c3 = c .before .before .before in
     let R = c3 .loop .inv in
-    let e = c .end-run4 .ensures in
+    let e = c .end-run5 .ensures in
     ((omega (arith, e .0, R .from), omega (arith, e .0, R .within)), (run-over R (e .0) (e .1), λ n l t. absurd (omega (arith, e .0, l, c .before .before .loop-test .left))))
 
 pub read-run-spec : {M : Type 1} → statement M
@@ -304,9 +330,13 @@ read-run-spec =
     same-length-5
     same-length-6
     returns-4
-    add-at-2
     add-put-integer
     put-integer-requires
+    end-run-requires-4
+    same-length-7
+    same-length-8
+    returns-5
+    add-at-2
     add-at-3
     add-c
     element-write-c
@@ -316,7 +346,7 @@ read-run-spec =
     add-to-2
     loop-less-2
     loop-again-2
-    end-run-requires-4
-    same-length-7
-    same-length-8
-    returns-5)
+    end-run-requires-5
+    same-length-9
+    same-length-10
+    returns-6)

@@ -2,6 +2,7 @@
 use borrow.Author.Needs.{needs}
 use native.Mathlib.Omega.{arith}
 use mathlib.Core.Path.{refl}
+use lib.Seq.{getD-set-other}
 use Rattle.definition.specs.Load.{read-symbol, read-byte-string, add-bytes}
 use Rattle.loader.proofs.Laws.{held, lead-first, lead-after, lead-stop}
 use Rattle.loader.proofs.Readers.{known, unknown}
@@ -36,6 +37,9 @@ find-symbol-requires c κs =
     let n = c-read-byte-string .ensures .1 (c-if1 .left) in
     (n .0, (H .room, H .state, _, _, c-read-byte-string .last .1 .0, refl, refl, H .holds))
 
+element-write-c : tie.Need-element-write-c
+element-write-c c = search needs
+
 add-symbol-requires : tie.Need-add-symbol-requires
 add-symbol-requires c κs = search needs
 
@@ -60,12 +64,13 @@ returns-2 c =
     let c19 = c12 .before .before .before .before .before .before .before in
     let H = held {m = λ room. read-byte-string _} {m' = λ room. _} (c19 .pre .2) (c-if1 .left) (λ room. c-read-byte-string .ensures .0 room 0 _) in
     let f = c-find-symbol .ensures in
+    let c₁ = c-read-byte-string .last .1 .0 in
     let a = c .before .before .add-symbol .ensures in (
       λ room limit re ob.
           lead-after (lead-first _ (c-read-byte-string .ensures .0 room limit _) .goes (c-if1 .left))
           (lead-after (known _ (c-find-symbol .result) (λ s G. f room s re ob _ refl G .0 (c-if2 .taken) .0))
-          (a .0 _ room limit _ re _ ob (λ s G. f room s re ob _ refl G .0 (c-if2 .taken) .1))),
-      λ l. let q = a .1 l in omega (arith, q .0, q .1, is-there (H .holds) (c-find-symbol .result) (f (H .room) (H .state) _ _ _ refl (H .holds) .0 (c-if2 .taken) .1)),
+          (a .0 _ room limit _ re _ ob (λ s G. f room s re ob _ (getD-set-other c₁ 6 4 1 0 (omega arith)) G .0 (c-if2 .taken) .1))),
+      λ l. let q = a .1 l in omega (arith, q .0, q .1, getD-set-other c₁ 6 1 1 0 (omega arith), is-there (H .holds) (c-find-symbol .result) (f (H .room) (H .state) _ _ _ refl (H .holds) .0 (c-if2 .taken) .1)),
     )
 
 add-bytes-requires : tie.Need-add-bytes-requires
@@ -163,6 +168,7 @@ read-symbol-spec =
     element-copy-out-find-symbol-2
     cast-find-symbol
     find-symbol-requires
+    element-write-c
     add-symbol-requires
     same-length
     same-length-2

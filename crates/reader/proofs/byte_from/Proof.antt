@@ -1,6 +1,7 @@
 -- The proof of byte_from.
 use borrow.Author.Needs.{needs}
 use Prim.Native.Nat.{_+_}
+use mathlib.Core.Bool.{true}
 use mathlib.Core.Path.{ap, _∙_}
 use Rattle.reader.specs.From.{taken-as}
 use Rattle.reader.proofs.Froms.{byte-there, byte-none}
@@ -22,7 +23,7 @@ took-requires c κs = search needs
 returns : tie.Need-returns
 returns c =
     let a = c .before .before .before .before .before .args in
-    c .took .ensures ∙ ap (λ b. taken-as b (a .at + 1)) (c .before .byte .ensures .0) ∙ byte-there (a .input .now) (a .at) (c .before .before .before .if1 .taken)
+    c .took .ensures ∙ ap (λ b. taken-as b (a .at + 1) true) (c .before .byte .ensures .0) ∙ byte-there (a .input .now) (a .at) (c .before .before .before .if1 .taken)
 
 short-requires : tie.Need-short-requires
 short-requires c κs = search needs

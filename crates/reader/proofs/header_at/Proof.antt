@@ -1,6 +1,9 @@
 -- The proof of header_at.
 use borrow.Author.Needs.{needs}
 use native.Mathlib.Omega.{arith}
+use Prim.Native.Nat.{_+_}
+use lib.ListN.{getD}
+use borrow.Author.Tests.{eq-eqb, ne-eqb}
 use Rattle.reader.proofs.Headers.{short, good, bad-major, bad-minor}
 use Rattle.reader.proofs.header_at.Statement.{statement}
 use Rattle.reader.proofs.header_at.Tie as tie
@@ -49,10 +52,19 @@ returns-3 c =
 
 returns-4 : tie.Need-returns-4
 returns-4 c =
-    let c4 = c .before .before .before .before in
-    let a = c4 .byte .ensures in
-    let b = c .before .before .byte2 .ensures in
-    (good _ _ (omega arith) (omega (arith, a .0)) (omega (arith, b .0)), λ l. omega arith)
+    let c3 = c .before .before .before in
+    let z = c3 .before .before .before .before .before .before .args in
+    let a = c3 .before .before .byte .ensures in
+    let b = c3 .byte2 .ensures in
+    (good _ _ (omega arith) (omega (arith, a .0)) (omega (arith, b .0)) 1 (omega arith) (ne-eqb (getD (z .input .now) (z .at + 1) 0) 8 (omega (arith, b .0))), λ l. omega arith)
+
+returns-5 : tie.Need-returns-5
+returns-5 c =
+    let c3 = c .before .before .before in
+    let z = c3 .before .before .before .before .before .before .args in
+    let a = c3 .before .before .byte .ensures in
+    let b = c3 .byte2 .ensures in
+    (good _ _ (omega arith) (omega (arith, a .0)) (omega (arith, b .0)) 0 (omega arith) (eq-eqb (getD (z .input .now) (z .at + 1) 0) 8 (omega (arith, b .0))), λ l. omega arith)
 
 pub header-at-spec : {M : Type 1} → statement M
 header-at-spec =
@@ -69,4 +81,5 @@ header-at-spec =
     returns-2
     invalid-version-requires-2
     returns-3
-    returns-4)
+    returns-4
+    returns-5)

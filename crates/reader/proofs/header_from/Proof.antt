@@ -34,7 +34,7 @@ took-requires c κs = search needs
 returns-3 : tie.Need-returns-3
 returns-3 c =
     let a = c .before .before .before .before .before .args in
-    c .took .ensures ∙ header-there (a .input .now) (a .at) (c .before .before .header-at .ensures .0 .reads (c .before .if2 .left) _ refl)
+    c .took .ensures ∙ header-there (a .input .now) (a .at) _ (c .before .before .header-at .ensures .0 .reads (c .before .if2 .left) _ refl)
 
 pub header-from-spec : {M : Type 1} → statement M
 header-from-spec =

@@ -36,14 +36,22 @@ integer-at-requires c κs = search needs
 add-took : tie.Need-add-took
 add-took c = search needs
 
+shared-slice-read-in-form : tie.Need-shared-slice-read-in-form
+shared-slice-read-in-form c = search needs
+
+in-form-requires : tie.Need-in-form-requires
+in-form-requires c κs = search needs
+
 took-requires : tie.Need-took-requires
 took-requires c κs = search needs
 
 returns-3 : tie.Need-returns-3
 returns-3 c =
     let c3 = c .before .before .before in
-    let a = c3 .before .before .before .before .args in
-    c .took .ensures ∙ integer-there (a .input .now) (a .at) (integer-whole (a .input .now) (a .at) (c3 .integer-size .ensures) (c3 .before .before .if1 .left) (c .before .before .if2 .left) (c .before .integer-at .ensures))
+    let c5 = c3 .before .before in
+    let a = c5 .before .before .before .before .args in
+    let w = c3 .integer-at .ensures in
+    c .took .ensures ∙ integer-there (a .input .now) (a .at) _ (integer-whole (a .input .now) (a .at) (c5 .integer-size .ensures) (c5 .before .before .if1 .left) (c3 .before .if2 .left) (w .0) (c .before .in-form .ensures _ (w .0) (w .1)))
 
 pub integer-from-spec : {M : Type 1} → statement M
 integer-from-spec =
@@ -58,5 +66,7 @@ integer-from-spec =
     returns-2
     integer-at-requires
     add-took
+    shared-slice-read-in-form
+    in-form-requires
     took-requires
     returns-3)

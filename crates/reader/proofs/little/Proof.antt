@@ -2,7 +2,7 @@
 use borrow.Author.Needs.{needs}
 use native.Mathlib.Omega.{arith}
 use mathlib.Core.Path.{_≡_}
-use Rattle.reader.proofs.Bytes.{one, two, three, four}
+use Rattle.reader.proofs.Bytes.{one, two, three, four, low-one, low-two, low-three, low-four}
 use Rattle.reader.proofs.little.Statement.{statement}
 use Rattle.reader.proofs.little.Tie as tie
 
@@ -19,7 +19,8 @@ returns c =
     let e = c .if1 .taken in
     let l = c-args .input .now in
     let at = c-args .at in
-    rw e (omega (arith, one l 0 at (omega arith), c .before .byte .ensures .0), omega arith)
+    let x = c .before .byte .ensures in
+    rw e (omega (arith, one l 0 at (omega arith), x .0), (omega arith, low-one l at _ (omega arith) (omega (arith, x))))
 
 add-byte : tie.Need-add-byte
 add-byte c = search needs
@@ -44,7 +45,9 @@ returns-2 c =
     let e = c .if2 .taken in
     let l = c-args .input .now in
     let at = c-args .at in
-    rw e (omega (arith, two l 0 at (omega arith), c4 .byte .ensures .0, c .before .byte2 .ensures .0), omega arith)
+    let x = c4 .byte .ensures in
+    let y = c .before .byte2 .ensures in
+    rw e (omega (arith, two l 0 at (omega arith), x .0, y .0), (omega arith, low-two l at _ (omega arith) (omega (arith, x)) (omega (arith, x, y))))
 
 add-byte-2 : tie.Need-add-byte-2
 add-byte-2 c = search needs
@@ -70,7 +73,10 @@ returns-3 c =
     let e = c .if3 .taken in
     let l = c-args .input .now in
     let at = c-args .at in
-    rw e (omega (arith, three l 0 at (omega arith), c7 .byte .ensures .0, c4 .byte2 .ensures .0, c .before .byte3 .ensures .0), omega arith)
+    let x = c7 .byte .ensures in
+    let y = c4 .byte2 .ensures in
+    let z = c .before .byte3 .ensures in
+    rw e (omega (arith, three l 0 at (omega arith), x .0, y .0, z .0), (omega arith, low-three l at _ (omega arith) (omega (arith, x)) (omega (arith, x, y)) (omega (arith, x, y, z))))
 
 add-byte-3 : tie.Need-add-byte-3
 add-byte-3 c = search needs
@@ -97,7 +103,11 @@ returns-4 c =
     let e : c-args .n ≡ 4 = omega arith in
     let l = c-args .input .now in
     let at = c-args .at in
-    rw e (omega (arith, four l 0 at (omega arith), c9 .byte .ensures .0, c6 .byte2 .ensures .0, c3 .byte3 .ensures .0, c .byte4 .ensures .0), omega arith)
+    let x = c9 .byte .ensures in
+    let y = c6 .byte2 .ensures in
+    let z = c3 .byte3 .ensures in
+    let v = c .byte4 .ensures in
+    rw e (omega (arith, four l 0 at (omega arith), x .0, y .0, z .0, v .0), (omega arith, low-four l at _ (omega arith) (omega (arith, x)) (omega (arith, x, y)) (omega (arith, x, y, z)) (omega (arith, x, y, z, v))))
 
 pub little-spec : {M : Type 1} → statement M
 little-spec =

@@ -122,6 +122,7 @@ pub +read-array+read-hash+read-inner+read-members+read-object+read-value+read-va
     (Inner.same-length-3 t)
     (Inner.same-length-4 t)
     (Inner.returns t)
+    (Inner.note-inner-requires t)
     (Inner.read-members-requires t)
     (Inner.same-length-5 t)
     (Inner.same-length-6 t)

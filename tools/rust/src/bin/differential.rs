@@ -1,5 +1,6 @@
 // Runs load and dump of the Rattle crates and of the Rust crate on the same inputs and compares what they answer: the refusal
-// and its details, the bytes used, the arena node by node, the bytes dumped, and that these load and dump to themselves.
+// and its details, the bytes used, the arena node by node, the bytes dumped, and that these load and dump to themselves; and
+// that ours says yes to dump form exactly where the Rust dumps the bytes used.
 //
 // usage: differential [CORPUS ..]    after tools/rust/build; a CORPUS is a folder with saved, load-list or load .jsonl
 //
@@ -32,12 +33,13 @@ const PIECES: &[&[u8]] = &[
 // How an input came out where nothing disagrees.
 #[derive(Clone, Copy, PartialEq)]
 enum Outcome {
-    Accepted,
+    /// whether it is in dump form
+    Accepted(bool),
     Refused(u64),
     TooDeep,
     NoSpace,
-    /// load comes to a Float: the number of our answer
-    Float(u64),
+    /// load comes to a Float: the number of our answer, and whether it is in dump form
+    Float(u64, bool),
     Panic,
 }
 
@@ -153,6 +155,7 @@ impl Lent {
 struct Held {
     counts: [usize; 4],
     used: usize,
+    dump_form: bool,
     nodes: Vec<u32>,
     references: Vec<u32>,
     bytes: Vec<u8>,
@@ -167,6 +170,7 @@ impl Held {
         Held {
             counts: tables.counts,
             used: tables.used,
+            dump_form: tables.dump_form,
             nodes: tables.nodes[..nodes * 7].to_vec(),
             references: tables.references[..references].to_vec(),
             bytes: tables.bytes[..bytes].to_vec(),
@@ -244,8 +248,8 @@ struct Run {
     refused: [usize; 11],
     inputs: usize,
     disagree: usize,
-    /// of the class: inputs, accepted, refused, too deep, no space, with a Float, panics, disagreeing
-    row: [usize; 8],
+    /// of the class: inputs, accepted, refused, too deep, no space, with a Float, panics, disagreeing; those in dump form
+    row: [usize; 9],
 }
 
 impl Run {
@@ -256,6 +260,9 @@ impl Run {
         if ours == NO_REFERENCES {
             room = 1;
             ours = self.lent[1].load(input);
+        }
+        if ours.number != 0 && self.lent[room].tables.dump_form {
+            return Err(format!("load: {ours:?}, and in dump form"));
         }
         let loaded = catch_unwind(|| {
             let mut rest = input;
@@ -268,7 +275,9 @@ impl Run {
             _ if ours == TOO_DEEP && input.len() > LIMIT as usize => Ok(Outcome::TooDeep),
             Ok((Err(_), _)) if ours == NO_REFERENCES => Ok(Outcome::NoSpace),
             Ok((Err(e), _)) if refusal(&e, ours) == Some(ours) => Ok(Outcome::Refused(ours.number)),
-            Ok((Ok(arena), used)) if ours.number == 0 && used == self.lent[room].tables.used => self.compare_accepted(arena, room),
+            Ok((Ok(arena), used)) if ours.number == 0 && used == self.lent[room].tables.used => {
+                self.compare_accepted(arena, &input[..used], room)
+            }
             Ok((Ok(_), used)) => Err(format!("load: {ours:?} with {} used, the Rust accepts with {used}", self.lent[room].tables.used)),
             Ok((Err(e), _)) => Err(format!("load: {ours:?}, the Rust {e:?}")),
         }
@@ -277,6 +286,7 @@ impl Run {
     // What ours answers to an input with Floats, beside the same input with strings and with empty arrays for them.
     fn compare_floats(&mut self, input: &[u8], room: usize, ours: Answer) -> Result<Outcome, String> {
         let held = (ours.number == 0).then(|| Held::of(&mut self.lent[room].tables));
+        let form = self.lent[room].tables.dump_form;
         let made = catch_unwind(|| {
             let arrays = ruby_marshal::load(&with_arrays(input)[..]).map(|_| ());
             (with_strings(input), arrays)
@@ -302,13 +312,13 @@ impl Run {
             self.floats += floats;
             let exchanged = input.iter().zip(&plain).filter(|(a, b)| a != b).count();
             if floats != exchanged || held != Held::of(&mut self.lent[room].tables) {
-                return Err(format!("tables or dump: not as with strings for Floats; {floats} Floats of {exchanged}"));
+                return Err(format!("tables, dump or its form: not as with strings for Floats; {floats} Floats of {exchanged}"));
             }
         }
-        Ok(Outcome::Float(ours.number))
+        Ok(Outcome::Float(ours.number, form))
     }
 
-    fn compare_accepted(&mut self, mut arena: ValueArena, room: usize) -> Result<Outcome, String> {
+    fn compare_accepted(&mut self, mut arena: ValueArena, used: &[u8], room: usize) -> Result<Outcome, String> {
         self.compare_arenas(&arena, room)?;
         let mut theirs = Vec::new();
         let dumped = catch_unwind(AssertUnwindSafe(|| ruby_marshal::dump(&mut theirs, &arena)));
@@ -318,6 +328,10 @@ impl Run {
         let made = number(arena.create_nil());
         if made != Some(counted as u32) {
             return Err(format!("{counted} nodes, the Rust {made:?}"));
+        }
+        let form = self.lent[room].tables.dump_form;
+        if form != (theirs == used) {
+            return Err(format!("dump form: {form}, the Rust dumps {}", hex(&theirs)));
         }
         self.compare_dumps(&theirs, room)
     }
@@ -364,15 +378,16 @@ impl Run {
             return Err(format!("dump: {ours:?} {}, the Rust {}", hex(written), hex(theirs)));
         }
         self.comes_back(theirs)?;
-        Ok(Outcome::Accepted)
+        Ok(Outcome::Accepted(self.lent[room].tables.dump_form))
     }
 
     // What was dumped loads and dumps to itself.
     fn comes_back(&mut self, written: &[u8]) -> Result<(), String> {
         let again = self.again.load(written);
         let tables = &mut self.again.tables;
-        if again.number != 0 || tables.used != written.len() {
-            return Err(format!("load of what was dumped: {again:?}, {} used of {}", tables.used, hex(written)));
+        if again.number != 0 || tables.used != written.len() || !tables.dump_form {
+            let Tables { used, dump_form, .. } = tables;
+            return Err(format!("load of what was dumped: {again:?}, {used} used, dump form {dump_form}, of {}", hex(written)));
         }
         let again = tables.dump(LIMIT);
         if again.number != 0 || tables.output[..tables.written] != *written {
@@ -385,19 +400,20 @@ impl Run {
     fn input(&mut self, input: &[u8]) -> Option<Outcome> {
         let outcome = self.compare(input);
         let column = match outcome {
-            Ok(Outcome::Accepted) => 1,
+            Ok(Outcome::Accepted(_)) => 1,
             Ok(Outcome::Refused(n)) => {
                 self.refused[n as usize] += 1;
                 2
             }
             Ok(Outcome::TooDeep) => 3,
             Ok(Outcome::NoSpace) => 4,
-            Ok(Outcome::Float(_)) => 5,
+            Ok(Outcome::Float(..)) => 5,
             Ok(Outcome::Panic) => 6,
             Err(_) => 7,
         };
         self.row[0] += 1;
         self.row[column] += 1;
+        self.row[8] += matches!(outcome, Ok(Outcome::Accepted(true) | Outcome::Float(_, true))) as usize;
         self.inputs += 1;
         if let Err(what) = &outcome {
             self.disagree += 1;
@@ -410,8 +426,8 @@ impl Run {
 
     // The class that was run, as a line of the table.
     fn end_class(&mut self, name: &str) {
-        let [all, accepted, refused, deep, space, floats, panics, disagree] = std::mem::take(&mut self.row);
-        println!("{name:<34}{all:>9}{accepted:>9}{refused:>9}{deep:>9}{space:>9}{floats:>9}{panics:>7}{disagree:>9}");
+        let [all, accepted, refused, deep, space, floats, panics, disagree, formed] = std::mem::take(&mut self.row);
+        println!("{name:<34}{all:>9}{accepted:>9}{refused:>9}{deep:>9}{space:>9}{floats:>9}{panics:>7}{disagree:>9}{formed:>10}");
     }
 
     // Every word of that length over the letters, after what is there.
@@ -433,7 +449,7 @@ impl Run {
         for piece in pieces {
             row.extend(*piece);
             let outcome = self.input(row);
-            if most > 1 && matches!(outcome, Some(Outcome::Refused(4) | Outcome::Float(4))) {
+            if most > 1 && matches!(outcome, Some(Outcome::Refused(4) | Outcome::Float(4, _))) {
                 self.undecided(row, pieces, most - 1);
             }
             row.truncate(length);
@@ -512,11 +528,11 @@ fn made() -> Vec<Vec<u8>> {
 fn run(corpora: Vec<String>) -> usize {
     let lent = REFERENCES.map(Lent::new);
     let again = Lent::new(REFERENCES[0]);
-    let mut run = Run { lent, again, kinds: [0; 9], floats: 0, refused: [0; 11], inputs: 0, disagree: 0, row: [0; 8] };
+    let mut run = Run { lent, again, kinds: [0; 9], floats: 0, refused: [0; 11], inputs: 0, disagree: 0, row: [0; 9] };
     let mut random = Random(48);
     println!(
-        "{:<34}{:>9}{:>9}{:>9}{:>9}{:>9}{:>9}{:>7}{:>9}",
-        "", "inputs", "accepted", "refused", "too deep", "no space", "Float", "panics", "disagree"
+        "{:<34}{:>9}{:>9}{:>9}{:>9}{:>9}{:>9}{:>7}{:>9}{:>10}",
+        "", "inputs", "accepted", "refused", "too deep", "no space", "Float", "panics", "disagree", "dump form"
     );
     run.exhaustive();
     for (name, number, floats) in [("random", 400_000, false), ("random with Floats", 100_000, true)] {

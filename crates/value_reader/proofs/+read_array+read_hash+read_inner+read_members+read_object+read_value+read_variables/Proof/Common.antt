@@ -27,6 +27,7 @@ use Rattle.value_reader.proofs.read_variables.Kinds as read-variables-k
 use Rattle.value_reader.proofs.+read_array+read_hash+read_inner+read_members+read_object+read_value+read_variables.Lts-read_variables as read-variables-lts
 use Rattle.value_reader.proofs.defaults.Reads as defaults-reads
 use Rattle.loader.proofs.fill_node.Reads as fill-node-reads
+use Rattle.loader.proofs.note_inner.Reads as note-inner-reads
 use Rattle.loader.proofs.open_node.Reads as open-node-reads
 use Rattle.loader.proofs.read_leaf.Reads as read-leaf-reads
 use Rattle.loader.proofs.read_run.Reads as read-run-reads
@@ -144,7 +145,7 @@ abbrev pub read-hash-calls : ℕ → read-hash-lts.Claims
 read-hash-calls t = (open-node-reads.Asked, open-node-reads.Learnt, read-words-reads.Asked, read-words-reads.Learnt, read-members-below t, read-members.Post, fill-node-reads.Asked, fill-node-reads.Learnt)
 
 abbrev pub read-inner-calls : ℕ → read-inner-lts.Claims
-read-inner-calls t = (read-leaf-reads.Asked, read-leaf-reads.Learnt, read-members-below t, read-members.Post)
+read-inner-calls t = (read-leaf-reads.Asked, read-leaf-reads.Learnt, note-inner-reads.Asked, note-inner-reads.Learnt, read-members-below t, read-members.Post)
 
 abbrev pub read-members-calls : ℕ → read-members-lts.Claims
 read-members-calls t = (read-run-reads.Asked, read-run-reads.Learnt, read-symbol-like-reads.Asked, read-symbol-like-reads.Learnt, read-value-below t, read-value.Post)

@@ -3,11 +3,12 @@ use borrow.Author.Needs.{needs}
 use native.Mathlib.Omega.{arith}
 use Prim.Native.Nat.{_-_}
 use mathlib.Core.Path.{_≡_, refl, sym, ap}
-use Rattle.definition.specs.Run.{pick}
+use Rattle.definition.specs.Run.{pick, pure}
 use Rattle.definition.specs.Load.{head, value-of, read-byte, read-symbol-like}
 use Rattle.definition.specs.Load as D
 use Rattle.loader.proofs.Laws.{held-goes, lead-after, lead-as, goes-to}
-use Rattle.loader.proofs.Readers.{kind-read}
+use Rattle.loader.specs.Holds.{after-i}
+use Rattle.loader.proofs.Readers.{kind-read, after-takes, takes-string}
 use Rattle.loader.proofs.Steps.{byte-goes}
 use Rattle.value_reader.proofs.Members.{after-members, string-leaf, down-2}
 use Prim.Native.Nat.{ℕ}
@@ -64,16 +65,24 @@ returns t c =
     let c-args = c25 .args in
     let some : c-args .levels ≡ 0 → ⊥ = omega (arith, c17 .if1 .taken) in (
       λ room limit.
-          lead-after (goes-to (ap (λ (x : ℕ). value-of (c-args .input .now) room (D.read-value (c-args .input .now) room limit (c-args .levels - 1)) x (head x)) (c14 .if3 .taken)) (kind-read limit (c-args .levels) some (c14 .before .before .if2 .taken)))
-          (c-read-leaf .ensures .0 room limit (D.read-value (c-args .input .now) room limit (c-args .levels - 1)) _ string-leaf),
+          lead-after (after-takes _ (takes-string (c14 .if3 .taken)))
+          (lead-after (goes-to (ap (λ (x : ℕ). value-of (c-args .input .now) room (D.read-value (c-args .input .now) room limit (c-args .levels - 1)) x (head x)) (c14 .if3 .taken)) (kind-read limit (c-args .levels) some (c14 .before .before .if2 .taken)))
+          (c-read-leaf .ensures .0 room limit (D.read-value (c-args .input .now) room limit (c-args .levels - 1)) _ string-leaf)),
       c-read-leaf .ensures .1,
     )
 
+pub note-inner-requires : (t : ℕ) → read-inner-lts.Need-note-inner-requires (read-inner-calls t) (read-inner-at t) read-inner.Post
+note-inner-requires t c κs =
+    let c9 = c .before .before .before .before .before .before .before .before .before in
+    record { tables = _; held = c9 .pre .1 }
+
 pub read-members-requires : (t : ℕ) → read-inner-lts.Need-read-members-requires (read-inner-calls t) (read-inner-at t) read-inner.Post
 read-members-requires t c κs =
-    let c14 = c .before .before .before .before .before .before .before .before .before .before .before .before .before .before in
-    let c-pre = c14 .pre in
-    (down-2 _ t (c-pre .0), (omega arith, omega arith, omega arith, λ e. refl, c-pre .1))
+    let c6 = c .before .before .before .before .before .before in
+    let c16 = c6 .before .before .before .before .before .before .before .before .before .before in
+    let c-pre = c16 .pre in
+    let H = held-goes {m = λ room. after-i (c16 .args .input .now) (pure 0)} {m' = λ room. pure 0} (c-pre .1) (λ room. c6 .note-inner .ensures room _ (pure 0)) in
+    (down-2 _ t (c-pre .0), (omega arith, omega arith, omega arith, λ e. refl, H))
 
 pub same-length-5 : (t : ℕ) → read-inner-lts.Need-same-length-5 (read-inner-calls t) (read-inner-at t) read-inner.Post
 same-length-5 t c =
@@ -103,7 +112,12 @@ same-length-9 t c =
 pub returns-2 : (t : ℕ) → read-inner-lts.Need-returns-2 (read-inner-calls t) (read-inner-at t) read-inner.Post
 returns-2 t c =
     let c10 = c .before .before .before .before .before .before .before .before .before .before in
-    let c25 = c10 .before .before .before .before .before .before .before .before .before .before .before .before .before .before .before in
-    let c-args = c25 .args in
-    let k = c10 .read-members .ensures in
-    (λ room limit. lead-as (sym (after-members (read-symbol-like (c-args .input .now) room) (D.read-value (c-args .input .now) room limit (c-args .levels)) 2 0)) (k .0 room limit), λ l. k .1 l .1 refl)
+    let c17 = c10 .before .before .before .before .before .before .before in
+    let c27 = c17 .before .before .before .before .before .before .before .before .before .before in
+    let c-args = c27 .args in
+    let k = c10 .read-members .ensures in (
+      λ room limit.
+          let inner = D.read-value (c-args .input .now) room limit (c-args .levels) in
+          lead-after (c17 .note-inner .ensures room _ inner) (lead-as (sym (after-members (read-symbol-like (c-args .input .now) room) inner 2 0)) (k .0 room limit)),
+      λ l. k .1 l .1 refl,
+    )

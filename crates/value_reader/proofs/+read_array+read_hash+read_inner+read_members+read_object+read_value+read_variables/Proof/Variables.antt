@@ -6,9 +6,9 @@ use mathlib.Core.Path.{refl, _∙_}
 use Rattle.definition.specs.Run.{pure}
 use Rattle.definition.specs.Load.{lists, read-symbol-like, read-instance-variables}
 use Rattle.definition.specs.Load as D
-use Rattle.loader.proofs.Laws.{lead-first, lead-after, lead-stop}
+use Rattle.loader.proofs.Laws.{lead-first, lead-after, lead-stop, lead-as}
 use Rattle.loader.proofs.Readers.{slot-room}
-use Rattle.value_reader.proofs.Members.{Open, opened-value, open-on, variables-of, variables-rest, contained, contained-stops, inside, no-more, names-any, list-parity, down-3, down-inner}
+use Rattle.value_reader.proofs.Members.{Open, opened-value, open-on, variables-after, variables-of, variables-rest, contained, contained-stops, inside, no-more, names-any, list-parity, down-3, down-inner}
 use Rattle.value_reader.proofs.read_variables.Reads as read-variables
 use Rattle.value_reader.proofs.+read_array+read_hash+read_inner+read_members+read_object+read_value+read_variables.Lts-read_variables as read-variables-lts
 use Rattle.value_reader.proofs.+read_array+read_hash+read_inner+read_members+read_object+read_value+read_variables.Proof.Common.{read-variables-at, read-variables-calls}
@@ -84,10 +84,10 @@ same-length-5 t c =
     c11 .read-inner .kept .1 .1 .1 .1 .1 .0
 
 pub returns : (t : ℕ) → read-variables-lts.Need-returns (read-variables-calls t) (read-variables-at t) read-variables.Post
-unfolding D.read-variables
 returns t c =
     let c11 = c .before .before .before .before .before .before .before .before .before .before .before in
-    (λ room limit. lead-stop (c .if1 .taken) (lead-first _ (c11 .read-inner .ensures .0 room limit)), λ l. absurd (omega arith))
+    let a = c11 .before .before .before .before .before .before .before .before .before .before .before .before .before .args in
+    (λ room limit. lead-as (variables-after (a .input .now) room (D.read-value (a .input .now) room limit (a .levels))) (lead-stop (c .if1 .taken) (lead-first _ (c11 .read-inner .ensures .0 room limit))), λ l. absurd (omega arith))
 
 pub read-words-requires : (t : ℕ) → read-variables-lts.Need-read-words-requires (read-variables-calls t) (read-variables-at t) read-variables.Post
 read-words-requires t c κs = (omega arith, (_, _, _, _, opened-at t (c .before .before) .held))
@@ -119,12 +119,13 @@ same-length-10 t c =
     c17 .read-inner .kept .1 .1 .1 .1 .1 .0
 
 pub returns-2 : (t : ℕ) → read-variables-lts.Need-returns-2 (read-variables-calls t) (read-variables-at t) read-variables.Post
-unfolding D.read-variables read-instance-variables
+unfolding read-instance-variables
 returns-2 t c =
     let c3 = c .before .before .before in
     let c6 = c3 .before .before .before in
     let c17 = c6 .before .before .before .before .before .before .before .before .before .before .before in
-    (λ room limit. lead-after (lead-first _ (c17 .read-inner .ensures .0 room limit) .goes (c6 .if1 .left)) (lead-stop (c .if2 .taken) (c3 .read-words .ensures .0 room limit _ _ _ _ _)), λ l. absurd (omega arith))
+    let a = c17 .before .before .before .before .before .before .before .before .before .before .before .before .before .args in
+    (λ room limit. lead-as (variables-after (a .input .now) room (D.read-value (a .input .now) room limit (a .levels))) (lead-after (lead-first _ (c17 .read-inner .ensures .0 room limit) .goes (c6 .if1 .left)) (lead-stop (c .if2 .taken) (c3 .read-words .ensures .0 room limit _ _ _ _ _))), λ l. absurd (omega arith))
 
 pub element-copy-out-end : (t : ℕ) → read-variables-lts.Need-element-copy-out-end (read-variables-calls t) (read-variables-at t) read-variables.Post
 element-copy-out-end t c = search needs
@@ -175,7 +176,7 @@ same-length-15 t c =
     c11 .read-members .kept .1 .1 .1 .1 .1 .0 ∙ c36 .read-inner .kept .1 .1 .1 .1 .1 .0
 
 pub returns-3 : (t : ℕ) → read-variables-lts.Need-returns-3 (read-variables-calls t) (read-variables-at t) read-variables.Post
-unfolding D.read-variables read-instance-variables
+unfolding read-instance-variables
 returns-3 t c =
     let c11 = c .before .before .before .before .before .before .before .before .before .before .before in
     let c19 = c11 .before .before .before .before .before .before .before .before in
@@ -189,8 +190,9 @@ returns-3 t c =
       λ room limit.
           let name = read-symbol-like (c49 .args .input .now) room in
           let inner = D.read-value (c49 .args .input .now) room limit (c49 .args .levels) in
-          lead-after (lead-first _ (c36 .read-inner .ensures .0 room limit) .goes (c25 .if1 .left))
-          (contained-stops name inner (variables-of name inner h) 2 _ 0 n _ _ _ (variables-rest name inner h _ n _ (list-parity _ n (q .1))) refl (q .1) (c22 .read-words .ensures .0 room limit _ _ _ _ _) (c19 .if2 .left) (c11 .read-members .ensures .0 room limit) (c .if3 .taken)),
+          lead-as (variables-after (c49 .args .input .now) room inner)
+          (lead-after (lead-first _ (c36 .read-inner .ensures .0 room limit) .goes (c25 .if1 .left))
+          (contained-stops name inner (variables-of name inner h) 2 _ 0 n _ _ _ (variables-rest name inner h _ n _ (list-parity _ n (q .1))) refl (q .1) (c22 .read-words .ensures .0 room limit _ _ _ _ _) (c19 .if2 .left) (c11 .read-members .ensures .0 room limit) (c .if3 .taken))),
       λ l. absurd (omega arith),
     )
 
@@ -242,7 +244,7 @@ same-length-20 t c =
     c15 .read-members .kept .1 .1 .1 .1 .1 .0 ∙ c40 .read-inner .kept .1 .1 .1 .1 .1 .0
 
 pub returns-4 : (t : ℕ) → read-variables-lts.Need-returns-4 (read-variables-calls t) (read-variables-at t) read-variables.Post
-unfolding D.read-variables read-instance-variables
+unfolding read-instance-variables
 returns-4 t c =
     let c4 = c .before .before .before .before in
     let c15 = c4 .before .before .before .before .before .before .before .before .before .before .before in
@@ -258,8 +260,9 @@ returns-4 t c =
       λ room limit.
           let name = read-symbol-like (c53 .args .input .now) room in
           let inner = D.read-value (c53 .args .input .now) room limit (c53 .args .levels) in
-          lead-after (lead-first _ (c40 .read-inner .ensures .0 room limit) .goes (c29 .if1 .left))
+          lead-as (variables-after (c53 .args .input .now) room inner)
+          (lead-after (lead-first _ (c40 .read-inner .ensures .0 room limit) .goes (c29 .if1 .left))
           (contained name inner (variables-of name inner h) 2 _ 0 n _ _ _ (variables-rest name inner h _ n _ (list-parity _ n (q .1))) refl (q .1) (c26 .read-words .ensures .0 room limit _ _ _ _ _) (c23 .if2 .left) (c15 .read-members .ensures .0 room limit) (c4 .if3 .left)
-          (c .before .before .set-variables .ensures .0 _ room limit _ _ _ _ _ (O .below))),
+          (c .before .before .set-variables .ensures .0 _ room limit _ _ _ _ _ (O .below)))),
       λ l. omega (arith, c .before .before .set-variables .ensures .1 l, O .below),
     )

@@ -1,0 +1,2 @@
+-- Laws of the programs' load.
+pub mod Laws

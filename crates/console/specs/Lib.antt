@@ -1,0 +1,2 @@
+-- What the programs' load of an input answers.
+pub mod Call
