@@ -3,6 +3,7 @@ use Prim.Native.Nat.{ℕ, suc, zero, _+_, _/_, _≤_}
 use mathlib.Core.Path.{_≡_, refl, ap, subst}
 use mathlib.Core.Path.{sym as psym, _∙_}
 use mathlib.Core.Bool.{false}
+use mathlib.Core.Logic.{_↔_}
 use mathlib.Core.List.{List, [], _∷_, _++_, append-nil}
 use lib.ListN.{length, take, drop, replicate, take-append-drop, length-append, length-replicate, length-drop}
 use lib.Seq.{take-append-seam}
@@ -21,12 +22,13 @@ use Rattle.graph.specs.Describe.{E, Says}
 use Rattle.graph.specs.Build.{num}
 use Rattle.graph.specs.View.{arena-of, state-seen}
 use Rattle.dump_forest.specs.Same.{graph-of}
+use Rattle.dump_forest.specs.Call.{call-accepted}
 use Rattle.states.specs.States.{seen-root}
 use Rattle.load_forest.specs.Sound.{LoadWrites, load-writes}
-use Rattle.load_forest.specs.Call.{AcceptedLoad, load-allowed, load-accepted, accepted-load, load-used, call-arena, call-well-formed, load-lengths}
+use Rattle.load_forest.specs.Call.{AcceptedLoad, load-allowed, load-accepted, accepted-load, load-used, call-arena, call-well-formed, call-used, load-lengths}
 use Rattle.load_text.specs.Back.{describes}
 use Rattle.round_trip.specs.Statement.{AreBytes, LoadAllowed, NoSmaller, LoadAccepted, used, tables, counts, DumpAccepted, written}
-use Rattle.round_trip.specs.FormStatement.{Yes, Enough, WritesUsed, YesExactlyWhen, RefusedSaysNo, OneForm}
+use Rattle.round_trip.specs.FormStatement.{Yes, used-bytes, Enough, WritesUsed, YesExactlyWhen, RefusedSaysNo, OneForm}
 use Rattle.round_trip.specs.Theorem.{back, trip, same-load, up-refl, dumps-text, room-largest, room-larger, input-allowed, round-trip}
 
 -- ---- an accepted load's answer
@@ -117,6 +119,14 @@ yes-exactly-when X T limit by l =
       (yes-writes X T limit by l, λ f. writes-yes X T limit by l (some-scratch X T limit a) (some-output X T limit a) (f _ _ (some-enough X T limit a))),
       λ scratch output en. (λ y. yes-writes X T limit by l y scratch output en, writes-yes X T limit by l scratch output),
     )
+
+-- of a dump that is known to be accepted, only the bytes are asked
+pub accepted-form : (X : List ℕ) (T : Lists) (limit : ℕ) → AreBytes X → LoadAccepted X T limit → (scratch output : List ℕ) → DumpAccepted (tables X T limit) (counts X T limit) scratch output limit → length X ≤ length output
+    → (Yes X T limit ↔ (written (tables X T limit) (counts X T limit) scratch output limit ≡ used-bytes X T limit))
+accepted-form X T limit by l scratch output d h =
+    let n = call-accepted (tables X T limit) (counts X T limit) scratch output limit d .no-wrong in
+    let r = yes-exactly-when X T limit by l .1 scratch output (n, omega (arith, h, call-used X T limit (load-accepted X T limit l))) in
+    (λ y. r .0 y .1, λ w. r .1 (d, w))
 
 pub refused-says-no : RefusedSaysNo
 unfolding load-call load-if load-done
