@@ -420,7 +420,7 @@ module _ (input : List ℕ) (w : Inputs) where
       (λ f g a (b, e, d). record { bytes = a .bytes ++ b; here = joined (a .bytes) b _ (a .here) e; says = more-pairs (a .says) d })
       x₁ (head-append input w (λ f g b d. (b .bytes ++ d .bytes, joined (b .bytes) (d .bytes) _ (b .here) (d .here), value-then (b .says) (d .says))) value-read rest)
 
-  -- what is not in dump form before it isn't after
+  -- what a trace built, where its end may be out of dump form only for an input that may be odd; a canonical input is of bytes
   module _ (room : Room) (low : (Odd w → ⊥) → Below 256 input) where
     pub sound : {l : ℕ} {m : Mode} {p : List ℕ} {s t : State} {vs : List ℕ} → Trace input room l m p s vs t → (Off (t .notes) → Odd w) → Ready m s → Out input w m l p s vs t
     sound {l = l} {m = m} {p = p} {s = s} {t = t} {vs = vs} (reading k n a x) q h = out-reading input w l p vs t a (λ o. q (forwards x .off o)) m (sound x q (ready-reading m s k n h))
