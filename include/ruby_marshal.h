@@ -15,7 +15,7 @@
  * The linker does not compare these declarations with the library: header and archive must be of one version. (tools/bindings
  * compares them with the source.)
  *
- * load and dump call themselves for each level of nesting. docs/PERFORMANCE.md says how much stack the levels take.
+ * The loads and dump call themselves for each level of nesting. docs/PERFORMANCE.md says how much stack the levels take.
  */
 #ifndef RUBY_MARSHAL_H
 #define RUBY_MARSHAL_H
@@ -74,8 +74,9 @@ enum ruby_marshal_slice {
  * Fewer words than a function writes: it returns BAD_TABLES, and nothing at all is written, so that no detail names the
  * slice. The number of words is the caller's own, so a caller that passes what is stated here never sees this.
  */
-#define RUBY_MARSHAL_ANSWER_WORDS 9u /* enough for every function */
+#define RUBY_MARSHAL_ANSWER_WORDS 10u /* enough for every function */
 #define RUBY_MARSHAL_LOAD_WORDS 8u
+#define RUBY_MARSHAL_LOAD_MEASURED_WORDS 10u
 #define RUBY_MARSHAL_DUMP_WORDS 3u
 #define RUBY_MARSHAL_NEW_WORDS 6u
 #define RUBY_MARSHAL_ROOT_WORDS 3u
@@ -87,12 +88,14 @@ enum ruby_marshal_slice {
 enum ruby_marshal_answer {
     RUBY_MARSHAL_FIRST = 0,      /* first detail, in two's complement: ruby_marshal_detail */
     RUBY_MARSHAL_SECOND = 1,     /* second detail, never below 0 */
-    RUBY_MARSHAL_NODES = 2,      /* load, new, replace_root, create_: the four counts */
+    RUBY_MARSHAL_NODES = 2,      /* load, load_measured, new, replace_root, create_: the four counts */
     RUBY_MARSHAL_REFERENCES = 3,
     RUBY_MARSHAL_BYTES = 4,
     RUBY_MARSHAL_ROOT = 5,
-    RUBY_MARSHAL_USED = 6,       /* load: bytes of input used, */
+    RUBY_MARSHAL_USED = 6,       /* load, load_measured: bytes of input used, */
     RUBY_MARSHAL_DUMP_FORM = 7,  /*       and 1 where they are in dump form, else 0 */
+    RUBY_MARSHAL_COPIED = 8,     /* load_measured: bytes copied to the byte table, */
+    RUBY_MARSHAL_COMPARED = 9,   /*                and bytes compared in searches for names */
     RUBY_MARSHAL_HANDLE = 6,     /* create_: the node; replace_root: the old root */
     RUBY_MARSHAL_WRITTEN = 2,    /* dump: bytes of output written */
     RUBY_MARSHAL_VALUE = 2,      /* root: the root's node; kind: the node's kind */
@@ -153,6 +156,25 @@ enum ruby_marshal_kind {
  * Refused with 3 to 12: tables and lists are zero; counts 1, 0, 0, 0, which with them are an arena that holds nil.
  */
 uint32_t ruby_marshal_load(
+    const uint8_t *input, size_t input_length,
+    uint32_t *nodes, size_t nodes_length,
+    uint32_t *references, size_t references_length,
+    uint8_t *bytes, size_t bytes_length,
+    uint32_t *symbols, size_t symbols_length,
+    uint32_t *objects, size_t objects_length,
+    uint32_t limit,
+    uint64_t *answer, size_t answer_length);
+
+/*
+ * ruby_marshal_load, with two counts of what it cost: takes what load takes, and leaves in tables and lists what load leaves.
+ *
+ * Answers: load's eight words, then bytes copied, bytes compared; both are 0 where it is refused.
+ * Copied are the bytes of strings, user-defined values, floats and new names: where it is accepted, the byte count.
+ * Compared: a name that is written out (`:`), as a value or as a name, is searched among the symbols so far, the lowest node
+ * first. Each of the same length is compared with it up to and including the first byte that differs; the one of that name
+ * ends the search, after all its bytes. A link to a name (`;`) compares nothing.
+ */
+uint32_t ruby_marshal_load_measured(
     const uint8_t *input, size_t input_length,
     uint32_t *nodes, size_t nodes_length,
     uint32_t *references, size_t references_length,

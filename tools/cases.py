@@ -46,13 +46,18 @@ LAST = {0x01: range(0x7B, 0x100), 0x02: range(0x01, 0x100), 0x03: range(0x01, 0x
         0xFF: range(0x00, 0x85), 0xFE: range(0x00, 0xFF), 0xFD: range(0x00, 0xFF), 0xFC: range(0x80, 0xFF)}
 
 
+def compared(a, b):
+    """How many bytes of two names of one length a search compares: up to and including the first difference."""
+    return next((i + 1 for i in range(len(a)) if a[i] != b[i]), len(a))
+
+
 class Walk:
-    """A walk over an input that load accepts, which knows document 02's reasons for no, and nothing of dump: `form` is whether
-    it met none of them, `used` where it ended."""
+    """A walk over an input that load accepts, which knows document 02's reasons for no, and nothing of dump or tables: `form` is
+    whether it met none of them, `used` where it ended, `copied` and `compared` what the measuring load counts."""
 
     def __init__(self, text):
-        self.text, self.names = text, set()
-        self.form, self.used = text[1] == 8, 2
+        self.text, self.names = text, []
+        self.form, self.used, self.copied, self.compared = text[1] == 8, 2, 0, 0
         self.value()
 
     def take(self, n=1):
@@ -72,13 +77,29 @@ class Walk:
             return int.from_bytes(data.ljust(4, b"\xFF" if size > 4 else b"\x00"), "little", signed=True)
         return 0 if size == 0 else size - 5 if size < 0x80 else size - 251
 
+    def string(self):
+        """A byte string that is kept."""
+        self.copied += len(self.take(self.integer()))
+
+    def search(self, name):
+        """Is the name known? Those of its length are compared with it, in the order in which they were first met."""
+        for known in self.names:
+            if len(known) == len(name):
+                self.compared += compared(name, known)
+                if known == name:
+                    return True
+        return False
+
     def name(self, kind):
         if kind == b";":
             self.integer()
-        else:
-            name = self.take(self.integer())
-            self.meet(name not in self.names)
-            self.names.add(name)
+            return
+        name = self.take(self.integer())
+        known = self.search(name)
+        self.meet(not known)
+        if not known:
+            self.names.append(name)
+            self.copied += len(name)
 
     def variables(self):
         for _ in range(self.integer()):
@@ -94,7 +115,7 @@ class Walk:
         elif kind in (b'"', b"f", b"u"):
             if kind == b"u":
                 self.name(self.take())
-            self.take(self.integer())
+            self.string()
         elif kind == b"[":
             for _ in range(self.integer()):
                 self.value()
@@ -110,21 +131,22 @@ class Walk:
             self.variables()
 
 
-def form(case):
-    """Load's yes or no, 1 or 0, for a case of load."""
+def noted(case):
+    """What load and the measuring load say of a case besides the tables: dump form, bytes copied and bytes compared."""
     if case["answer"][0]:
-        return 0
+        return {"dump_form": 0, "copied": 0, "compared": 0}
     walk = Walk(bytes.fromhex(case["in"]))
-    if walk.used != case["used"]:
-        raise SystemExit("%s: %d bytes used, walked over %d" % (case["id"], case["used"], walk.used))
-    return int(walk.form)
+    if (walk.used, walk.copied) != (case["used"], case["counts"][2]):
+        raise SystemExit("%s: %d bytes used and %d kept, walked over %d with %d" % (
+            case["id"], case["used"], case["counts"][2], walk.used, walk.copied))
+    return {"dump_form": int(walk.form), "copied": walk.copied, "compared": walk.compared}
 
 
-def settle_form(case):
-    """What a corpus says of dump form must be what the walk finds; where it says nothing, that is expected."""
-    found = form(case)
-    if case.setdefault("dump_form", found) != found:
-        raise SystemExit("%s: dump form %d, walked %d" % (case["id"], case["dump_form"], found))
+def settle_noted(case):
+    """What a corpus says of these must be what the walk finds; where it says nothing, that is expected."""
+    for what, found in noted(case).items():
+        if case.setdefault(what, found) != found:
+            raise SystemExit("%s: %s %d, walked %d" % (case["id"], what, case[what], found))
 
 
 def forms(pair):
@@ -152,7 +174,7 @@ def by_file(folders):
         for c in cases:
             settle(c)
             if call(label) == "load":
-                settle_form(c)
+                settle_noted(c)
     return found
 
 
@@ -194,6 +216,11 @@ def samples():
 
 def words(numbers):
     return b"".join(struct.pack("<I", n % 2 ** 32) for n in numbers)
+
+
+def low_and_high(n):
+    """A number of 64 bits as two words."""
+    return [n % 2 ** 32, n >> 32]
 
 
 def write_replay(crate, cases):

@@ -138,16 +138,17 @@ static bool untouched(void)
 /* ---- each function over what is lent ---- */
 
 enum call {
-    LOAD, DUMP, ROOT, KIND, GET, GET_SYMBOL, NEW, REPLACE_ROOT, CREATE_NIL, CREATE_BOOL, CREATE_FIXNUM, CREATE_SYMBOL,
-    CREATE_NEW_SYMBOL, CREATE_ARRAY, CREATE_HASH, CREATE_OBJECT, CREATE_STRING, CREATE_USER_DEFINED, CREATE_FLOAT, CALLS
+    LOAD, LOAD_MEASURED, DUMP, ROOT, KIND, GET, GET_SYMBOL, NEW, REPLACE_ROOT, CREATE_NIL, CREATE_BOOL, CREATE_FIXNUM,
+    CREATE_SYMBOL, CREATE_NEW_SYMBOL, CREATE_ARRAY, CREATE_HASH, CREATE_OBJECT, CREATE_STRING, CREATE_USER_DEFINED,
+    CREATE_FLOAT, CALLS
 };
 
 static const size_t answer_words[CALLS] = {
-    RUBY_MARSHAL_LOAD_WORDS, RUBY_MARSHAL_DUMP_WORDS, RUBY_MARSHAL_ROOT_WORDS, RUBY_MARSHAL_KIND_WORDS, RUBY_MARSHAL_GET_WORDS,
-    RUBY_MARSHAL_GET_SYMBOL_WORDS, RUBY_MARSHAL_NEW_WORDS, RUBY_MARSHAL_CREATE_WORDS, RUBY_MARSHAL_CREATE_WORDS,
+    RUBY_MARSHAL_LOAD_WORDS, RUBY_MARSHAL_LOAD_MEASURED_WORDS, RUBY_MARSHAL_DUMP_WORDS, RUBY_MARSHAL_ROOT_WORDS,
+    RUBY_MARSHAL_KIND_WORDS, RUBY_MARSHAL_GET_WORDS, RUBY_MARSHAL_GET_SYMBOL_WORDS, RUBY_MARSHAL_NEW_WORDS,
     RUBY_MARSHAL_CREATE_WORDS, RUBY_MARSHAL_CREATE_WORDS, RUBY_MARSHAL_CREATE_WORDS, RUBY_MARSHAL_CREATE_WORDS,
     RUBY_MARSHAL_CREATE_WORDS, RUBY_MARSHAL_CREATE_WORDS, RUBY_MARSHAL_CREATE_WORDS, RUBY_MARSHAL_CREATE_WORDS,
-    RUBY_MARSHAL_CREATE_WORDS, RUBY_MARSHAL_CREATE_WORDS
+    RUBY_MARSHAL_CREATE_WORDS, RUBY_MARSHAL_CREATE_WORDS, RUBY_MARSHAL_CREATE_WORDS, RUBY_MARSHAL_CREATE_WORDS
 };
 
 /* What the functions take besides: a limit or handle, a number, words, bytes. */
@@ -161,6 +162,8 @@ struct given {
 };
 
 #define TABLES l->nodes.at, l->nodes.length, l->references.at, l->references.length, l->bytes.at, l->bytes.length
+#define INPUT_OF l->input.at, l->input.length
+#define LISTS l->symbols.at, l->symbols.length, l->objects.at, l->objects.length
 #define COUNTS l->counts.nodes, l->counts.references, l->counts.bytes, l->counts.root
 #define ANSWER l->answer, l->answer_length
 
@@ -168,9 +171,8 @@ static uint32_t call(enum call which, const struct lent *l, struct given g)
 {
     calls++;
     switch (which) {
-    case LOAD:
-        return ruby_marshal_load(l->input.at, l->input.length, TABLES, l->symbols.at, l->symbols.length, l->objects.at,
-            l->objects.length, g.number, ANSWER);
+    case LOAD: return ruby_marshal_load(INPUT_OF, TABLES, LISTS, g.number, ANSWER);
+    case LOAD_MEASURED: return ruby_marshal_load_measured(INPUT_OF, TABLES, LISTS, g.number, ANSWER);
     case DUMP:
         return ruby_marshal_dump(TABLES, COUNTS, l->scratch.at, l->scratch.length, l->output.at, l->output.length, g.number, ANSWER);
     case ROOT: return ruby_marshal_root(TABLES, COUNTS, ANSWER);
@@ -411,7 +413,48 @@ static void dump_form(void)
     }
 }
 
-/* Each refusal of load, with its details and their signs. */
+/* What the measuring load counts; the rest of its answer is load's. */
+static void measured(void)
+{
+    static const struct {
+        const char *input;
+        size_t length;
+        uint64_t copied, compared;
+    } cases[] = {
+        { "\x04\x08[\x07:\x06" "a:\x06" "a", 10, 1, 1 },
+        { "\x04\x08[\x07:\x06" "a:\x06" "b", 10, 2, 1 },
+        { "\x04\x08[\x07:\x06" "a:\x07" "ab", 11, 3, 0 },
+        { "\x04\x08[\x08:\x06" "a:\x06" "a:\x06" "a", 13, 1, 2 },
+        { "\x04\x08[\x08:\x07" "ab:\x07" "ac:\x07" "ac", 16, 4, 6 },
+        { "\x04\x08[\x08:\x07" "ab:\x07" "ac;\x06", 14, 4, 2 },
+        { "\x04\x08[\x07\"\x06" "a:\x06" "a", 10, 2, 0 },
+        { "\x04\x08[\x07:\x00:\x00", 8, 0, 0 },
+        { "\x04\x08o:\x06" "a\x06:\x06" "af\x06" "1", 13, 2, 1 },
+    };
+    size_t i;
+    for (i = 0; i < sizeof cases / sizeof cases[0]; i++) {
+        struct lent l = lend(cases[i].length, 4 * 7, 3, 4, 3, 0, 0);
+        uint64_t loaded[RUBY_MARSHAL_LOAD_WORDS];
+        put(&l, cases[i].input);
+        accepted(LOAD, &l, give(2));
+        memcpy(loaded, l.answer, sizeof loaded);
+        keep();
+        memset(l.nodes.at, 0xA5, l.nodes.length * 4);
+        memset(l.references.at, 0xA5, l.references.length * 4);
+        memset(l.bytes.at, 0xA5, l.bytes.length);
+        memset(l.symbols.at, 0xA5, l.symbols.length * 4);
+        memset(l.objects.at, 0xA5, l.objects.length * 4);
+        accepted(LOAD_MEASURED, &l, give(2));
+        EXPECT(memcmp(loaded, l.answer, sizeof loaded) == 0);
+        EXPECT(l.answer[RUBY_MARSHAL_COPIED] == cases[i].copied && l.answer[RUBY_MARSHAL_COMPARED] == cases[i].compared);
+        EXPECT(l.answer[RUBY_MARSHAL_BYTES] == cases[i].copied);
+        l.answer[RUBY_MARSHAL_COPIED] = UINT64_MAX - RUBY_MARSHAL_COPIED;
+        l.answer[RUBY_MARSHAL_COMPARED] = UINT64_MAX - RUBY_MARSHAL_COMPARED;
+        EXPECT(untouched());
+    }
+}
+
+/* Each refusal of both loads, with its details and their signs. */
 static void refusals(void)
 {
     static const struct {
@@ -436,12 +479,15 @@ static void refusals(void)
     };
     size_t i;
     for (i = 0; i < sizeof cases / sizeof cases[0]; i++) {
-        struct lent l = lend(cases[i].length, 3 * 7, 2, 2, 2, 0, 0);
-        put(&l, cases[i].input);
-        l.answer[RUBY_MARSHAL_DUMP_FORM] = 1;
-        refused(LOAD, &l, give(cases[i].limit), cases[i].number, cases[i].first, cases[i].second);
-        EXPECT(l.answer[RUBY_MARSHAL_USED] == 0 && l.answer[RUBY_MARSHAL_DUMP_FORM] == 0);
-        EXPECT(l.answer[RUBY_MARSHAL_NODES] == (cases[i].number == RUBY_MARSHAL_BAD_TABLES ? 0u : 1u));
+        int which;
+        for (which = LOAD; which <= LOAD_MEASURED; which++) {
+            struct lent l = lend(cases[i].length, 3 * 7, 2, 2, 2, 0, 0);
+            put(&l, cases[i].input);
+            memset(l.answer, 0xA5, RUBY_MARSHAL_ANSWER_WORDS * 8);
+            refused((enum call)which, &l, give(cases[i].limit), cases[i].number, cases[i].first, cases[i].second);
+            EXPECT(l.answer[RUBY_MARSHAL_NODES] == (cases[i].number == RUBY_MARSHAL_BAD_TABLES ? 0u : 1u));
+            EXPECT(zero(l.answer + RUBY_MARSHAL_REFERENCES, (answer_words[which] - RUBY_MARSHAL_REFERENCES) * 8));
+        }
         EXPECT(strcmp(ruby_marshal_name(cases[i].number), "?") != 0);
     }
     {
@@ -492,7 +538,7 @@ static void lengths(void)
             l.counts.nodes = 1;
             memset(l.answer, 0, RUBY_MARSHAL_ANSWER_WORDS * 8);
             keep();
-            returned = call((enum call)which, &l, give(which == LOAD || which == DUMP ? 1 : 0));
+            returned = call((enum call)which, &l, give(which <= DUMP ? 1 : 0));
             if (n == 0 || n % RUBY_MARSHAL_NODE_WORDS != 0) {
                 EXPECT(returned == RUBY_MARSHAL_BAD_TABLES && l.answer[RUBY_MARSHAL_FIRST] == RUBY_MARSHAL_SLICE_NODES);
                 for (i = 0; i < RUBY_MARSHAL_ANSWER_WORDS; i++)
@@ -526,6 +572,7 @@ int main(void)
     build_dump_load();
     cycle();
     dump_form();
+    measured();
     refusals();
     few_words();
     lengths();

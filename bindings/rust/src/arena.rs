@@ -1,6 +1,6 @@
 //! Tables that are lent, and the arena that they hold.
 use crate::value::{Node, Nodes};
-use crate::{calls, Counts, Handle, Refusal, NODE_WORDS};
+use crate::{calls, Counts, Handle, Measures, Refusal, NODE_WORDS};
 use core::fmt;
 
 /// An arena's three tables, lent.
@@ -48,9 +48,19 @@ pub fn load<'t>(input: &[u8], tables: Tables<'t>, lists: Lists<'_>, limit: u32) 
 pub fn load_prefix<'t>(input: &[u8], tables: Tables<'t>, lists: Lists<'_>, limit: u32) -> Result<(Arena<'t>, usize), Refusal> {
     let Tables { nodes, references, bytes } = tables;
     let loaded = calls::load(input, nodes, references, bytes, lists.symbols, lists.objects, limit);
-    loaded.answer?;
-    let arena = Arena { dump_form: loaded.dump_form, ..Arena::well_formed(nodes, references, bytes, loaded.counts) };
-    Ok((arena, loaded.used))
+    Ok((Arena::loaded(nodes, references, bytes, loaded)?, loaded.used))
+}
+
+/// [`load`], with what it copied and compared.
+pub fn load_measured<'t>(
+    input: &[u8],
+    tables: Tables<'t>,
+    lists: Lists<'_>,
+    limit: u32,
+) -> Result<(Arena<'t>, Measures), Refusal> {
+    let Tables { nodes, references, bytes } = tables;
+    let measured = calls::load_measured(input, nodes, references, bytes, lists.symbols, lists.objects, limit);
+    Ok((Arena::loaded(nodes, references, bytes, measured.load)?, measured.measures))
 }
 
 /// An arena that is well formed, over tables that nothing changes while it lives.
@@ -68,6 +78,12 @@ impl<'t> Arena<'t> {
     pub fn check(nodes: &'t [u32], references: &'t [u32], bytes: &'t [u8], counts: Counts) -> Result<Arena<'t>, Refusal> {
         calls::root(nodes, references, bytes, counts)?;
         Ok(Arena::well_formed(nodes, references, bytes, counts))
+    }
+
+    // What a load left, if it is accepted.
+    fn loaded(nodes: &'t [u32], references: &'t [u32], bytes: &'t [u8], loaded: calls::Loaded) -> Result<Arena<'t>, Refusal> {
+        loaded.answer?;
+        Ok(Arena { dump_form: loaded.dump_form, ..Arena::well_formed(nodes, references, bytes, loaded.counts) })
     }
 
     // Only after the archive has accepted a call that leaves this arena: an accepted load, new, or builder's call leaves it well

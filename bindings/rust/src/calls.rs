@@ -1,8 +1,8 @@
 //! The archive's functions on slices and counts, in the order of include/ruby_marshal.h, which says what each takes and leaves.
 //!
-//! They take whatever the slices and counts hold: tables that are no arena are refused. Every call but [`load`] and [`new`]
-//! looks through the whole arena first; an [`Arena`](crate::Arena) is read without that.
-use crate::{sys, Counts, Refusal};
+//! They take whatever the slices and counts hold: tables that are no arena are refused. Every call but [`load`],
+//! [`load_measured`] and [`new`] looks through the whole arena first; an [`Arena`](crate::Arena) is read without that.
+use crate::{sys, Counts, Measures, Refusal};
 
 /// What [`load`] answers.
 #[derive(Clone, Copy, Debug, PartialEq, Eq)]
@@ -16,6 +16,15 @@ pub struct Loaded {
     /// Whether [`dump`] of the arena, under the same limit and with enough output, writes the very bytes that were used. It
     /// does not depend on the tables or the limit; false when refused.
     pub dump_form: bool,
+}
+
+/// What [`load_measured`] answers.
+#[derive(Clone, Copy, Debug, PartialEq, Eq)]
+pub struct Measured {
+    /// What [`load`] answers.
+    pub load: Loaded,
+    /// Both 0 when refused.
+    pub measures: Measures,
 }
 
 /// What [`new`] answers.
@@ -43,6 +52,12 @@ fn counts(words: &[u64]) -> Counts {
     Counts { nodes: words[2] as usize, references: words[3] as usize, bytes: words[4] as usize, root: words[5] as u32 }
 }
 
+// The first eight words.
+fn loaded(number: u32, words: &[u64]) -> Loaded {
+    let answer = Refusal::of(number, words);
+    Loaded { answer, counts: counts(words), used: words[6] as usize, dump_form: words[7] == 1 }
+}
+
 fn created(told: sys::Told<7>) -> Created {
     let words = &told.words;
     Created { answer: Refusal::of(told.number, words), handle: words[6] as u32, counts: counts(words) }
@@ -64,9 +79,22 @@ pub fn load(
     limit: u32,
 ) -> Loaded {
     let told = sys::load(input, nodes, references, bytes, symbols, objects, limit);
+    loaded(told.number, &told.words)
+}
+
+/// [`load`], and what it copied and compared.
+pub fn load_measured(
+    input: &[u8],
+    nodes: &mut [u32],
+    references: &mut [u32],
+    bytes: &mut [u8],
+    symbols: &mut [u32],
+    objects: &mut [u32],
+    limit: u32,
+) -> Measured {
+    let told = sys::load_measured(input, nodes, references, bytes, symbols, objects, limit);
     let words = &told.words;
-    let answer = Refusal::of(told.number, words);
-    Loaded { answer, counts: counts(words), used: words[6] as usize, dump_form: words[7] == 1 }
+    Measured { load: loaded(told.number, words), measures: Measures { copied: words[8], compared: words[9] } }
 }
 
 /// Writes the arena's root into output; the number of bytes written.

@@ -5,8 +5,9 @@
 //!
 //! [`load`] reads bytes into [`Tables`] and gives an [`Arena`]; [`Arena::root`] and the views below it ([`Node`], [`Value`])
 //! read it in place; [`Arena::dump`] writes it, and [`Arena::dump_form`] tells whether the input was already as it writes; a
-//! [`Builder`] makes one node by node. Nothing is allocated, except by what the feature `alloc` adds (`OwnedTables`,
-//! `Arena::dump_to_vec`). [`calls`] has the functions themselves, on slices and counts.
+//! [`Builder`] makes one node by node. [`load_measured`] also counts what a load copied and compared. Nothing is allocated,
+//! except by what the feature `alloc` adds (`OwnedTables`, `Arena::dump_to_vec`). [`calls`] has the functions themselves, on
+//! slices and counts.
 //!
 //! An [`Arena`] is well formed: only an accepted load or builder call, or the archive's own check, makes one, and while it lives
 //! its tables are borrowed. So a view looks at the words of its node alone, and the archive is not called.
@@ -47,7 +48,7 @@ mod refusal;
 mod sys;
 mod value;
 
-pub use arena::{load, load_prefix, Arena, Lists, Tables};
+pub use arena::{load, load_measured, load_prefix, Arena, Lists, Tables};
 pub use builder::Builder;
 #[cfg(feature = "alloc")]
 pub use owned::OwnedTables;
@@ -71,6 +72,17 @@ pub struct Counts {
     pub bytes: usize,
     /// The root's node.
     pub root: u32,
+}
+
+/// What a load did with bytes, beside reading them once.
+#[derive(Clone, Copy, Debug, Default, PartialEq, Eq, Hash)]
+pub struct Measures {
+    /// Bytes copied to the byte table, of strings, user-defined values, floats and new names: as many as it then holds.
+    pub copied: u64,
+    /// Bytes compared in searches for names. A name that is written out is compared with each symbol of its length so far, in
+    /// the order of nodes, up to and including the first difference, and the search ends at the symbol of that name. A link
+    /// to a name compares nothing.
+    pub compared: u64,
 }
 
 /// A node's number: nodes count from 0 in the order in which they were added.

@@ -1,5 +1,5 @@
 //! Tables on the heap.
-use crate::{load, Arena, Builder, Lists, Refusal, Slice, Tables, NODE_WORDS};
+use crate::{load, load_measured, Arena, Builder, Lists, Measures, Refusal, Slice, Tables, NODE_WORDS};
 use alloc::vec;
 use alloc::vec::Vec;
 use core::fmt;
@@ -41,6 +41,12 @@ impl OwnedTables {
     pub fn load(&mut self, input: &[u8], limit: u32) -> Result<Arena<'_>, Refusal> {
         let (tables, lists) = self.lend();
         load(input, tables, lists, limit)
+    }
+
+    /// [`load_measured`] into these tables.
+    pub fn load_measured(&mut self, input: &[u8], limit: u32) -> Result<(Arena<'_>, Measures), Refusal> {
+        let (tables, lists) = self.lend();
+        load_measured(input, tables, lists, limit)
     }
 
     /// An arena that holds nil, to be added to.

@@ -6,7 +6,8 @@ mod common;
 
 use common::{corpus, junk, junk_bytes, numbers, padded, Case, Json, LATER};
 use ruby_marshal_tables::{
-    calls, load_prefix, Arena, Builder, Counts, Handle, Lists, Node, OwnedTables, Refusal, Slice, Tables, Value, MAX_LIMIT,
+    calls, load_measured, load_prefix, Arena, Builder, Counts, Handle, Lists, Measures, Node, OwnedTables, Refusal, Slice,
+    Tables, Value, MAX_LIMIT,
 };
 
 // The limit of the programs, under which the corpus has its answers.
@@ -14,20 +15,28 @@ const LIMIT: u32 = 64;
 
 // ---- load
 
-// Every lent entry is junk before the call. Whether the input is in dump form; None where it is refused.
+// The three tables and the two lists of a load.
+type Lent = (Vec<u32>, Vec<u32>, Vec<u8>, Vec<u32>, Vec<u32>);
+
+// Every lent entry is junk before the call.
+fn lent_junk([nodes, references, bytes, symbols, objects]: [usize; 5]) -> Lent {
+    (junk(nodes), junk(references), junk_bytes(bytes), junk(symbols), junk(objects))
+}
+
+// Whether the input is in dump form; None where it is refused.
 fn load_case(case: &Case) -> Option<bool> {
     let input = case.bytes("in");
     let sizes: Vec<usize> = case.field("sizes").words().iter().map(|&n| n as usize).collect();
-    let [node_words, references, bytes, symbols, objects] = sizes[..] else { panic!("five sizes") };
-    let before = (junk(node_words), junk(references), junk_bytes(bytes), junk(symbols), junk(objects));
-    let mut lent = before.clone();
+    let sizes: [usize; 5] = sizes.try_into().expect("five sizes");
+    let mut lent = lent_junk(sizes);
     let (n, r, b, s, o) = (&mut lent.0, &mut lent.1, &mut lent.2, &mut lent.3, &mut lent.4);
     let loaded = calls::load(&input, n, r, b, s, o, case.limit());
     assert_eq!(numbers(&loaded.answer), case.answer(), "{}", case.id());
     assert_eq!((loaded.counts, loaded.used), (case.counts("counts"), case.size("used")), "{}", case.id());
     assert!(!case.has("dump_form") || loaded.dump_form == (case.size("dump_form") == 1), "{}: dump form", case.id());
+    let [node_words, references, bytes, symbols, objects] = sizes;
     let after = if case.answer().0 == 1 {
-        before
+        lent_junk(sizes)
     } else {
         let tables = (case.words("nodes"), case.words("refs"), case.bytes("bytes"));
         (
@@ -39,8 +48,9 @@ fn load_case(case: &Case) -> Option<bool> {
         )
     };
     assert!(lent == after, "{}: tables", case.id());
+    measured_agrees(case, sizes, &loaded, &after);
 
-    let mut again = (junk(node_words), junk(references), junk_bytes(bytes), junk(symbols), junk(objects));
+    let mut again = lent_junk(sizes);
     let tables = Tables { nodes: &mut again.0, references: &mut again.1, bytes: &mut again.2 };
     let lists = Lists { symbols: &mut again.3, objects: &mut again.4 };
     match load_prefix(&input, tables, lists, case.limit()) {
@@ -56,6 +66,33 @@ fn load_case(case: &Case) -> Option<bool> {
             assert_eq!((Err(refusal), false), (loaded.answer, loaded.dump_form), "{}", case.id());
             None
         }
+    }
+}
+
+// load_measured answers and leaves what load does, and the two counts; what is copied is the byte count, unless it is refused.
+fn measured_agrees(case: &Case, sizes: [usize; 5], loaded: &calls::Loaded, after: &Lent) {
+    let input = case.bytes("in");
+    let mut lent = lent_junk(sizes);
+    let (n, r, b, s, o) = (&mut lent.0, &mut lent.1, &mut lent.2, &mut lent.3, &mut lent.4);
+    let measured = calls::load_measured(&input, n, r, b, s, o, case.limit());
+    assert_eq!(measured.load, *loaded, "{}: measured", case.id());
+    assert!(lent == *after, "{}: tables, measured", case.id());
+    let Measures { copied, compared } = measured.measures;
+    assert_eq!(copied, loaded.answer.map_or(0, |()| loaded.counts.bytes as u64), "{}: copied", case.id());
+    assert!(loaded.answer.is_ok() || compared == 0, "{}: compared", case.id());
+    if case.has("copied") {
+        assert_eq!((copied, compared), (case.size("copied") as u64, case.size("compared") as u64), "{}: measures", case.id());
+    }
+
+    let mut again = lent_junk(sizes);
+    let tables = Tables { nodes: &mut again.0, references: &mut again.1, bytes: &mut again.2 };
+    let lists = Lists { symbols: &mut again.3, objects: &mut again.4 };
+    match load_measured(&input, tables, lists, case.limit()) {
+        Ok((arena, measures)) => {
+            assert_eq!((Ok(()), arena.counts(), measures), (loaded.answer, loaded.counts, measured.measures), "{}", case.id());
+            assert_eq!(arena.dump_form(), loaded.dump_form, "{}", case.id());
+        }
+        Err(refusal) => assert_eq!(Err(refusal), loaded.answer, "{}", case.id()),
     }
 }
 
@@ -168,6 +205,9 @@ fn huge_case(case: &Case) -> Option<()> {
     let loaded = calls::load(&input, &mut nodes, &mut references, &mut bytes, &mut symbols, &mut objects, case.limit());
     assert_eq!(numbers(&loaded.answer), case.answer(), "{}", case.id());
     assert_eq!((loaded.counts, loaded.used, loaded.dump_form), (Counts::default(), 0, false), "{}", case.id());
+    let measured =
+        calls::load_measured(&input, &mut nodes, &mut references, &mut bytes, &mut symbols, &mut objects, case.limit());
+    assert_eq!((measured.load, measured.measures), (loaded, Measures::default()), "{}", case.id());
     Some(())
 }
 

@@ -2,7 +2,7 @@
 mod common;
 
 use common::{junk, junk_bytes};
-use ruby_marshal_tables::{calls, Arena, Builder, Counts, Lists, Refusal, Slice, Tables};
+use ruby_marshal_tables::{calls, Arena, Builder, Counts, Lists, Measures, Refusal, Slice, Tables};
 
 const INPUT: &[u8] = b"\x04\x08[\x07:\x06a\"\x06b";
 const COUNTS: Counts = Counts { nodes: 1, references: 0, bytes: 0, root: 0 };
@@ -39,6 +39,12 @@ fn load_into_every_length() {
                     let mut lent = before.clone();
                     let (n, r, b, s, o) = (&mut lent.0, &mut lent.1, &mut lent.2, &mut lent.3, &mut lent.4);
                     let loaded = calls::load(INPUT, n, r, b, s, o, 2);
+                    let mut other = before.clone();
+                    let (n, r, b, s, o) = (&mut other.0, &mut other.1, &mut other.2, &mut other.3, &mut other.4);
+                    let measured = calls::load_measured(INPUT, n, r, b, s, o, 2);
+                    let copied = if loaded.answer.is_ok() { 2 } else { 0 };
+                    assert_eq!((measured.load, measured.measures), (loaded, Measures { copied, compared: 0 }));
+                    assert!(other == lent);
                     calls_made += 1;
                     assert_eq!(loaded.dump_form, loaded.answer.is_ok());
                     if wrong_nodes(nodes) {

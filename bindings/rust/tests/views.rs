@@ -4,8 +4,8 @@ mod common;
 
 use common::numbers;
 use ruby_marshal_tables::{
-    calls, load, load_prefix, Arena, Builder, Counts, Fault, Handle, Kind, Lists, Node, OwnedTables, Refusal, Slice, Tables,
-    Value, MAX_LIMIT, NODE_WORDS,
+    calls, load, load_prefix, Arena, Builder, Counts, Fault, Handle, Kind, Lists, Measures, Node, OwnedTables, Refusal, Slice,
+    Tables, Value, MAX_LIMIT, NODE_WORDS,
 };
 use std::error::Error;
 
@@ -131,6 +131,35 @@ fn dump_form() {
     }
     let mut tables = OwnedTables::new(1, 0, 0);
     assert!(tables.builder().is_ok_and(|builder| !builder.arena().dump_form()));
+}
+
+// What the measuring load counts beside an arena that is load's; a refusal is load's.
+#[test]
+fn measures() {
+    let cases: &[(&[u8], u64, u64)] = &[
+        (b"\x04\x08[\x07:\x06a:\x06a", 1, 1),
+        (b"\x04\x08[\x07:\x06a:\x06b", 2, 1),
+        (b"\x04\x08[\x07:\x06a:\x07ab", 3, 0),
+        (b"\x04\x08[\x08:\x06a:\x06a:\x06a", 1, 2),
+        (b"\x04\x08[\x08:\x07ab:\x07ac:\x07ac", 4, 6),
+        (b"\x04\x08[\x07\"\x06a:\x06a", 2, 0),
+        (b"\x04\x08[\x07:\x00:\x00", 0, 0),
+        // a name by link, and names of objects and variables
+        (b"\x04\x08[\x08:\x07ab:\x07ac;\x06", 4, 2),
+        (b"\x04\x08o:\x06a\x06:\x06bu:\x06b\x06x", 3, 3),
+        // each of its length before it, with an empty name and a longer one between
+        (b"\x04\x08[\x0a:\x08abc:\x00:\x08abd:\x09abcd:\x08xbd", 13, 5),
+    ];
+    for &(input, copied, compared) in cases {
+        let mut tables = OwnedTables::for_input(input.len());
+        let (arena, measures) = tables.load_measured(input, MAX_LIMIT).unwrap();
+        assert_eq!(measures, Measures { copied, compared }, "{input:02X?}");
+        let (counts, form) = (arena.counts(), arena.dump_form());
+        let arena = tables.load(input, MAX_LIMIT).unwrap();
+        assert_eq!((arena.counts(), arena.dump_form(), arena.counts().bytes as u64), (counts, form, copied), "{input:02X?}");
+    }
+    let mut tables = OwnedTables::for_input(1);
+    assert_eq!(tables.load_measured(b"\x04", MAX_LIMIT).map(|_| ()), Err(Refusal::ShortInput));
 }
 
 // A walk that guards itself by handle meets each node once, also where an array is its own member.

@@ -1,4 +1,4 @@
--- The arena: lent tables and counts, what they hold, and when they are well formed (01, "The arena"; 02, 2.1).
+-- The arena: lent tables and counts, what they hold, and when they are well formed (01, "The arena"; 02, 2.1 and 2.3).
 use Prim.Native.Nat.{ℕ, zero, suc, _+_, _-_, _*_, _/_, _%_}
 use mathlib.Core.Bool.{Bool, true, false, not, _&&_, _||_}
 use mathlib.Core.List.{List, [], _∷_, _++_}
@@ -169,3 +169,20 @@ named bytes name r = eqb (kind r) 3 && equal name (name-of bytes r)
 unfoldable pub find-symbol : List ℕ → List ℕ → List Row → ℕ → Option ℕ
 find-symbol bytes name [] i = none
 find-symbol bytes name (r ∷ rs) i = pick (named bytes name r) (some i) (find-symbol bytes name rs (suc i))
+
+-- ---- bytes compared in a search
+
+-- of two byte strings: "up to and including the first difference"
+unfoldable pub bytes-compared : List ℕ → List ℕ → ℕ
+bytes-compared [] ys = 0
+bytes-compared (x ∷ xs) [] = 0
+bytes-compared (x ∷ xs) (y ∷ ys) = suc (pick (eqb x y) (bytes-compared xs ys) 0)
+
+-- of a name and a node's, if that is a "symbol node of its length"
+unfoldable pub compared-with : List ℕ → List ℕ → Row → ℕ
+compared-with bytes name r = pick (eqb (kind r) 3 && eqb (length name) (length (name-of bytes r))) (bytes-compared name (name-of bytes r)) 0
+
+-- "with every symbol node .. from the lowest to its match or the last"
+unfoldable pub compared-among : List ℕ → List ℕ → List Row → ℕ
+compared-among bytes name [] = 0
+compared-among bytes name (r ∷ rs) = compared-with bytes name r + pick (named bytes name r) 0 (compared-among bytes name rs)

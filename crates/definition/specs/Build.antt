@@ -1,16 +1,15 @@
 -- The getters and the builder: the answer and all that is lent, as each call leaves it (01, "Builder and listing"; 02, 2.1).
 use Prim.Native.Nat.{ℕ, zero, suc, _+_, _-_, _*_, _/_, _%_}
-use mathlib.Core.Bool.{Bool, true, false, not, _||_}
+use mathlib.Core.Bool.{Bool, not, _||_}
 use mathlib.Core.List.{List, [], _∷_, _++_}
 use mathlib.Core.Option.{Option, none, some}
 use lib.Dec.{ltb, leb, eqb}
 use lib.IntN.{ℤ, pos, negsuc}
 use lib.ListN.{length, getD, take, drop, replicate}
 use lib.Seq.{sets}
-use Rattle.definition.specs.Run.{Run, Outcome, ok, refused, pure, refuse, next, _>>=_, look, pick}
-use Rattle.definition.specs.Node.{Row, Vars, nil, bool, fixnum, symbol, array, hash, object, string, user, float, absent, present, width, words}
-use Rattle.definition.specs.Arena.{Tables, Arena, arena, node, firsts, is-name, too-long, bad-nodes, lowest, allowed, fault, sound, zeroed, find-symbol}
-use Rattle.definition.specs.declared.Answer.{Answer}
+use Rattle.definition.specs.Run.{Run, Outcome, ok, refused, pure, refuse, _>>=_, look, pick}
+use Rattle.definition.specs.Node.{Row, nil, bool, fixnum, symbol, array, hash, object, string, user, float, absent, width, words}
+use Rattle.definition.specs.Arena.{Tables, Arena, arena, firsts, is-name, too-long, bad-nodes, lowest, allowed, fault, sound, zeroed, find-symbol}
 use Rattle.definition.specs.declared.Answer.the-variants.{Accepted, Refused}
 use Rattle.definition.specs.declared.Begun.{Begun}
 use Rattle.definition.specs.declared.Counts.{Counts}

@@ -1,6 +1,5 @@
 -- The Marshal integer: its bytes and its 32 bits, as a word below 2^32 in two's complement (01, "Integer" and "dump").
 use Prim.Native.Nat.{ℕ, zero, suc, _+_, _-_, _*_, _/_, _%_, _^_}
-use mathlib.Core.Bool.{Bool, true, false}
 use mathlib.Core.List.{List, [], _∷_}
 use lib.Count.{leadingZeros}
 use lib.Dec.{ltb, leb, eqb}

@@ -13,3 +13,4 @@ pub mod Graph
 pub mod Starred
 pub mod Floats
 pub mod DumpForm
+pub mod Measured

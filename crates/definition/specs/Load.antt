@@ -1,4 +1,4 @@
--- What load answers and what it leaves in the tables: a reader over growing lists (01, "load"; 02, 2.1 and 2.2).
+-- What load answers and what it leaves in the tables: a reader over growing lists (01, "load"; 02, 2.1 to 2.3).
 use Prim.Native.Nat.{ℕ, zero, suc, _+_, _-_, _*_, _/_}
 use mathlib.Core.Bool.{Bool, true, false, _&&_, _||_}
 use mathlib.Core.List.{List, [], _∷_, _++_}
@@ -9,10 +9,11 @@ use Rattle.definition.specs.Run.{Run, Outcome, ok, refused, pure, refuse
 use Rattle.definition.specs.Integer.{Form, value as form-value, data-bytes, form, little, integer-bytes}
 use Rattle.definition.specs.Kind.{NIL, TRUE, FALSE, FIXNUM, SYMBOL, SYMBOL-LINK, OBJECT-LINK, INSTANCE-VARIABLES, ARRAY, HASH, HASH-DEFAULT, OBJECT, STRING, USER-DEFINED, FLOAT}
 use Rattle.definition.specs.Node.{Row, nil, bool, fixnum, symbol, array, hash, object, string, user, float, absent, present, width, flat, equal}
-use Rattle.definition.specs.Arena.{range, too-long, bad-nodes, lowest, padded, zeroed, find-symbol}
+use Rattle.definition.specs.Arena.{range, too-long, bad-nodes, lowest, padded, zeroed, find-symbol, compared-among}
 use Rattle.definition.specs.declared.Answer.the-variants.{Accepted, Refused}
 use Rattle.definition.specs.declared.Counts.{Counts}
 use Rattle.definition.specs.declared.Loaded.{Loaded}
+use Rattle.definition.specs.declared.Measured.{Measured}
 use Rattle.definition.specs.declared.Refusal.{Refusal}
 use Rattle.definition.specs.declared.Refusal.the-variants.{BadTables, InvalidVersion, ShortInput, InvalidKind, NegativeCount, MissingSymbol, MissingObject, NotASymbol, NotAnObject, TooDeep, NoSpace}
 
@@ -24,9 +25,11 @@ pub record Room : Type 0 where
   pub symbols : ℕ
   pub objects : ℕ
 
--- what load notes that no table holds: is all that was read so far as dump writes it?
+-- what load notes that no table holds: is all that was read so far as dump writes it; how many bytes were copied to the byte table, and how many compared
 pub record Notes : Type 0 where
   pub form : Bool
+  pub copied : ℕ
+  pub compared : ℕ
 
 -- the offset in the input, what the tables and lists hold so far, and what is noted
 pub record State : Type 0 where
@@ -64,14 +67,25 @@ objects-set x s = record { at = s .at; nodes = s .nodes; references = s .referen
 abbrev pub notes-set : Notes → State → State
 notes-set x s = record { at = s .at; nodes = s .nodes; references = s .references; bytes = s .bytes; symbols = s .symbols; objects = s .objects; notes = x }
 
--- ---- dump form
+-- ---- what is noted
 
 -- as dump writes it so far, if the test holds too
 abbrev pub noted : Bool → State → State
-noted b s = notes-set (record { form = b && s .notes .form }) s
+noted b s = notes-set (record { form = b && s .notes .form; copied = s .notes .copied; compared = s .notes .compared }) s
 
 unfoldable pub note : Bool → Reader (Unit {0})
 note b s = ok tt (noted b s)
+
+-- n bytes more are copied
+abbrev pub copied-more : ℕ → State → State
+copied-more n s = notes-set (record { form = s .notes .form; copied = s .notes .copied + n; compared = s .notes .compared }) s
+
+-- n bytes more are compared
+abbrev pub compared-more : ℕ → State → State
+compared-more n s = notes-set (record { form = s .notes .form; copied = s .notes .copied; compared = s .notes .compared + n }) s
+
+unfoldable pub compare : ℕ → Reader (Unit {0})
+compare n s = ok tt (compared-more n s)
 
 -- ---- the input
 
@@ -118,9 +132,9 @@ add-node room r s = pick (ltb (length (s .nodes)) (room .nodes)) (ok (length (s 
 unfoldable pub reserve : Room → ℕ → Reader ℕ
 reserve room n s = pick (leb n (room .references - length (s .references))) (ok (length (s .references)) (references-set (s .references ++ replicate n 0) s)) (refused (NoSpace 2))
 
--- bytes, and where they start
+-- bytes, and where they start; they are copied
 unfoldable pub add-bytes : Room → List ℕ → Reader ℕ
-add-bytes room bs s = pick (leb (length bs) (room .bytes - length (s .bytes))) (ok (length (s .bytes)) (bytes-set (s .bytes ++ bs) s)) (refused (NoSpace 3))
+add-bytes room bs s = pick (leb (length bs) (room .bytes - length (s .bytes))) (ok (length (s .bytes)) (copied-more (length bs) (bytes-set (s .bytes ++ bs) s))) (refused (NoSpace 3))
 
 -- an entry of the symbol list
 unfoldable pub add-symbol : Room → ℕ → Reader ℕ
@@ -149,9 +163,9 @@ unfoldable pub intern-as : Room → List ℕ → Option ℕ → Reader ℕ
 intern-as room name (some h) = note false >>= λ _. pure h
 intern-as room name none = add-bytes room name >>= λ start. add-node room (symbol start (length name))
 
--- a name's node, searched in what there is so far
+-- a name's node, searched in what there is so far; the bytes that the search compares are counted
 unfoldable pub intern : Room → List ℕ → Reader ℕ
-intern room name = look λ s. intern-as room name (find-symbol (s .bytes) name (s .nodes) 0)
+intern room name = look λ s. compare (compared-among (s .bytes) name (s .nodes)) >>= λ _. intern-as room name (find-symbol (s .bytes) name (s .nodes) 0)
 
 -- `:` "byte string, interned; appended to the symbol list each time, repeats too"
 unfoldable pub read-symbol : List ℕ → Room → Reader ℕ
@@ -302,7 +316,7 @@ read-value input room limit (suc levels) = read-byte input >>= λ k. value-of in
 
 -- "Node 0 is nil, the first root, and stays"
 abbrev pub begin : State
-begin = record { at = 0; nodes = nil ∷ []; references = []; bytes = []; symbols = []; objects = []; notes = record { form = true } }
+begin = record { at = 0; nodes = nil ∷ []; references = []; bytes = []; symbols = []; objects = []; notes = record { form = true; copied = 0; compared = 0 } }
 
 -- the header and the root value
 unfoldable pub load : List ℕ → Room → ℕ → Outcome State ℕ
@@ -350,3 +364,28 @@ load-if (suc slice) input T limit = record { answer = record { answer = Refused 
 -- load's whole call
 unfoldable pub load-call : List ℕ → Lists → ℕ → LoadCall
 load-call input T limit = load-if (load-wrong input T limit) input T limit
+
+-- ---- the measuring load
+
+-- its answer, and everything lent as it then stands
+pub record MeasuredCall : Type 0 where
+  pub answer : Measured
+  pub lent : Lists
+
+-- "adds two counts to load's answer": the bytes copied and the bytes compared
+abbrev pub adding : ℕ → ℕ → LoadCall → MeasuredCall
+adding copied compared c = record { answer = record { load = c .answer; copied = copied; compared = compared }; lent = c .lent }
+
+-- "0 when refused"
+unfoldable pub measured-done : Lists → Outcome State ℕ → MeasuredCall
+measured-done T (refused r) = adding 0 0 (load-done T (refused r))
+measured-done T (ok h s) = adding (s .notes .copied) (s .notes .compared) (load-done T (ok h s))
+
+-- and 0 after 1
+unfoldable pub measured-if : ℕ → List ℕ → Lists → ℕ → MeasuredCall
+measured-if zero input T limit = measured-done T (load input (room-of T) limit)
+measured-if (suc slice) input T limit = adding 0 0 (load-if (suc slice) input T limit)
+
+-- the measuring load's whole call
+unfoldable pub measured-call : List ℕ → Lists → ℕ → MeasuredCall
+measured-call input T limit = measured-if (load-wrong input T limit) input T limit

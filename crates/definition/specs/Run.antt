@@ -1,5 +1,4 @@
 -- Work that goes step by step over a state and stops at the first refusal.
-use Prim.Native.Nat.{ℕ}
 use mathlib.Core.Bool.{Bool, true, false}
 use Rattle.definition.specs.declared.Refusal.{Refusal}
 

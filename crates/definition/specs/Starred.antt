@@ -61,7 +61,7 @@ result c Accepted = dumped (take (c .answer .counts .nodes * N.width) (c .lent .
 result c (Refused r) = not-loaded (numbers r)
 
 call : List ℕ → L.LoadCall
-unfolding lent L.load-call L.load-if L.load-done L.load-wrong L.room-of L.load L.read-header L.read-value L.value-of L.read-variables L.set-variables L.read-float L.read-user-defined L.read-string L.read-text L.read-object L.read-hash L.read-default L.read-array L.read-fixnum L.read-instance-variables L.read-pairs L.read-elements L.counted L.read-symbol-like L.head L.read-object-link L.read-symbol-link L.entry L.read-symbol L.intern L.intern-as L.put-reference L.fill L.add-object-node L.add-object L.add-symbol L.add-bytes L.reserve L.add-node L.read-byte-string L.read-count L.read-integer L.read-form L.tell L.read-bytes L.read-byte L.takes-variables L.note A.find-symbol A.named A.name-of A.lowest A.bad-nodes A.too-long A.range A.zeroed A.padded N.equal N.flat N.words N.kind form little integer-bytes low-bytes fewest leadingZeros pure refuse next _>>=_ look pick
+unfolding lent L.load-call L.load-if L.load-done L.load-wrong L.room-of L.load L.read-header L.read-value L.value-of L.read-variables L.set-variables L.read-float L.read-user-defined L.read-string L.read-text L.read-object L.read-hash L.read-default L.read-array L.read-fixnum L.read-instance-variables L.read-pairs L.read-elements L.counted L.read-symbol-like L.head L.read-object-link L.read-symbol-link L.entry L.read-symbol L.intern L.intern-as L.put-reference L.fill L.add-object-node L.add-object L.add-symbol L.add-bytes L.reserve L.add-node L.read-byte-string L.read-count L.read-integer L.read-form L.tell L.read-bytes L.read-byte L.takes-variables L.compare L.note A.compared-among A.compared-with A.bytes-compared A.find-symbol A.named A.name-of A.lowest A.bad-nodes A.too-long A.range A.zeroed A.padded N.equal N.flat N.words N.kind form little integer-bytes low-bytes fewest leadingZeros pure refuse next _>>=_ look pick
 call input = L.load-call input lent 64
 
 unfoldable pub load-and-dump : List ℕ → Result
@@ -72,6 +72,14 @@ load-and-dump input = result (call input) (call input .answer .answer)
 unfoldable pub in-dump-form : List ℕ → Bool
 unfolding call
 in-dump-form input = call input .answer .form
+
+-- the two counts that the measuring load adds
+unfoldable pub measures : List ℕ → ℕ × ℕ
+unfolding call L.measured-call L.measured-if L.measured-done
+measures input = (measured input .answer .copied, measured input .answer .compared)
+  where
+    measured : List ℕ → L.MeasuredCall
+    measured input = L.measured-call input lent 64
 
 abbrev outcomes : List (List ℕ × Result)
 outcomes =

@@ -142,6 +142,13 @@ pub struct Loaded {
     pub form: bool,
 }
 
+// load_measured: what load answers, the bytes copied to the byte table, and the bytes compared in searches for names.
+pub struct Measured {
+    pub load: Loaded,
+    pub copied: u64,
+    pub compared: u64,
+}
+
 // A reader's byte, header or integer: its value, for the header 0, the offset then, and whether dump writes these bytes.
 pub struct Taken {
     pub answer: Answer,

@@ -7,3 +7,4 @@ pub mod Integers
 pub mod Rows
 pub mod Tables
 pub mod Slices
+pub mod Compared

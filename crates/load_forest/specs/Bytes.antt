@@ -23,7 +23,7 @@ use Rattle.graph.specs.Forest.{Texted, text-string, text-float}
 use Rattle.graph.specs.View.{text-row}
 use Rattle.load_forest.specs.Trace.{Mode, Part, Plain, plain-nil, plain-true, plain-false, plain-fixnum, Trace, reading, plain, known, new, symbol-link, object-link, list, hash-default, object-pairs, text-bytes, user-bytes, stored, variables, no-elements, element, no-pairs, pair}
 use Rattle.load_forest.specs.Readers.{load-traced, read-byte-then, read-bytes-then}
-use Rattle.states.specs.States.{read-to, with-node, with-symbol, with-object-node, with-bytes, with-word, with-row, with-room}
+use Rattle.states.specs.States.{read-to, sought, with-node, with-symbol, with-object-node, with-bytes, with-word, with-row, with-room}
 use Rattle.states.specs.Rows.{list-length, Listed, is-array, is-hash, Varied, varied-string, varied-user}
 
 pub part-bytes : (input b : List ℕ) → Below 256 input → Part input b → Below 256 b
@@ -143,7 +143,7 @@ small-opened r s h x = small-same (with-node r s) (with-object-node r s) refl re
 small : {input : List ℕ} {room : Room} {l : ℕ} {m : Mode} {p : List ℕ} {s t : State} {vs : List ℕ} → Trace input room l m p s vs t → Below 256 input → Small s → Small t
 small {s = s} (reading k n a x) h y = small x h (small-same s (read-to k n s) refl refl y)
 small {s = s} (plain r p l) h y = small-node r s (plain-small h r p) y
-small {s = s} (known b v o a l) h y = small-same s (with-symbol v (noted false s)) refl refl y
+small {s = s} (known b v o a l) h y = small-same s (with-symbol v (noted false (sought b s))) refl refl y
 small {input = input} {s = s} {t = t} (new b e o n p l₁ l₂ l₃) h y =
     let r = symbol (length (s .bytes)) (length b) in
     small-same (with-node r (with-bytes b s)) t refl refl (small-node r (with-bytes b s) (λ w e. apart (cc)) (small-bytes b s (part-bytes input b h p) y))

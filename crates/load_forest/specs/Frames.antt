@@ -2,21 +2,21 @@
 use Prim.Native.Nat.{ℕ, suc, _+_, _*_, _≤_}
 use mathlib.Core.Path.{_≡_, subst}
 use mathlib.Core.Path.{sym as psym}
-use mathlib.Core.Bool.{false}
+use mathlib.Core.Bool.{Bool, false}
 use mathlib.Core.Logic.{inl}
 use mathlib.Core.List.{List, [], _∷_}
 use lib.ListN.{length, set, replicate, length-append, length-set, length-replicate}
 use native.Mathlib.Omega.{arith}
 use Rattle.definition.specs.Node.{Row, nil, hash, object, user, absent}
 use Rattle.definition.specs.Arena.{range}
-use Rattle.definition.specs.Load.{State, Notes, Room, noted}
+use Rattle.definition.specs.Load.{State, Room, noted}
 use Rattle.lists.specs.Lists.{At}
 use Rattle.lists.specs.Ranges.{range-none}
 use Rattle.graph.specs.Forest.{Texted}
 use Rattle.graph.specs.View.{text-row}
 use Rattle.load_forest.specs.Trace.{Mode, value, text, name, elements, pairs, One, as-value, as-name, Plain, plain-nil, plain-true, plain-false, plain-fixnum, Inner, inner-text, inner-value, Trace, reading, plain, known, new, symbol-link, object-link, list, hash-default, object-pairs, text-bytes, user-bytes, stored, variables, no-elements, element, no-pairs, pair}
 use Rattle.states.specs.Rows.{list-length, Listed, Varied}
-use Rattle.states.specs.States.{read-to, ranged-stored, frame-stored, Inside, Ranged, Free, Above, Frame, with-node, with-symbol, with-object-node, with-bytes, with-word, with-row, ranged-node, ranged-row, ranged-words, ranged-word, inside-nil, inside-bool, inside-fixnum, frame-refl, frame-trans, frame-below, frame-read-to, frame-symbol, frame-words, frame-word, frame-node, frame-row, free-new, free-part, range-written, with-room, inside-text, inside-user, inside-listed, inside-hash, inside-object, inside-varied, opened-ranged, above-nil, above-text, above-user, above-listed, above-hash, above-object, above-varied, with-new-symbol, ranged-new-symbol, above-bool, above-fixnum, frame-new-symbol, frame-opened}
+use Rattle.states.specs.States.{read-to, sought, ranged-stored, frame-stored, Inside, Ranged, Free, Above, Frame, with-node, with-symbol, with-object-node, with-bytes, with-word, with-row, ranged-node, ranged-row, ranged-words, ranged-word, inside-nil, inside-bool, inside-fixnum, frame-refl, frame-trans, frame-below, frame-read-to, frame-sought, frame-symbol, frame-words, frame-word, frame-node, frame-row, free-new, free-part, range-written, with-room, inside-text, inside-user, inside-listed, inside-hash, inside-object, inside-varied, opened-ranged, above-nil, above-text, above-user, above-listed, above-hash, above-object, above-varied, with-new-symbol, ranged-new-symbol, above-bool, above-fixnum, frame-new-symbol, frame-opened}
 
 -- the word from which on a read may write, where n words are used so far
 abbrev pub from : Mode → ℕ → ℕ
@@ -96,17 +96,17 @@ above-plain p r (plain-fixnum w u t e) = above-fixnum p w
 
 -- ---- the steps
 
-pub ready-reading : (m : Mode) (s : State) (k : ℕ) (n : Notes) → Ready m s → Ready m (read-to k n s)
+pub ready-reading : (m : Mode) (s : State) (k : ℕ) (n : Bool) → Ready m s → Ready m (read-to k n s)
 ready-reading m s k n h = record { ranged = h .ranged; fits = h .fits; free = h .free }
 
-left-reading : (m : Mode) (s t : State) (vs : List ℕ) (k : ℕ) (n : Notes) → Left m (read-to k n s) vs t → Left m s vs t
+left-reading : (m : Mode) (s t : State) (vs : List ℕ) (k : ℕ) (n : Bool) → Left m (read-to k n s) vs t → Left m s vs t
 left-reading m s t vs k n h = record { ranged = h .ranged; frame = frame-trans (frame-read-to (from m (length (s .references))) k n s) (h .frame); words = h .words }
 
 -- a name or a value was read, and then more of the input
-left-then : (s t : State) (vs : List ℕ) (k : ℕ) (n : Notes) → Left name s vs t → Left name s vs (read-to k n t)
+left-then : (s t : State) (vs : List ℕ) (k : ℕ) (n : Bool) → Left name s vs t → Left name s vs (read-to k n t)
 left-then s t vs k n h = record { ranged = h .ranged; frame = frame-trans (h .frame) (frame-read-to (length (s .references)) k n t); words = tt }
 
-left-inner : {m : Mode} (s t : State) (vs : List ℕ) (k : ℕ) (n : Notes) → Inner t m → Left m s vs t → Left value s vs (read-to k n t)
+left-inner : {m : Mode} (s t : State) (vs : List ℕ) (k : ℕ) (n : Bool) → Inner t m → Left m s vs t → Left value s vs (read-to k n t)
 left-inner s t vs k n inner-text h = record { ranged = h .ranged; frame = frame-trans (h .frame) (frame-read-to (length (s .references)) k n t); words = tt }
 left-inner s t vs k n (inner-value o) h = record { ranged = h .ranged; frame = frame-trans (h .frame) (frame-read-to (length (s .references)) k n t); words = tt }
 
@@ -117,18 +117,18 @@ one-words : {l : ℕ} {m : Mode} → One l m → (t : State) (vs : List ℕ) →
 one-words as-value t vs = tt
 one-words as-name t vs = tt
 
-left-known : {l : ℕ} (m : Mode) → One l m → (s : State) (h : ℕ) (vs : List ℕ) → Ready m s → Left m s vs (with-symbol h (noted false s))
-left-known m o s h vs x = record {
+left-known : {l : ℕ} (m : Mode) → One l m → (s : State) (b : List ℕ) (h : ℕ) (vs : List ℕ) → Ready m s → Left m s vs (with-symbol h (noted false (sought b s)))
+left-known m o s b h vs x = record {
   ranged = x .ranged;
-  frame = frame-trans (frame-read-to _ (s .at) _ s) (frame-symbol _ h (noted false s));
-  words = one-words o (with-symbol h (noted false s)) vs;
+  frame = frame-trans (frame-sought _ b s) (frame-trans (frame-read-to _ (s .at) _ (sought b s)) (frame-symbol _ h (noted false (sought b s))));
+  words = one-words o (with-symbol h (noted false (sought b s))) vs;
 }
 
-left-new : {l : ℕ} (m : Mode) → One l m → (s : State) (b vs : List ℕ) → Ready m s → Left m s vs (with-new-symbol b s)
+left-new : {l : ℕ} (m : Mode) → One l m → (s : State) (b vs : List ℕ) → Ready m s → Left m s vs (with-new-symbol b (sought b s))
 left-new m o s b vs x = record {
-  ranged = ranged-new-symbol b s (x .ranged);
-  frame = frame-new-symbol _ b s;
-  words = one-words o (with-new-symbol b s) vs;
+  ranged = ranged-new-symbol b (sought b s) (x .ranged);
+  frame = frame-trans (frame-sought _ b s) (frame-new-symbol _ b (sought b s));
+  words = one-words o (with-new-symbol b (sought b s)) vs;
 }
 
 left-same : {l : ℕ} (m : Mode) → One l m → (s : State) (vs : List ℕ) → Ready m s → Left m s vs s
@@ -274,7 +274,7 @@ left-pair n i c v s t u w ns us vs x y₁ y₂ z =
 pub left : {input : List ℕ} {room : Room} {l : ℕ} {m : Mode} {p : List ℕ} {s t : State} {vs : List ℕ} → Trace input room l m p s vs t → Ready m s → Left m s vs t
 left {m = m} {s = s} {t = t} {vs = vs} (reading k n a x) h = left-reading m s t vs k n (left x (ready-reading m s k n h))
 left {s = s} {vs = vs} (plain r p l) h = left-plain s r vs p h
-left {m = m} {s = s} {vs = vs} (known b v o a l) h = left-known m o s v vs h
+left {m = m} {s = s} {vs = vs} (known b v o a l) h = left-known m o s b v vs h
 left {m = m} {s = s} {vs = vs} (new b e o n p l₁ l₂ l₃) h = left-new m o s b vs h
 left {m = m} {s = s} {vs = vs} (symbol-link i v e o a) h = left-same m o s vs h
 left {l = l} {s = s} {vs = vs} (object-link i v e a) h = left-same {l = l} value as-value s vs h

@@ -9,7 +9,7 @@ use Rattle.definition.specs.Node.{Row, nil, bool, fixnum, symbol, array, hash, 
 use Rattle.definition.specs.Load.{State, Room, noted}
 use Rattle.lists.specs.Lists.{At, at-set-other}
 use Rattle.graph.specs.View.{text-row}
-use Rattle.states.specs.States.{read-to, Keeps, keeps-refl, keeps-trans, keeps-node, keeps-object-node, keeps-row, with-node, with-symbol, with-object-node, with-word, with-row, with-room}
+use Rattle.states.specs.States.{read-to, sought, Keeps, keeps-refl, keeps-trans, keeps-node, keeps-object-node, keeps-row, with-node, with-symbol, with-object-node, with-word, with-row, with-room}
 use Rattle.load_forest.specs.Trace.{Mode, Trace, reading, plain, known, new, symbol-link, object-link, list, hash-default, object-pairs, text-bytes, user-bytes, stored, variables, no-elements, element, no-pairs, pair}
 use Rattle.states.specs.Rows.{list-length, Varied, varied-string, varied-user}
 
@@ -45,7 +45,7 @@ kept-varied h r r′ t a v = record {
 pub kept : {input : List ℕ} {room : Room} {l : ℕ} {m : Mode} {p : List ℕ} {s t : State} {vs : List ℕ} → Trace input room l m p s vs t → Kept s t
 kept {s = s} (reading k n a x) = keeps-trans (keeps-refl s (read-to k n s) refl) (kept x)
 kept {s = s} (plain r p l) = keeps-node r s
-kept {s = s} (known b h o a l) = keeps-refl s (with-symbol h (noted false s)) refl
+kept {s = s} (known b h o a l) = keeps-refl s (with-symbol h (noted false (sought b s))) refl
 kept {s = s} {t = t} (new b e o n p l₁ l₂ l₃) = keeps-trans (keeps-node (symbol (length (s .bytes)) (length b)) s) (keeps-refl (with-node (symbol (length (s .bytes)) (length b)) s) t refl)
 kept {s = s} (symbol-link i h e o a) = keeps-refl s s refl
 kept {s = s} (object-link i h e a) = keeps-refl s s refl

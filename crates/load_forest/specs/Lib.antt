@@ -10,3 +10,4 @@ pub mod Right
 pub mod Space
 pub mod Names
 pub mod Call
+pub mod Measured

@@ -17,7 +17,7 @@ use Rattle.definition.specs.Kind.{NIL, TRUE, FALSE, FIXNUM, SYMBOL, SYMBOL-LINK
 use Rattle.definition.specs.Node.{Row, nil, bool, fixnum, symbol, array, hash, object, string, user, float, absent, present, equal}
 use Rattle.definition.specs.Arena.{range, find-symbol}
 use Rattle.definition.specs.Load as L
-use Rattle.definition.specs.Load.{State, Notes, Room, Reader, at-set, noted, begin}
+use Rattle.definition.specs.Load.{State, Room, Reader, at-set, noted, begin}
 use Rattle.definition.specs.Dump.{byte-string-bytes}
 use Rattle.lists.specs.Lists.{At, apart, at-getD}
 use Rattle.lists.specs.Ranges.{length-range-in}
@@ -26,7 +26,7 @@ use Rattle.graph.specs.Forest.{Texted, text-string, text-float}
 use Rattle.graph.specs.View.{text-row}
 use Rattle.load_forest.specs.Trace.{Spelt, Read, spelt-join, Mode, value, text, name, elements, pairs, One, as-value, as-name, Part, Plain, plain-nil, plain-true, plain-false, plain-fixnum, Inner, inner-text, inner-value, Trace, reading, plain, known, new, symbol-link, object-link, list, hash-default, object-pairs, text-bytes, user-bytes, stored, variables, no-elements, element, no-pairs, pair, forwards}
 use Rattle.states.specs.Rows.{list-length, is-array, is-hash, Varied, varied-string, varied-user}
-use Rattle.states.specs.States.{read-to, with-node, with-object, with-symbol, with-object-node, with-bytes, with-word, with-row, with-room}
+use Rattle.states.specs.States.{read-to, sought, with-node, with-object, with-symbol, with-object-node, with-bytes, with-word, with-row, with-room}
 use Rattle.states.specs.Symbols.{found, missed}
 
 -- ---- taking work apart
@@ -120,7 +120,7 @@ and-off : (x y : Bool) → y ≡ false → (x && y) ≡ false
 and-off true y e = e
 and-off false y e = refl
 
-byte-spelt : (input : List ℕ) (s : State) → s .at < length input → Spelt input s (s .at + 1) (s .notes) (getD input (s .at) 0 ∷ [])
+byte-spelt : (input : List ℕ) (s : State) → s .at < length input → Spelt input s (s .at + 1) (s .notes .form) (getD input (s .at) 0 ∷ [])
 byte-spelt input s l = record {
   on = omega arith;
   inside = λ h. omega arith;
@@ -128,7 +128,7 @@ byte-spelt input s l = record {
   text = λ f. let z : suc (s .at) ≡ s .at + 1 = omega arith in drop-cons input (s .at) 0 l ∙ ap (λ (k : ℕ). getD input (s .at) 0 ∷ drop k input) z;
 }
 
-bytes-spelt : (input : List ℕ) (n : ℕ) (s : State) → n ≤ length input - s .at → Spelt input s (s .at + n) (s .notes) (range input (s .at) n)
+bytes-spelt : (input : List ℕ) (n : ℕ) (s : State) → n ≤ length input - s .at → Spelt input s (s .at + n) (s .notes .form) (range input (s .at) n)
 unfolding range
 bytes-spelt input n s l = record {
   on = omega arith;
@@ -137,12 +137,12 @@ bytes-spelt input n s l = record {
   text = λ f. psym (take-append-drop n (drop (s .at) input)) ∙ ap (λ (x : List ℕ). range input (s .at) n ++ x) (drop-drop n (s .at) input);
 }
 
--- only the offset and the notes of a state matter; nothing is read
-spelt-before : {input : List ℕ} {s : State} {k : ℕ} {n : Notes} {y : List ℕ} → Spelt input (with-object-node nil s) k n y → Spelt input s k n y
+-- only the offset and the form of a state matter; nothing is read
+spelt-before : {input : List ℕ} {s : State} {k : ℕ} {n : Bool} {y : List ℕ} → Spelt input (with-object-node nil s) k n y → Spelt input s k n y
 spelt-before a = record { on = a .on; inside = a .inside; off = a .off; text = a .text }
 
 -- bytes that are an integer's where they are the ones that dump writes
-told-spelt : {input : List ℕ} {s : State} {k : ℕ} (bs : List ℕ) (w : ℕ) → Spelt input s k (s .notes) bs → Spelt input s k (record { form = equal bs (integer-bytes w) && s .notes .form }) (integer-bytes w)
+told-spelt : {input : List ℕ} {s : State} {k : ℕ} (bs : List ℕ) (w : ℕ) → Spelt input s k (s .notes .form) bs → Spelt input s k (equal bs (integer-bytes w) && s .notes .form) (integer-bytes w)
 told-spelt {input} {s} {k} bs w a = record {
   on = a .on;
   inside = a .inside;
@@ -200,25 +200,25 @@ byte-string-read input s bs u e =
 -- a reader that moves on, then the rest
 read-then : {A B G : Type 0} (input : List ℕ) (f : A → List ℕ) (m : Reader A) (s : State) (c : A → Reader B) (b : B) (t : State) → next (m s) c ≡ ok b t
     → ((w : A) (u : State) → m s ≡ ok w u → Read input f w s u)
-    → ((w : A) (k : ℕ) (n : Notes) → Spelt input s k n (f w) → m s ≡ ok w (read-to k n s) → c w (read-to k n s) ≡ ok b t → G) → G
+    → ((w : A) (k : ℕ) (n : Bool) → Spelt input s k n (f w) → m s ≡ ok w (read-to k n s) → c w (read-to k n s) ≡ ok b t → G) → G
 read-then input f m s c b t e h g =
     un e λ w u e₁ e₂.
     let (k, n, a, q) = h w u e₁ in
     g w k n a (e₁ ∙ ap (ok w) q) (subst (λ (x : State). c w x ≡ ok b t) q e₂)
 
 count-then : {B G : Type 0} (input : List ℕ) (s : State) (c : ℕ → Reader B) (b : B) (t : State) → next (L.read-count input s) c ≡ ok b t
-    → ((w k : ℕ) (n : Notes) → Spelt input s k n (integer-bytes w) → c w (read-to k n s) ≡ ok b t → G) → G
+    → ((w k : ℕ) (n : Bool) → Spelt input s k n (integer-bytes w) → c w (read-to k n s) ≡ ok b t → G) → G
 count-then input s c b t e g = read-then input integer-bytes (L.read-count input) s c b t e (count-read input s) (λ w k n a x y. g w k n a y)
 
 byte-string-then : {B G : Type 0} (input : List ℕ) (s : State) (c : List ℕ → Reader B) (b : B) (t : State) → next (L.read-byte-string input s) c ≡ ok b t
-    → ((bs : List ℕ) (k : ℕ) (n : Notes) → Spelt input s k n (byte-string-bytes bs) → Part input bs → c bs (read-to k n s) ≡ ok b t → G) → G
+    → ((bs : List ℕ) (k : ℕ) (n : Bool) → Spelt input s k n (byte-string-bytes bs) → Part input bs → c bs (read-to k n s) ≡ ok b t → G) → G
 byte-string-then input s c b t e g =
     read-then input byte-string-bytes (L.read-byte-string input) s c b t e (λ w u x. byte-string-read input s w u x .0)
     (λ bs k n a x y. g bs k n a (byte-string-read input s bs (read-to k n s) x .1) y)
 
 -- n entries of so many words: the count is read and the words are reserved
 counted-then : {B G : Type 0} (input : List ℕ) (room : Room) (each : ℕ) (rest : ℕ → ℕ → Reader B) (s : State) (b : B) (t : State) → L.counted input room each rest s ≡ ok b t
-    → ((n k : ℕ) (a : Notes) → Spelt input s k a (integer-bytes n) → n * each ≤ room .references - length (s .references) → rest (length (s .references)) n (with-room (n * each) (read-to k a s)) ≡ ok b t → G) → G
+    → ((n k : ℕ) (a : Bool) → Spelt input s k a (integer-bytes n) → n * each ≤ room .references - length (s .references) → rest (length (s .references)) n (with-room (n * each) (read-to k a s)) ≡ ok b t → G) → G
 unfolding L.counted _>>=_
 counted-then input room each rest s b t e g =
     count-then input s _ b t e λ n k a x e₁.
@@ -293,29 +293,29 @@ module _ (input : List ℕ) (room : Room) where
 
   module _ (l : ℕ) (m : Mode) (one : One l m) where
     known-traced : (p b : List ℕ) (s t : State) (v h : ℕ) → find-symbol (s .bytes) b (s .nodes) 0 ≡ some h
-        → next (L.intern-as room b (some h) s) (L.add-symbol room) ≡ ok v t → Trace input room l m p s (v ∷ []) t
+        → next (L.intern-as room b (some h) (sought b s)) (L.add-symbol room) ≡ ok v t → Trace input room l m p s (v ∷ []) t
     unfolding L.intern-as L.note next pure _>>=_
     known-traced p b s t v h q e =
-        add-symbol-then room h (noted false s) pure v t (last _ _ _ e) λ j e₁.
+        add-symbol-then room h (noted false (sought b s)) pure v t (last _ _ _ e) λ j e₁.
         ended (known b h one (found s b h q) j) e₁
 
     new-traced : (p b : List ℕ) → p ≡ SYMBOL ∷ byte-string-bytes b → Part input b → (s t : State) (v : ℕ) → find-symbol (s .bytes) b (s .nodes) 0 ≡ none
-        → next (L.intern-as room b none s) (L.add-symbol room) ≡ ok v t → Trace input room l m p s (v ∷ []) t
+        → next (L.intern-as room b none (sought b s)) (L.add-symbol room) ≡ ok v t → Trace input room l m p s (v ∷ []) t
     unfolding L.intern-as pure _>>=_
     new-traced p b f x s t v q e =
         un e λ i u e₁ e₂.
-        add-bytes-then room b s _ i u e₁ λ l₁ e₃.
-        add-node-then room _ (with-bytes b s) pure i u (last _ _ _ e₃) λ l₂ e₄.
+        add-bytes-then room b (sought b s) _ i u e₁ λ l₁ e₃.
+        add-node-then room _ (with-bytes b (sought b s)) pure i u (last _ _ _ e₃) λ l₂ e₄.
         add-symbol-then room (length (s .nodes)) _ pure v t (last _ _ _ (onward (L.add-symbol room) e₄ e₂)) λ l₃ e₆.
         ended (new b f one (missed s b q) x l₁ l₂ l₃) e₆
 
     intern-traced : (p b : List ℕ) → p ≡ SYMBOL ∷ byte-string-bytes b → Part input b → (s t : State) (v : ℕ) (x : Option ℕ) → find-symbol (s .bytes) b (s .nodes) 0 ≡ x
-        → next (L.intern-as room b x s) (L.add-symbol room) ≡ ok v t → Trace input room l m p s (v ∷ []) t
+        → next (L.intern-as room b x (sought b s)) (L.add-symbol room) ≡ ok v t → Trace input room l m p s (v ∷ []) t
     intern-traced p b f x s t v (some h) q e = known-traced p b s t v h q e
     intern-traced p b f x s t v none q e = new-traced p b f x s t v q e
 
     symbol-traced : (p : List ℕ) → p ≡ SYMBOL ∷ [] → (s t : State) (v : ℕ) → L.read-symbol input room s ≡ ok v t → Trace input room l m p s (v ∷ []) t
-    unfolding L.read-symbol L.intern look _>>=_
+    unfolding L.read-symbol L.intern L.compare look next _>>=_
     symbol-traced p f s t v e =
         byte-string-then input s _ v t e λ b k n a x e₁.
         reading k n a (intern-traced _ b (kind-more _ f) x (read-to k n s) t v (find-symbol (s .bytes) b (s .nodes) 0) refl e₁)
@@ -343,7 +343,7 @@ module _ (input : List ℕ) (room : Room) where
   unfolding L.read-symbol-like _>>=_ pick
   name-traced {l} s t v e =
       read-byte-then input s _ v t e λ h e₁.
-      reading (s .at + 1) (s .notes) (byte-spelt input s h) (by (eqb (getD input (s .at) 0) _) (eqb (getD input (s .at) 0) _) refl refl _ (at-set (s .at + 1) s) e₁)
+      reading (s .at + 1) (s .notes .form) (byte-spelt input s h) (by (eqb (getD input (s .at) 0) _) (eqb (getD input (s .at) 0) _) refl refl _ (at-set (s .at + 1) s) e₁)
     where
       two : (y : Bool) → eqb (getD input (s .at) 0) SYMBOL-LINK ≡ y → (r : Refusal) (u : State) → pick y (L.read-symbol-link input) (refuse r) u ≡ ok v t → Trace input room l name (getD input (s .at) 0 ∷ []) u (v ∷ []) t
       two y g r u e₁ = picked-reader y (L.read-symbol-link input) r u v t e₁ λ f e₂. symbol-link-traced l name as-name _ (ap (λ (k : ℕ). k ∷ []) (eqb-true _ _ (g ∙ f))) u t v e₂
@@ -388,7 +388,7 @@ module _ (input : List ℕ) (room : Room) where
 
     -- a variable list, then the rest
     instance-variables-then : {A G : Type 0} (rest : ℕ → ℕ → Reader A) (s : State) (b : A) (t : State) → L.read-instance-variables input room f rest s ≡ ok b t
-        → ((n k : ℕ) (a : Notes) (ms : List ℕ) (u : State) → Spelt input s k a (integer-bytes n) → n * 2 ≤ room .references - length (s .references)
+        → ((n k : ℕ) (a : Bool) (ms : List ℕ) (u : State) → Spelt input s k a (integer-bytes n) → n * 2 ≤ room .references - length (s .references)
         → Trace input room l (pairs n (length (s .references))) [] (with-room (n * 2) (read-to k a s)) ms u → rest (length (s .references)) n u ≡ ok b t → G) → G
     unfolding L.read-instance-variables _>>=_
     instance-variables-then rest s b t e g =
@@ -460,7 +460,7 @@ module _ (input : List ℕ) (room : Room) where
 
   -- a byte string is read and stored
   text-then : {G : Type 0} (row : ℕ → ℕ → Row) (s t : State) (v : ℕ) → L.read-text input room row s ≡ ok v t
-      → ((b : List ℕ) (k : ℕ) (n : Notes) → Spelt input s k n (byte-string-bytes b) → Part input b → length b ≤ room .bytes - length (s .bytes) → length (s .nodes) < room .nodes → length (s .objects) < room .objects
+      → ((b : List ℕ) (k : ℕ) (n : Bool) → Spelt input s k n (byte-string-bytes b) → Part input b → length b ≤ room .bytes - length (s .bytes) → length (s .nodes) < room .nodes → length (s .objects) < room .objects
       → ok (length (s .nodes)) (with-object-node (row (length (s .bytes)) (length b)) (with-bytes b (read-to k n s))) ≡ ok v t → G) → G
   unfolding L.read-text _>>=_ pure
   text-then row s t v e g =
@@ -507,8 +507,8 @@ module _ (input : List ℕ) (room : Room) where
   inner-traced f g s u h true q e = (text, inner-text, g .direct s u h e q)
   inner-traced {l} f g s u h false q e =
       let x = g .any (noted false s) u h e in
-      let nothing : Spelt input s (s .at) (record { form = false }) [] = record { on = omega arith; inside = λ j. j; off = λ o. refl; text = λ o. apart (cc) } in
-      (value, inner-value (forwards x .off refl), reading (s .at) (record { form = false }) nothing x)
+      let nothing : Spelt input s (s .at) false [] = record { on = omega arith; inside = λ j. j; off = λ o. refl; text = λ o. apart (cc) } in
+      (value, inner-value (forwards x .off refl), reading (s .at) false nothing x)
 
   variables-traced : {l : ℕ} (f : Reader ℕ) → Traced l f → After (suc l) value INSTANCE-VARIABLES (L.read-variables input room f)
   unfolding L.read-variables L.note _>>=_ look next
@@ -558,11 +558,11 @@ module _ (input : List ℕ) (room : Room) where
   value-traced limit (suc levels) = record {
     any = λ s t v e.
         read-byte-then input s _ v t e λ j e₁.
-        reading (s .at + 1) (s .notes) (byte-spelt input s j)
+        reading (s .at + 1) (s .notes .form) (byte-spelt input s j)
         (value-of-traced (L.read-value input room limit levels) (value-traced limit levels) (getD input (s .at) 0) _ (kinded (getD input (s .at) 0)) _ refl (at-set (s .at + 1) s) t v e₁);
     direct = λ s t v e q.
         read-byte-then input s _ v t e λ j e₁.
-        reading (s .at + 1) (s .notes) (byte-spelt input s j)
+        reading (s .at + 1) (s .notes .form) (byte-spelt input s j)
         (direct-traced (L.read-value input room limit levels) (getD input (s .at) 0) q _ refl (at-set (s .at + 1) s) t v e₁);
   }
 
@@ -592,12 +592,12 @@ module _ (input : List ℕ) (room : Room) where
   -- an accepted load: the header, and then the root value
   pub record LoadTraced (limit : ℕ) (t : State) (v : ℕ) : Type 0 where
     pub offset : ℕ
-    pub notes : Notes
-    pub header : Spelt input begin offset notes (0x04 ∷ 0x08 ∷ [])
-    pub trace : Trace input room limit value [] (read-to offset notes begin) (v ∷ []) t
+    pub form : Bool
+    pub header : Spelt input begin offset form (0x04 ∷ 0x08 ∷ [])
+    pub trace : Trace input room limit value [] (read-to offset form begin) (v ∷ []) t
 
   pub load-traced : (limit : ℕ) (t : State) (v : ℕ) → L.load input room limit ≡ ok v t → LoadTraced limit t v
   unfolding L.load _>>=_
   load-traced limit t v e =
       read-then input (λ _. 0x04 ∷ 0x08 ∷ []) (L.read-header input) begin _ v t e (header-read begin) λ x k n a e₁ e₂.
-      record { offset = k; notes = n; header = a; trace = value-traced limit limit .any (read-to k n begin) t v e₂ }
+      record { offset = k; form = n; header = a; trace = value-traced limit limit .any (read-to k n begin) t v e₂ }

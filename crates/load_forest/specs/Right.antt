@@ -2,7 +2,7 @@
 use Prim.Native.Nat.{ℕ, zero, suc, _+_, _*_, _≤_, _<_}
 use mathlib.Core.Path.{_≡_, refl, ap, subst}
 use mathlib.Core.Path.{_∙_}
-use mathlib.Core.Bool.{true, false}
+use mathlib.Core.Bool.{Bool, true, false}
 use mathlib.Core.Logic.{_⊎_, inl, inr, _≢_}
 use mathlib.Core.Option.{some}
 use mathlib.Core.List.{List, [], _∷_, append-nil}
@@ -12,7 +12,7 @@ use Rattle.definition.specs.Run.{ok}
 use Rattle.definition.specs.Node.{Row, nil, fixnum, symbol, hash, object, user, absent}
 use Rattle.definition.specs.Arena.{Arena, range, firsts, row-right}
 use Rattle.definition.specs.Graph.{links, vars-links, default-link}
-use Rattle.definition.specs.Load.{State, Notes, Room, noted, begin, load}
+use Rattle.definition.specs.Load.{State, Room, noted, begin, load}
 use Rattle.lists.specs.Lists.{At, at-lt, at-app, at-snoc, at-snoc-inv, at-set-same, at-set-other, at-set-inv, len-snoc, apart, Below, below-up, below-snoc, below-first, below-join, no-at, below-one}
 use Rattle.lists.specs.Ranges.{range-more}
 use Rattle.graph.specs.Forest.{sym, Texted, text-string, text-float}
@@ -24,7 +24,7 @@ use Rattle.load_forest.specs.Readers.{load-traced}
 use Rattle.load_forest.specs.Frames.{Ready, left, ready-reading, ready-text, ready-inner, ready-value, ready-name, ready-pairs, ready-opened, ready-next, ready-after-name, ready-after-value}
 use Rattle.load_forest.specs.Kept.{Kept, kept}
 use Rattle.states.specs.Rows.{bytes-start, bytes-length, list-start, list-length, row-words, Listed, is-array, is-hash, Varied, varied-string, varied-user}
-use Rattle.states.specs.States.{keeps-refl, keeps-trans, Inside, Ranged, Free, read-to, with-node, with-object, with-symbol, with-object-node, with-bytes, with-words, with-word, with-row, with-new-symbol, inside-up, seen-at-inv, frame-range, free-part, inside-nil, words-but, with-room, opened-ranged, begin-ranged}
+use Rattle.states.specs.States.{keeps-refl, keeps-trans, Inside, Ranged, Free, read-to, sought, with-node, with-object, with-symbol, with-object-node, with-bytes, with-words, with-word, with-row, with-new-symbol, inside-up, seen-at-inv, frame-range, free-part, inside-nil, words-but, with-room, opened-ranged, begin-ranged}
 use Rattle.states.specs.Symbols.{symbol-of}
 use Rattle.states.specs.Right.{row-names, RightIn, Onward, right-yes, row-onward, names-first}
 
@@ -66,8 +66,11 @@ right-on s t o n p q w x = lists-on s t o p q (λ i r a. let b : At (s .nodes) i
 on-same : (s t : State) → t .nodes ≡ s .nodes → length (s .bytes) ≤ length (t .bytes) → length (s .references) ≤ length (t .references) → On s t
 on-same s t n b w = record { count = rw n (omega arith); names = λ c (a, l, e). (a, l, rw n e); more-bytes = b; more-words = w }
 
-right-read : (k : ℕ) (n : Notes) (s : State) → Right s → Right (read-to k n s)
+right-read : (k : ℕ) (n : Bool) (s : State) → Right s → Right (read-to k n s)
 right-read k n s x = right-on s (read-to k n s) (on-same s (read-to k n s) refl (omega arith) (omega arith)) refl refl refl (λ i r a. refl) x
+
+right-sought : (b : List ℕ) (s : State) → Right s → Right (sought b s)
+right-sought b s x = right-on s (sought b s) (on-same s (sought b s) refl (omega arith) (omega arith)) refl refl refl (λ i r a. refl) x
 
 right-bytes : (b : List ℕ) (s : State) → Right s → Right (with-bytes b s)
 right-bytes b s x = right-on s (with-bytes b s) (on-same s (with-bytes b s) refl (omega (arith, length-append (s .bytes) b)) (omega arith)) refl refl refl (λ i r a. refl) x
@@ -270,22 +273,22 @@ seen-name s b h a =
     let (i, l, z, w) = symbol-of (arena-of s 0) b r q in
     (i, l, e ∙ ap some z)
 
-done-known : {l : ℕ} (m : Mode) → One l m → (s : State) (b : List ℕ) (h : ℕ) → At (state-seen s .nodes) h (sym b) → Right s → Done m (with-symbol h (noted false s)) (h ∷ [])
+done-known : {l : ℕ} (m : Mode) → One l m → (s : State) (b : List ℕ) (h : ℕ) → At (state-seen s .nodes) h (sym b) → Right s → Done m (with-symbol h (noted false (sought b s))) (h ∷ [])
 done-known m o s b h a x =
     let n = seen-name s b h a in
-    record { right = right-symbol h (noted false s) n (right-read (s .at) _ s x); given = given-name o (with-symbol h (noted false s)) h n }
+    record { right = right-symbol h (noted false (sought b s)) n (right-read (s .at) _ (sought b s) (right-sought b s x)); given = given-name o (with-symbol h (noted false (sought b s))) h n }
 
 done-new : {l : ℕ} (m : Mode) → One l m → (s : State) (b : List ℕ) → Right s
-    → Done m (with-new-symbol b s) (length (s .nodes) ∷ [])
+    → Done m (with-new-symbol b (sought b s)) (length (s .nodes) ∷ [])
 unfolding bytes-start bytes-length list-start list-length
 done-new m o s b x =
     let r = symbol (length (s .bytes)) (length b) in
-    let u = with-bytes b s in
+    let u = with-bytes b (sought b s) in
     let t = with-node r u in
     let n : IsName t (length (s .nodes)) = (length (s .bytes), length b, at-snoc (s .nodes) r) in
     let i : Inside u r = record { bytes-inside = omega (arith, length-append (s .bytes) b); list-inside = omega arith } in
     record {
-      right = right-symbol (length (s .nodes)) t n (right-node r u (symbol-right u (length (s .bytes)) (length b) i) (right-bytes b s x));
+      right = right-symbol (length (s .nodes)) t n (right-node r u (symbol-right u (length (s .bytes)) (length b) i) (right-bytes b (sought b s) (right-sought b s x)));
       given = given-name o (with-symbol (length (s .nodes)) t) (length (s .nodes)) n;
     }
 

@@ -16,7 +16,7 @@ use Rattle.definition.specs.Node.{Row, nil, hash, object, string, user, absent,
 use Rattle.definition.specs.Arena.{Arena, range}
 use Rattle.definition.specs.Dump.{byte-string-bytes}
 use Rattle.definition.specs.Graph.{Header, header, header-of, links, vars-links, vars-count, vars-present}
-use Rattle.definition.specs.Load.{State, Notes, Room, noted, begin, load}
+use Rattle.definition.specs.Load.{State, Room, noted, begin, load}
 use Rattle.lists.specs.Lists.{At, NotIn, Below, at-snoc, apart}
 use Rattle.lists.specs.Ranges.{range-last}
 use Rattle.graph.specs.Forest as F
@@ -28,7 +28,7 @@ use Rattle.load_forest.specs.Readers.{load-traced}
 use Rattle.load_forest.specs.Bytes.{integer-below}
 use Rattle.load_forest.specs.Frames.{Ready, Left, left, ready-reading, ready-text, ready-value, ready-name, ready-pairs, ready-opened, ready-next, ready-after-name, ready-after-value}
 use Rattle.states.specs.Rows.{list-length, see-array, see-hash, see-hash-default, see-object, see-string-variables, see-user, see-user-variables, Listed, is-array, is-hash, Varied, varied-string, varied-user}
-use Rattle.states.specs.States.{read-to, row-seen, Ranged, with-node, with-object-node, with-bytes, with-word, with-row, st-eq, length-seen, seen-at, seen-read-to, objs-seen, syms-seen, seen-symbol, seen-node, seen-row, seen-word, frame-range, free-part, with-room, opened-ranged, opened-seen, room-seen, new-symbol-seen, bytes-node-seen, begin-ranged, with-new-symbol}
+use Rattle.states.specs.States.{read-to, sought, row-seen, Ranged, with-node, with-object-node, with-bytes, with-word, with-row, st-eq, length-seen, seen-at, seen-read-to, seen-sought, objs-seen, syms-seen, seen-symbol, seen-node, seen-row, seen-word, frame-range, free-part, with-room, opened-ranged, opened-seen, room-seen, new-symbol-seen, bytes-node-seen, begin-ranged, with-new-symbol}
 use Rattle.load_forest.specs.Spelling.{Named, named-new, named-link, OneTree, Trees, Told, told-all, joined, told-reading, closed-trees, closed-pairs, one-name, class-text, no-trees, more-trees, last-tree, no-pairs-told, ValuePairs, value-then, more-pairs, Lettered, letters, user-letters, lettered-tree, varied-tree}
 
 -- ---- which inputs
@@ -152,9 +152,9 @@ module _ (input : List ℕ) (w : Inputs) where
   Out (elements n i) l p s vs t = Head (Told input (elements n i) l p s t) (state-seen s) vs (state-seen t)
   Out (pairs n i) l p s vs t = Head (Told input (pairs n i) l p s t) (state-seen s) vs (state-seen t)
 
-  module _ {k : ℕ} {y : List ℕ} {n : Notes} {s : State} (l : ℕ) (p vs : List ℕ) (t : State) (a : Spelt input s k n y) (q : Off n → Odd w) where
+  module _ {k : ℕ} {y : List ℕ} {n : Bool} {s : State} (l : ℕ) (p vs : List ℕ) (t : State) (a : Spelt input s k n y) (q : Off n → Odd w) where
     head-reading : (m : Mode) → Head (Told input m l (p ++ y) (read-to k n s) t) (state-seen (read-to k n s)) vs (state-seen t) → Head (Told input m l p s t) (state-seen s) vs (state-seen t)
-    head-reading m x = moved (seen-read-to k n s) refl (λ h g o. told-reading a (formed w (n .form) q o) (g o)) x
+    head-reading m x = moved (seen-read-to k n s) refl (λ h g o. told-reading a (formed w n q o) (g o)) x
 
     stored-reading : Stored l (p ++ y) (read-to k n s) vs t → Stored l p s vs t
     stored-reading x = record {
@@ -167,7 +167,7 @@ module _ (input : List ℕ) (w : Inputs) where
       numbered = x .numbered;
       is = x .is;
       high = x .high;
-      told = λ o. let (z, e, c) = x .told o in (y ++ z, joined y z _ (a .text (formed w (n .form) q o)) e, subst (Lettered l (x .kd) (x .forest) (x .bytes)) (append-assoc p y z) c);
+      told = λ o. let (z, e, c) = x .told o in (y ++ z, joined y z _ (a .text (formed w n q o)) e, subst (Lettered l (x .kd) (x .forest) (x .bytes)) (append-assoc p y z) c);
     }
 
     out-reading : (m : Mode) → Out m l (p ++ y) (read-to k n s) vs t → Out m l p s vs t
@@ -197,11 +197,14 @@ module _ (input : List ℕ) (w : Inputs) where
   known-head p s t b h as-value o a e = placed refl refl (psym e) (head-known (state-seen s) true b h o a)
   known-head p s t b h as-name o a e = placed refl refl (psym e) (head-known (state-seen s) false b h o a)
 
-  new-head : {l : ℕ} {m : Mode} {p : List ℕ} (s : State) (b : List ℕ) → One l m → p ≡ SYMBOL ∷ byte-string-bytes b → Ranged s → NotIn (sym b) (state-seen s .nodes) → Out m l p s (length (s .nodes) ∷ []) (with-new-symbol b s)
+  new-seen : (s : State) (b : List ℕ) → Ranged s → state-seen (with-new-symbol b (sought b s)) ≡ addSym (length (state-seen s .nodes)) (push (sym b) (state-seen s))
+  new-seen s b h = new-symbol-seen b (sought b s) h ∙ ap (λ (σ : St). addSym (length (σ .nodes)) (push (sym b) σ)) (seen-sought b s)
+
+  new-head : {l : ℕ} {m : Mode} {p : List ℕ} (s : State) (b : List ℕ) → One l m → p ≡ SYMBOL ∷ byte-string-bytes b → Ranged s → NotIn (sym b) (state-seen s .nodes) → Out m l p s (length (s .nodes) ∷ []) (with-new-symbol b (sought b s))
   new-head s b (as-value {l}) e h n =
-      placed refl (number s) (psym (new-symbol-seen b s h))
+      placed refl (number s) (psym (new-seen s b h))
       (head-new (state-seen s) true b n (λ _. told-all refl (subst (OneTree (suc l) (fSym true b)) (psym e) (record { trees-are = λ r. refl; writes = λ m r y v t. tSymbol v t }))))
-  new-head s b as-name e h n = placed refl (number s) (psym (new-symbol-seen b s h)) (head-new (state-seen s) false b n (λ _. told-all refl (subst (Named (fSym false b)) (psym e) named-new)))
+  new-head s b as-name e h n = placed refl (number s) (psym (new-seen s b h)) (head-new (state-seen s) false b n (λ _. told-all refl (subst (Named (fSym false b)) (psym e) named-new)))
 
   link-head : {l : ℕ} {m : Mode} {p : List ℕ} (s : State) (k v : ℕ) → One l m → p ≡ SYMBOL-LINK ∷ integer-bytes k → At (s .symbols) k v → Out m l p s (v ∷ []) s
   link-head s k v (as-value {l}) e a =
@@ -257,7 +260,7 @@ module _ (input : List ℕ) (w : Inputs) where
             (record { trees-are = λ r. refl; writes = λ m r z v v′. tHashDefault v k c v′ });
       })
 
-  out-object : {l k : ℕ} {p : List ℕ} {a : Notes} (s t u : State) (n c : ℕ) (ms : List ℕ) → p ≡ OBJECT ∷ [] → Ranged t → range (u .references) (length (t .references)) (n * 2) ≡ ms
+  out-object : {l k : ℕ} {p : List ℕ} {a : Bool} (s t u : State) (n c : ℕ) (ms : List ℕ) → p ≡ OBJECT ∷ [] → Ranged t → range (u .references) (length (t .references)) (n * 2) ≡ ms
       → Spelt input t k a (integer-bytes n) → (Off a → Odd w)
       → Out name l [] (with-object-node nil s) (c ∷ []) t → Out (pairs n (length (t .references))) l [] (with-room (n * 2) (read-to k a t)) ms u
       → Out value (suc l) p s (length (s .nodes) ∷ []) (with-row (length (s .nodes)) (object (length (t .references)) n c) u)
@@ -272,7 +275,7 @@ module _ (input : List ℕ) (w : Inputs) where
       let i = y .told o in
       record {
         bytes = d .bytes ++ integer-bytes n ++ i .bytes;
-        here = joined (d .bytes ++ integer-bytes n) (i .bytes) _ (joined (d .bytes) (integer-bytes n) _ (d .here) (b .text (formed w (a .form) q o))) (i .here);
+        here = joined (d .bytes ++ integer-bytes n) (i .bytes) _ (joined (d .bytes) (integer-bytes n) _ (d .here) (b .text (formed w a q o))) (i .here);
         says = subst (λ (z : List ℕ). OneTree (suc l) (fBox hd fEnd g) (z ++ (d .bytes ++ integer-bytes n ++ i .bytes))) (psym f)
             (record { trees-are = λ r. refl; writes = λ m r z v v′. tObject v (class-text (d .says) (closed-pairs (i .says))) v′ });
       })
@@ -297,7 +300,7 @@ module _ (input : List ℕ) (w : Inputs) where
     told = λ o. ([], refl, subst (Lettered (suc l) n fEnd b) (psym (append-nil p ∙ e)) (letters q));
   }
 
-  out-user : {l k : ℕ} {p : List ℕ} {a : Notes} (s t : State) (c : ℕ) (b : List ℕ) → p ≡ USER-DEFINED ∷ [] → Ranged t → Spelt input t k a (byte-string-bytes b) → (Off a → Odd w) → Out name l [] s (c ∷ []) t
+  out-user : {l k : ℕ} {p : List ℕ} {a : Bool} (s t : State) (c : ℕ) (b : List ℕ) → p ≡ USER-DEFINED ∷ [] → Ranged t → Spelt input t k a (byte-string-bytes b) → (Off a → Odd w) → Out name l [] s (c ∷ []) t
       → Out text (suc l) p s (length (t .nodes) ∷ []) (with-object-node (user (length (t .bytes)) (length b) c absent) (with-bytes b (read-to k a t)))
   out-user {l} {k} {p} {a} s t c b e h y q x = record {
     kd = 8;
@@ -311,7 +314,7 @@ module _ (input : List ℕ) (w : Inputs) where
     high = omega arith;
     told = λ o.
         let d = x .told o in
-        (d .bytes ++ byte-string-bytes b, joined (d .bytes) (byte-string-bytes b) _ (d .here) (y .text (formed w (a .form) q o)), subst (λ (z : List ℕ). Lettered (suc l) 8 (x .head fEnd) b (z ++ (d .bytes ++ byte-string-bytes b))) (psym e) (user-letters (one-name (d .says))));
+        (d .bytes ++ byte-string-bytes b, joined (d .bytes) (byte-string-bytes b) _ (d .here) (y .text (formed w a q o)), subst (λ (z : List ℕ). Lettered (suc l) 8 (x .head fEnd) b (z ++ (d .bytes ++ byte-string-bytes b))) (psym e) (user-letters (one-name (d .says))));
   }
 
   -- ---- variables
@@ -325,7 +328,7 @@ module _ (input : List ℕ) (w : Inputs) where
   varied-seen {p} {n} A r r′ ms (varied-user {s = s} {l = l} {c = c} {v = v}) e =
       (header A (user s l c v), header-of 8 0 (range (A .bytes) s l) n true, c ∷ [], vars-links A v, refl, see-user-variables A s l c p n _ ms refl e)
 
-  module _ {l k : ℕ} {a : Notes} (s t u : State) (n h : ℕ) (r r′ : Row) (ms : List ℕ) (g : Ranged t) (e : range (u .references) (length (t .references)) (n * 2) ≡ ms)
+  module _ {l k : ℕ} {a : Bool} (s t u : State) (n h : ℕ) (r r′ : Row) (ms : List ℕ) (g : Ranged t) (e : range (u .references) (length (t .references)) (n * 2) ≡ ms)
       (y : Out (pairs n (length (t .references))) l [] (with-room (n * 2) (read-to k a t)) ms u) (i : At (u .nodes) h r) (v : Varied (length (t .references)) n r r′) where
     members-built : B (Odd w) (y .head fEnd) (state-seen t) ms (state-seen u)
     members-built = subst (λ (ρ : St). B (Odd w) (y .head fEnd) ρ ms (state-seen u)) (room-seen (n * 2) (read-to k a t) g ∙ seen-read-to k a t) (whole y)
@@ -371,7 +374,7 @@ same-node l i x y a b = cc
 same-number : (h k : ℕ) → _≡_ {A = List ℕ} (h ∷ []) (k ∷ []) → h ≡ k
 same-number h k e = cc
 
-module _ (input : List ℕ) {l k : ℕ} {p : List ℕ} {a : Notes} (s t u : State) (n h : ℕ) (r r′ : Row) (ms : List ℕ) (f : p ≡ INSTANCE-VARIABLES ∷ []) (g : Ranged t)
+module _ (input : List ℕ) {l k : ℕ} {p : List ℕ} {a : Bool} (s t u : State) (n h : ℕ) (r r′ : Row) (ms : List ℕ) (f : p ≡ INSTANCE-VARIABLES ∷ []) (g : Ranged t)
     (e : range (u .references) (length (t .references)) (n * 2) ≡ ms) (b : Spelt input t k a (integer-bytes n)) (i : At (u .nodes) h r) (v : Varied (length (t .references)) n r r′) where
   -- variables of what stands directly after `I`: in a canonical input they are its from the start
   out-variables : (w : Inputs) → (Off a → Odd w) → Stored input w l [] s (h ∷ []) t → Out input w (pairs n (length (t .references))) l [] (with-room (n * 2) (read-to k a t)) ms u → Out input w value (suc l) p s (h ∷ []) (with-row h r′ u)
@@ -393,7 +396,7 @@ module _ (input : List ℕ) {l k : ℕ} {p : List ℕ} {a : Notes} (s t u : Stat
       let y₂ = y .told j in
       record {
         bytes = y₁ ++ integer-bytes n ++ y₂ .bytes;
-        here = joined (y₁ ++ integer-bytes n) (y₂ .bytes) _ (joined y₁ (integer-bytes n) _ e₁ (b .text (formed canonical (a .form) q j))) (y₂ .here);
+        here = joined (y₁ ++ integer-bytes n) (y₂ .bytes) _ (joined y₁ (integer-bytes n) _ e₁ (b .text (formed canonical a q j))) (y₂ .here);
         says = subst (λ (j : List ℕ). OneTree (suc l) (fBox hd (x .forest) d) (j ++ (y₁ ++ integer-bytes n ++ y₂ .bytes))) (psym f) (varied-tree letters-are kinds (closed-pairs (y₂ .says)));
       }))
 
@@ -422,11 +425,11 @@ module _ (input : List ℕ) (w : Inputs) where
 
   -- what a trace built, where its end may be out of dump form only for an input that may be odd; a canonical input is of bytes
   module _ (room : Room) (low : (Odd w → ⊥) → Below 256 input) where
-    pub sound : {l : ℕ} {m : Mode} {p : List ℕ} {s t : State} {vs : List ℕ} → Trace input room l m p s vs t → (Off (t .notes) → Odd w) → Ready m s → Out input w m l p s vs t
+    pub sound : {l : ℕ} {m : Mode} {p : List ℕ} {s t : State} {vs : List ℕ} → Trace input room l m p s vs t → (Off (t .notes .form) → Odd w) → Ready m s → Out input w m l p s vs t
     sound {l = l} {m = m} {p = p} {s = s} {t = t} {vs = vs} (reading k n a x) q h = out-reading input w l p vs t a (λ o. q (forwards x .off o)) m (sound x q (ready-reading m s k n h))
     sound {s = s} (plain r z j) q h = out-plain input w low s r z
     sound {p = p} {s = s} {t = t} (known b v o a j) q h =
-        known-head input w p s t b v o (q refl) a (seen-symbol v (noted false s) ∙ ap (addSym v) (seen-read-to (s .at) _ s))
+        known-head input w p s t b v o (q refl) a (seen-symbol v (noted false (sought b s)) ∙ ap (addSym v) (seen-read-to (s .at) _ (sought b s) ∙ seen-sought b s))
     sound {s = s} (new b e o n z l₁ l₂ l₃) q h = new-head input w s b o e (h .ranged) n
     sound {s = s} (symbol-link i v e o a) q h = link-head input w s i v o e a
     sound {s = s} (object-link i v e a) q h = ref-head input w s i v e a
@@ -472,7 +475,7 @@ module _ (input : List ℕ) (w : Inputs) where
         let a = left x o in
         let j = ready-value (with-word i c t) (ready-after-name n i c s t (c ∷ []) h a .ranged) in
         let b = left y j in
-        let q₂ : Off (u .notes) → Odd w = λ i. q (forwards z .off i) in
+        let q₂ : Off (u .notes .form) → Odd w = λ i. q (forwards z .off i) in
         out-pair s t u d n i c v vs h a b (sound x (λ i. q₂ (forwards y .off i)) o) (sound y q₂ j) (sound z q (ready-after-value n i c v s t u (c ∷ []) (v ∷ []) h a b))
 
 -- ---- an accepted load
@@ -482,7 +485,7 @@ pub load-sound : (input : List ℕ) (room : Room) (limit h : ℕ) (s : State) �
 load-sound input room limit h s e =
     let x = load-traced input room limit s h e in
     let y = sound input every room (λ n. absurd (n tt)) (x .trace) (λ o. tt) (ready-value _ begin-ranged) in
-    (y .head fEnd, subst (λ (σ : St). B (Unit {0}) (y .head fEnd) σ (h ∷ []) (state-seen s)) (seen-read-to (x .offset) (x .notes) begin) (whole input every y))
+    (y .head fEnd, subst (λ (σ : St). B (Unit {0}) (y .head fEnd) σ (h ∷ []) (state-seen s)) (seen-read-to (x .offset) (x .form) begin) (whole input every y))
 
 -- in dump form: the forest is canonical, and the header and its text are what was read
 pub record LoadWrites (input : List ℕ) (limit h : ℕ) (s : State) : Type 0 where
@@ -495,13 +498,13 @@ pub record LoadWrites (input : List ℕ) (limit h : ℕ) (s : State) : Type 0 wh
 pub load-writes : (input : List ℕ) (room : Room) (limit h : ℕ) (s : State) → Below 256 input → load input room limit ≡ ok h s → s .notes .form ≡ true → LoadWrites input limit h s
 load-writes input room limit h s b e f =
     let x = load-traced input room limit s h e in
-    let off : Off (s .notes) → ⊥ = λ o. apart (cc) in
+    let off : Off (s .notes .form) → ⊥ = λ o. apart (cc) in
     let y = sound input canonical room (λ n. b) (x .trace) off (ready-value _ begin-ranged) in
     let t = y .told (λ n. n) in
-    let g = formed canonical (x .notes .form) (λ o. off (forwards (x .trace) .off o)) (λ n. n) in
+    let g = formed canonical (x .form) (λ o. off (forwards (x .trace) .off o)) (λ n. n) in
     record {
       forest = y .head fEnd;
-      built = subst (λ (σ : St). B ⊥ (y .head fEnd) σ (h ∷ []) (state-seen s)) (seen-read-to (x .offset) (x .notes) begin) (whole input canonical y);
+      built = subst (λ (σ : St). B ⊥ (y .head fEnd) σ (h ∷ []) (state-seen s)) (seen-read-to (x .offset) (x .form) begin) (whole input canonical y);
       bytes = t .bytes;
       writes = subst (Text F.values limit (y .head fEnd)) (append-nil (t .bytes)) (t .says .writes F.values fEnd [] tt tEnd);
       reads = x .header .text g ∙ ap (λ (l : List ℕ). 0x04 ∷ 0x08 ∷ l) (t .here);

@@ -2,7 +2,7 @@
 use Prim.Native.Nat.{ℕ, zero, suc, _+_, _-_, _*_, _≤_, _<_}
 use mathlib.Core.Path.{_≡_, refl, ap, subst}
 use mathlib.Core.Path.{sym as psym, _∙_}
-use mathlib.Core.Bool.{true, false}
+use mathlib.Core.Bool.{Bool, true, false}
 use mathlib.Core.Logic.{_⊎_, inl, inr, _≢_}
 use mathlib.Core.Option.{Option, none, some}
 use mathlib.Core.List.{List, [], _∷_, _++_, map}
@@ -12,10 +12,10 @@ use native.Mathlib.Omega.{arith}
 use native.Mathlib.Decide.{ℕ-discrete}
 use borrow.Author.Tests.{eq-eqb, ne-eqb}
 use Rattle.definition.specs.Run.{ok, pick}
-use Rattle.definition.specs.Node.{Row, Vars, nil, bool, fixnum, symbol, array, hash, object, string, user, float, absent, present}
+use Rattle.definition.specs.Node.{Row, Vars, nil, bool, fixnum, symbol, array, hash, object, string, user, float, absent, present, kind}
 use Rattle.definition.specs.Arena.{Arena, range}
 use Rattle.definition.specs.Graph.{Header, header, vars-count}
-use Rattle.definition.specs.Load.{State, Notes, Room, begin, load}
+use Rattle.definition.specs.Load.{State, Room, begin, load}
 use Rattle.lists.specs.Lists.{At, len-snoc, apart}
 use Rattle.graph.specs.Sums.{sumTo, total, total-snoc, total-set, total-set-most}
 use Rattle.graph.specs.Forest.{Node, leaf, sym, box, node-words, node-bytes, node-box, node-sym, Texted, text-string, text-float}
@@ -26,7 +26,7 @@ use Rattle.load_forest.specs.Readers.{load-traced}
 use Rattle.load_forest.specs.Sound.{load-sound}
 use Rattle.load_forest.specs.Right.{IsName, load-right-state}
 use Rattle.states.specs.Rows.{bytes-length, list-length, vars-length, Listed, is-array, is-hash, Varied, varied-string, varied-user}
-use Rattle.states.specs.States.{read-to, row-seen, with-node, with-symbol, with-object-node, with-bytes, with-word, with-row, length-seen, syms-seen, seen-at, with-room}
+use Rattle.states.specs.States.{read-to, sought, row-seen, with-node, with-symbol, with-object-node, with-bytes, with-word, with-row, length-seen, syms-seen, seen-at, with-room}
 
 -- ---- within the room
 
@@ -82,14 +82,17 @@ module _ (room : Room) where
   within-row : (h : ℕ) (r : Row) (s : State) → Within room s → Within room (with-row h r s)
   within-row h r s w = within-same s (with-row h r s) (omega (arith, length-set (s .nodes) h r)) (omega arith) (omega arith) (omega arith) (omega arith) w
 
-  within-read : (k : ℕ) (n : Notes) (s : State) → Within room s → Within room (read-to k n s)
+  within-read : (k : ℕ) (n : Bool) (s : State) → Within room s → Within room (read-to k n s)
   within-read k n s w = record { nodes = w .nodes; references = w .references; bytes = w .bytes; symbols = w .symbols; objects = w .objects }
+
+  within-sought : (b : List ℕ) (s : State) → Within room s → Within room (sought b s)
+  within-sought b s w = record { nodes = w .nodes; references = w .references; bytes = w .bytes; symbols = w .symbols; objects = w .objects }
 
 pub within : {input : List ℕ} {room : Room} {l : ℕ} {m : Mode} {p : List ℕ} {s t : State} {vs : List ℕ} → Trace input room l m p s vs t → Within room s → Within room t
 within {room = room} {s = s} (reading k n a x) w = within x (within-read room k n s w)
 within {room = room} {s = s} (plain r p l) w = within-node room r s l w
-within {room = room} {s = s} (known b h o a l) w = within-symbol room h _ l (within-read room (s .at) _ s w)
-within {room = room} {s = s} (new b e o n p l₁ l₂ l₃) w = within-symbol room (length (s .nodes)) _ l₃ (within-node room _ (with-bytes b s) l₂ (within-bytes room b s l₁ w))
+within {room = room} {s = s} (known b h o a l) w = within-symbol room h _ l (within-read room (s .at) _ (sought b s) (within-sought room b s w))
+within {room = room} {s = s} (new b e o n p l₁ l₂ l₃) w = within-symbol room (length (s .nodes)) _ l₃ (within-node room _ (with-bytes b (sought b s)) l₂ (within-bytes room b (sought b s) l₁ (within-sought room b s w)))
 within (symbol-link i h e o a) w = w
 within (object-link i h e a) w = w
 within {room = room} {s = s} (list {t = t} r q e l₁ l₂ l₃ x) w =
@@ -126,16 +129,7 @@ is-box (user s l c v) = 1
 is-box (float s l) = 1
 
 unfoldable pub is-symbol : Row → ℕ
-is-symbol nil = 0
-is-symbol (bool b) = 0
-is-symbol (fixnum w) = 0
-is-symbol (symbol s l) = 1
-is-symbol (array s n) = 0
-is-symbol (hash s n d) = 0
-is-symbol (object s n c) = 0
-is-symbol (string s l v) = 0
-is-symbol (user s l c v) = 0
-is-symbol (float s l) = 0
+is-symbol r = pick (eqb (kind r) 3) 1 0
 
 -- from s to t the rows gained no more than was taken
 record Covered (s t : State) : Type 0 where
@@ -167,40 +161,40 @@ record Weighs (r : Row) (words bytes boxes names : ℕ) : Type 0 where
   names-are : is-symbol r ≡ names
 
 plain-weighs : {input p : List ℕ} (r : Row) → Plain input p r → Weighs r 0 0 0 0
-unfolding list-length bytes-length is-box is-symbol
+unfolding list-length bytes-length is-box is-symbol kind pick
 plain-weighs r plain-nil = record { words-are = refl; bytes-are = refl; boxes-are = refl; names-are = refl }
 plain-weighs r plain-true = record { words-are = refl; bytes-are = refl; boxes-are = refl; names-are = refl }
 plain-weighs r plain-false = record { words-are = refl; bytes-are = refl; boxes-are = refl; names-are = refl }
 plain-weighs r (plain-fixnum w s t e) = record { words-are = refl; bytes-are = refl; boxes-are = refl; names-are = refl }
 
 nil-weighs : Weighs nil 0 0 0 0
-unfolding list-length bytes-length is-box is-symbol
+unfolding list-length bytes-length is-box is-symbol kind pick
 nil-weighs = record { words-are = refl; bytes-are = refl; boxes-are = refl; names-are = refl }
 
 symbol-weighs : (a l : ℕ) → Weighs (symbol a l) 0 l 0 1
-unfolding list-length bytes-length is-box is-symbol
+unfolding list-length bytes-length is-box is-symbol kind pick
 symbol-weighs a l = record { words-are = refl; bytes-are = refl; boxes-are = refl; names-are = refl }
 
 listed-weighs : {p : ℕ} (r : Row) → Listed p r → Weighs r (list-length r) 0 1 0
-unfolding bytes-length is-box is-symbol
+unfolding bytes-length is-box is-symbol kind pick
 listed-weighs r (is-array n) = record { words-are = refl; bytes-are = refl; boxes-are = refl; names-are = refl }
 listed-weighs r (is-hash n) = record { words-are = refl; bytes-are = refl; boxes-are = refl; names-are = refl }
 
 hash-weighs : (p n d : ℕ) → Weighs (hash p n d) (n * 2) 0 1 0
-unfolding list-length bytes-length is-box is-symbol
+unfolding list-length bytes-length is-box is-symbol kind pick
 hash-weighs p n d = record { words-are = refl; bytes-are = refl; boxes-are = refl; names-are = refl }
 
 object-weighs : (p n c : ℕ) → Weighs (object p n c) (n * 2) 0 1 0
-unfolding list-length bytes-length is-box is-symbol
+unfolding list-length bytes-length is-box is-symbol kind pick
 object-weighs p n c = record { words-are = refl; bytes-are = refl; boxes-are = refl; names-are = refl }
 
 text-weighs : {k n : ℕ} (q : Texted k n) (a l : ℕ) → Weighs (text-row q a l) 0 l 1 0
-unfolding list-length bytes-length is-box is-symbol vars-length
+unfolding list-length bytes-length is-box is-symbol kind pick vars-length
 text-weighs text-string a l = record { words-are = refl; bytes-are = refl; boxes-are = refl; names-are = refl }
 text-weighs text-float a l = record { words-are = refl; bytes-are = refl; boxes-are = refl; names-are = refl }
 
 user-weighs : (a l c : ℕ) → Weighs (user a l c absent) 0 l 1 0
-unfolding list-length bytes-length is-box is-symbol vars-length
+unfolding list-length bytes-length is-box is-symbol kind pick vars-length
 user-weighs a l c = record { words-are = refl; bytes-are = refl; boxes-are = refl; names-are = refl }
 
 -- a row and the same with variables
@@ -211,7 +205,7 @@ record SameBut (n : ℕ) (r r′ : Row) : Type 0 where
   same-names : is-symbol r′ ≡ is-symbol r
 
 varied-same : {p n : ℕ} (r r′ : Row) → Varied p n r r′ → SameBut n r r′
-unfolding list-length bytes-length is-box is-symbol vars-length
+unfolding list-length bytes-length is-box is-symbol kind pick vars-length
 varied-same r r′ varied-string = record { new-words = refl; same-bytes = refl; same-boxes = refl; same-names = refl }
 varied-same r r′ varied-user = record { new-words = refl; same-bytes = refl; same-boxes = refl; same-names = refl }
 
@@ -245,7 +239,7 @@ covered-room n s = covered-same s (with-room n s) refl (omega (arith, length-app
 covered-word : (i v : ℕ) (s : State) → Covered s (with-word i v s)
 covered-word i v s = covered-same s (with-word i v s) refl (omega (arith, length-set (s .references) i v)) (omega arith) (omega arith) (omega arith)
 
-covered-read : (k : ℕ) (n : Notes) (s : State) → Covered s (read-to k n s)
+covered-read : (k : ℕ) (n : Bool) (s : State) → Covered s (read-to k n s)
 covered-read k n s = covered-same s (read-to k n s) refl (omega arith) (omega arith) (omega arith) (omega arith)
 
 -- words reserved at s are spare at t
@@ -313,13 +307,13 @@ unfolding vars-count vars-length
 vars-words absent = omega arith
 vars-words (present p n) = omega arith
 
-range-most : (l : List ℕ) (a n : ℕ) → length (range l a n) ≤ n
+pub range-most : (l : List ℕ) (a n : ℕ) → length (range l a n) ≤ n
 unfolding range
 range-most l a n = simp length-take (omega arith)
 
 -- the node seen of a row weighs no more than the row
 see-most : (A : Arena) (r : Row) → (node-words (see A r) ≤ list-length r) × (node-bytes (see A r) ≤ bytes-length r) × (node-box (see A r) ≤ is-box r) × (node-sym (see A r) ≤ is-symbol r)
-unfolding see header list-length bytes-length is-box is-symbol pick
+unfolding see header list-length bytes-length is-box is-symbol kind pick
 see-most A nil = omega arith
 see-most A (bool true) = omega arith
 see-most A (bool false) = omega arith
@@ -348,7 +342,7 @@ pub record Holds (s : State) : Type 0 where
   pub names : total node-sym (state-seen s .nodes) ≤ length (s .symbols)
 
 pub load-holds : (input : List ℕ) (room : Room) (limit h : ℕ) (s : State) → load input room limit ≡ ok h s → Holds s
-unfolding list-length bytes-length is-box is-symbol
+unfolding list-length bytes-length is-box is-symbol kind pick
 load-holds input room limit h s e =
     let c = covered (load-traced input room limit s h e .trace) in
     record {

@@ -2,7 +2,7 @@
 use Prim.Native.Nat.{ℕ, suc, _+_}
 use mathlib.Core.Path.{_≡_, refl, ap, subst}
 use mathlib.Core.Path.{sym as psym, _∙_}
-use mathlib.Core.Bool.{true, false}
+use mathlib.Core.Bool.{Bool, true, false}
 use mathlib.Core.Logic.{_⊎_, inl, inr}
 use mathlib.Core.List.{List, [], _∷_, _++_, append-nil, append-assoc}
 use lib.ListN.{drop}
@@ -11,7 +11,7 @@ use Rattle.definition.specs.Integer.{integer-bytes}
 use Rattle.definition.specs.Kind.{SYMBOL, SYMBOL-LINK, INSTANCE-VARIABLES, USER-DEFINED}
 use Rattle.definition.specs.Dump.{byte-string-bytes}
 use Rattle.definition.specs.Graph.{header-of}
-use Rattle.definition.specs.Load.{State, Notes}
+use Rattle.definition.specs.Load.{State}
 use Rattle.graph.specs.Forest as F
 use Rattle.graph.specs.Forest.{F, fEnd, fBox, fSym, fSymref, trees, Texted, text-string, text-float, IsValue, after, Text, tEnd, tEndPairs, tName, tNameLink, tOneName, tOneLink, tClass, tClassLink, tText, tStringVars, tUser, tUserVars}
 use Rattle.load_forest.specs.Trace.{Spelt, Mode, value, text, name, elements, pairs}
@@ -60,7 +60,7 @@ told-all {input} {m} {l} {p} {s} {t} {h} e x = record { bytes = []; here = ap (�
 pub joined : {a b : List ℕ} (x y c : List ℕ) → a ≡ x ++ b → b ≡ y ++ c → a ≡ x ++ y ++ c
 joined x y c e f = e ∙ ap (λ (l : List ℕ). x ++ l) f ∙ psym (append-assoc x y c)
 
-pub told-reading : {input : List ℕ} {m : Mode} {l k : ℕ} {p y : List ℕ} {n : Notes} {s t : State} {h : F → F} → Spelt input s k n y → n .form ≡ true → Told input m l (p ++ y) (read-to k n s) t h → Told input m l p s t h
+pub told-reading : {input : List ℕ} {m : Mode} {l k : ℕ} {p y : List ℕ} {n : Bool} {s t : State} {h : F → F} → Spelt input s k n y → n ≡ true → Told input m l (p ++ y) (read-to k n s) t h → Told input m l p s t h
 told-reading {m = m} {l = l} {p = p} {y = y} {h = h} a f x = record {
   bytes = y ++ x .bytes;
   here = joined y (x .bytes) _ (a .text f) (x .here);

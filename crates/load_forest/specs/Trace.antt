@@ -12,39 +12,39 @@ use Rattle.definition.specs.Kind.{NIL, TRUE, FALSE, FIXNUM, SYMBOL, SYMBOL-LINK
 use Rattle.definition.specs.Node.{Row, nil, bool, fixnum, hash, object, user, absent}
 use Rattle.definition.specs.Arena.{range}
 use Rattle.definition.specs.Dump.{byte-string-bytes}
-use Rattle.definition.specs.Load.{State, Notes, Room, noted, read-integer}
+use Rattle.definition.specs.Load.{State, Room, noted, read-integer}
 use Rattle.lists.specs.Lists.{At, NotIn, apart}
 use Rattle.graph.specs.Forest.{sym, Texted}
 use Rattle.graph.specs.View.{text-row, state-seen}
 use Rattle.states.specs.Rows.{list-length, Listed, is-array, is-hash, Varied}
-use Rattle.states.specs.States.{read-to, with-node, with-symbol, with-object-node, with-bytes, with-word, with-row, with-room, with-new-symbol}
+use Rattle.states.specs.States.{read-to, sought, with-node, with-symbol, with-object-node, with-bytes, with-word, with-row, with-room, with-new-symbol}
 
 -- ---- reading the input
 
 -- not in dump form
-abbrev pub Off : Notes → Type 0
-Off n = n .form ≡ false
+abbrev pub Off : Bool → Type 0
+Off f = f ≡ false
 
--- the input was read from s to the offset k, the notes then being n; where that is still in dump form, what was read is y
-pub record Spelt (input : List ℕ) (s : State) (k : ℕ) (n : Notes) (y : List ℕ) : Type 0 where
+-- the input was read from s to the offset k; n says whether all is in dump form then, and where it is, what was read is y
+pub record Spelt (input : List ℕ) (s : State) (k : ℕ) (n : Bool) (y : List ℕ) : Type 0 where
   pub on : s .at ≤ k
   pub inside : s .at ≤ length input → k ≤ length input
-  pub off : Off (s .notes) → Off n
-  pub text : n .form ≡ true → drop (s .at) input ≡ y ++ drop k input
+  pub off : Off (s .notes .form) → Off n
+  pub text : n ≡ true → drop (s .at) input ≡ y ++ drop k input
 
 -- what was read up to here: all that is lent stands
 abbrev pub Read : {A : Type 0} → List ℕ → (A → List ℕ) → A → State → State → Type 0
-Read input f a s u = (k : ℕ) × (n : Notes) × Spelt input s k n (f a) × (u ≡ read-to k n s)
+Read input f a s u = (k : ℕ) × (n : Bool) × Spelt input s k n (f a) × (u ≡ read-to k n s)
 
-pub spelt-join : {input : List ℕ} {s : State} {k k′ : ℕ} {n n′ : Notes} {y z : List ℕ} → Spelt input s k n y → Spelt input (read-to k n s) k′ n′ z → Spelt input s k′ n′ (y ++ z)
+pub spelt-join : {input : List ℕ} {s : State} {k k′ : ℕ} {n n′ : Bool} {y z : List ℕ} → Spelt input s k n y → Spelt input (read-to k n s) k′ n′ z → Spelt input s k′ n′ (y ++ z)
 spelt-join {input} {s} {k} {k′} {n} {n′} {y} {z} a b = record {
   on = omega (arith, a .on, b .on);
   inside = λ h. b .inside (a .inside h);
   off = λ o. b .off (a .off o);
-  text = λ f. a .text (formed (n .form) (λ o. b .off o) f) ∙ ap (λ (x : List ℕ). y ++ x) (b .text f) ∙ psym (append-assoc y z (drop k′ input));
+  text = λ f. a .text (formed n (λ o. b .off o) f) ∙ ap (λ (x : List ℕ). y ++ x) (b .text f) ∙ psym (append-assoc y z (drop k′ input));
 }
   where
-    formed : (x : Bool) → (x ≡ false → Off n′) → n′ .form ≡ true → x ≡ true
+    formed : (x : Bool) → (x ≡ false → Off n′) → n′ ≡ true → x ≡ true
     formed true h f = refl
     formed false h f = let z = h refl in apart (cc)
 
@@ -82,16 +82,16 @@ list-bytes (is-hash n) = HASH ∷ integer-bytes n
 -- what stands after `I`: directly a byte string or a user-defined value, or it is not in dump form
 pub data Inner (t : State) : Mode → Type 0 where
   inner-text : Inner t text
-  inner-value : Off (t .notes) → Inner t value
+  inner-value : Off (t .notes .form) → Inner t value
 
 -- `Trace l m p s vs t`: reading from s, with l levels left, gave vs and led to t. p are the bytes of the first tree that were read before s, as dump writes them
 pub data Trace (input : List ℕ) (room : Room) : ℕ → Mode → List ℕ → State → List ℕ → State → Type 0 where
-  reading : {l : ℕ} {m : Mode} {p y : List ℕ} {s t : State} {vs : List ℕ} (k : ℕ) (n : Notes) → Spelt input s k n y → Trace input room l m (p ++ y) (read-to k n s) vs t → Trace input room l m p s vs t
+  reading : {l : ℕ} {m : Mode} {p y : List ℕ} {s t : State} {vs : List ℕ} (k : ℕ) (n : Bool) → Spelt input s k n y → Trace input room l m (p ++ y) (read-to k n s) vs t → Trace input room l m p s vs t
   plain : {l : ℕ} {p : List ℕ} {s : State} (r : Row) → Plain input p r → length (s .nodes) < room .nodes → Trace input room (suc l) value p s (length (s .nodes) ∷ []) (with-node r s)
-  known : {l : ℕ} {m : Mode} {p : List ℕ} {s : State} (b : List ℕ) (h : ℕ) → One l m → At (state-seen s .nodes) h (sym b) → length (s .symbols) < room .symbols → Trace input room l m p s (h ∷ []) (with-symbol h (noted false s))
+  known : {l : ℕ} {m : Mode} {p : List ℕ} {s : State} (b : List ℕ) (h : ℕ) → One l m → At (state-seen s .nodes) h (sym b) → length (s .symbols) < room .symbols → Trace input room l m p s (h ∷ []) (with-symbol h (noted false (sought b s)))
   new : {l : ℕ} {m : Mode} {p : List ℕ} {s : State} (b : List ℕ) → p ≡ SYMBOL ∷ byte-string-bytes b → One l m → NotIn (sym b) (state-seen s .nodes) → Part input b
       → length b ≤ room .bytes - length (s .bytes) → length (s .nodes) < room .nodes → length (s .symbols) < room .symbols
-      → Trace input room l m p s (length (s .nodes) ∷ []) (with-new-symbol b s)
+      → Trace input room l m p s (length (s .nodes) ∷ []) (with-new-symbol b (sought b s))
   symbol-link : {l : ℕ} {m : Mode} {p : List ℕ} {s : State} (i h : ℕ) → p ≡ SYMBOL-LINK ∷ integer-bytes i → One l m → At (s .symbols) i h → Trace input room l m p s (h ∷ []) s
   object-link : {l : ℕ} {p : List ℕ} {s : State} (i h : ℕ) → p ≡ OBJECT-LINK ∷ integer-bytes i → At (s .objects) i h → Trace input room (suc l) value p s (h ∷ []) s
   list : {l : ℕ} {p : List ℕ} {s t : State} {ms : List ℕ} (r : Row) (q : Listed (length (s .references)) r) → p ≡ list-bytes q
@@ -103,7 +103,7 @@ pub data Trace (input : List ℕ) (room : Room) : ℕ → Mode → List ℕ → 
       → Trace input room l (elements (n * 2) (length (s .references))) [] (with-room (n * 2) (with-object-node nil s)) ms t
       → Trace input room l value [] t (d ∷ []) u
       → Trace input room (suc l) value p s (length (s .nodes) ∷ []) (with-row (length (s .nodes)) (hash (length (s .references)) n (d + 1)) u)
-  object-pairs : {l : ℕ} {p : List ℕ} {s t u : State} {ms : List ℕ} {c : ℕ} (n k : ℕ) (a : Notes) → p ≡ OBJECT ∷ []
+  object-pairs : {l : ℕ} {p : List ℕ} {s t u : State} {ms : List ℕ} {c : ℕ} (n k : ℕ) (a : Bool) → p ≡ OBJECT ∷ []
       → length (s .nodes) < room .nodes → length (s .objects) < room .objects
       → Trace input room l name [] (with-object-node nil s) (c ∷ []) t
       → Spelt input t k a (integer-bytes n) → n * 2 ≤ room .references - length (t .references)
@@ -112,12 +112,12 @@ pub data Trace (input : List ℕ) (room : Room) : ℕ → Mode → List ℕ → 
   text-bytes : {l : ℕ} {p : List ℕ} {s : State} {k n : ℕ} (q : Texted k n) (b : List ℕ) → p ≡ k ∷ byte-string-bytes b → Part input b
       → length b ≤ room .bytes - length (s .bytes) → length (s .nodes) < room .nodes → length (s .objects) < room .objects
       → Trace input room (suc l) text p s (length (s .nodes) ∷ []) (with-object-node (text-row q (length (s .bytes)) (length b)) (with-bytes b s))
-  user-bytes : {l : ℕ} {p : List ℕ} {s t : State} {c : ℕ} (b : List ℕ) (k : ℕ) (a : Notes) → p ≡ USER-DEFINED ∷ []
+  user-bytes : {l : ℕ} {p : List ℕ} {s t : State} {c : ℕ} (b : List ℕ) (k : ℕ) (a : Bool) → p ≡ USER-DEFINED ∷ []
       → Trace input room l name [] s (c ∷ []) t → Spelt input t k a (byte-string-bytes b) → Part input b
       → length b ≤ room .bytes - length (t .bytes) → length (t .nodes) < room .nodes → length (t .objects) < room .objects
       → Trace input room (suc l) text p s (length (t .nodes) ∷ []) (with-object-node (user (length (t .bytes)) (length b) c absent) (with-bytes b (read-to k a t)))
   stored : {l : ℕ} {p : List ℕ} {s t : State} {vs : List ℕ} → Trace input room l text p s vs t → Trace input room l value p s vs t
-  variables : {l : ℕ} {m : Mode} {p : List ℕ} {s t u : State} {ms : List ℕ} {h : ℕ} {r r′ : Row} (n k : ℕ) (a : Notes) → p ≡ INSTANCE-VARIABLES ∷ [] → Inner t m
+  variables : {l : ℕ} {m : Mode} {p : List ℕ} {s t u : State} {ms : List ℕ} {h : ℕ} {r r′ : Row} (n k : ℕ) (a : Bool) → p ≡ INSTANCE-VARIABLES ∷ [] → Inner t m
       → Trace input room l m [] s (h ∷ []) t
       → Spelt input t k a (integer-bytes n) → n * 2 ≤ room .references - length (t .references)
       → Trace input room l (pairs n (length (t .references))) [] (with-room (n * 2) (read-to k a t)) ms u
@@ -136,19 +136,19 @@ pub data Trace (input : List ℕ) (room : Room) : ℕ → Mode → List ℕ → 
 pub record Forwards (input : List ℕ) (s t : State) : Type 0 where
   pub on : s .at ≤ t .at
   pub ends : s .at ≤ length input → t .at ≤ length input
-  pub off : Off (s .notes) → Off (t .notes)
+  pub off : Off (s .notes .form) → Off (t .notes .form)
 
-forwards-same : (input : List ℕ) (s t : State) → t .at ≡ s .at → t .notes ≡ s .notes → Forwards input s t
-forwards-same input s t e f = record { on = omega arith; ends = λ h. omega arith; off = λ o. ap (λ (n : Notes). n .form) f ∙ o }
+forwards-same : (input : List ℕ) (s t : State) → t .at ≡ s .at → t .notes .form ≡ s .notes .form → Forwards input s t
+forwards-same input s t e f = record { on = omega arith; ends = λ h. omega arith; off = λ o. f ∙ o }
 
 forwards-trans : {input : List ℕ} {s t u : State} → Forwards input s t → Forwards input t u → Forwards input s u
 forwards-trans x y = record { on = omega (arith, x .on, y .on); ends = λ h. y .ends (x .ends h); off = λ o. y .off (x .off o) }
 
-forwards-to : {input : List ℕ} {s : State} {k : ℕ} {n : Notes} {y : List ℕ} → Spelt input s k n y → Forwards input s (read-to k n s)
+forwards-to : {input : List ℕ} {s : State} {k : ℕ} {n : Bool} {y : List ℕ} → Spelt input s k n y → Forwards input s (read-to k n s)
 forwards-to a = record { on = a .on; ends = a .inside; off = a .off }
 
--- the same offset and notes at both ends
-forwards-as : {input : List ℕ} {s t : State} (s′ t′ : State) → s′ .at ≡ s .at → s′ .notes ≡ s .notes → t′ .at ≡ t .at → t′ .notes ≡ t .notes → Forwards input s t → Forwards input s′ t′
+-- the same offset and form at both ends
+forwards-as : {input : List ℕ} {s t : State} (s′ t′ : State) → s′ .at ≡ s .at → s′ .notes .form ≡ s .notes .form → t′ .at ≡ t .at → t′ .notes .form ≡ t .notes .form → Forwards input s t → Forwards input s′ t′
 forwards-as {input} {s} {t} s′ t′ a b c d x = forwards-trans (forwards-same input s′ s (psym a) (psym b)) (forwards-trans x (forwards-same input t t′ c d))
 
 pub forwards : {input : List ℕ} {room : Room} {l : ℕ} {m : Mode} {p : List ℕ} {s t : State} {vs : List ℕ} → Trace input room l m p s vs t → Forwards input s t

@@ -1,15 +1,18 @@
-// Replays stored cases of load through the public function, and prints those that disagree.
+// Replays stored cases of load through load and load_measured, and prints those that disagree.
 //
 // A case is words of 32 bits, low byte first: its length in words; the lengths of the five tables and lists; the limit;
 // the input's length; what is expected: the answer's number and two details, four counts, the bytes used, 1 where they are in
-// dump form and else 0, and how much of nodes, references and bytes is laid out; then those node words and references. Bytes
-// follow, padded to a word: those laid out, then the input.
+// dump form and else 0, the bytes copied and the bytes compared, two words each, and how much of nodes, references and bytes
+// is laid out; then those node words and references. Bytes follow, padded to a word: those laid out, then the input.
 use definition::Loaded;
+use definition::Measured;
 use definition::Node;
 use load::load;
+use load::load_measured;
 use replay::bytes_agree;
 use replay::fill_bytes;
 use replay::fill_words;
+use replay::long;
 use replay::next;
 use replay::plus;
 use replay::print_case;
@@ -34,9 +37,13 @@ const USED: usize = 15;
 
 const FORM: usize = 16;
 
-const LAID: usize = 17;
+const COPIED: usize = 17;
 
-const TABLES: usize = 20;
+const COMPARED: usize = 19;
+
+const LAID: usize = 21;
+
+const TABLES: usize = 24;
 
 fn loaded_agrees(data: &[u8], r: Loaded) -> bool {
     let answer = r.answer;
@@ -48,6 +55,18 @@ fn loaded_agrees(data: &[u8], r: Loaded) -> bool {
             if word(&data[..], USED) as usize == used {
                 return (word(&data[..], FORM) == 1) == form;
             }
+        }
+    }
+    false
+}
+
+fn measured_agrees(data: &[u8], r: Measured) -> bool {
+    let loaded = r.load;
+    let copied = r.copied;
+    let compared = r.compared;
+    if loaded_agrees(&data[..], loaded) {
+        if long(&data[..], COPIED) == copied {
+            return long(&data[..], COMPARED) == compared;
         }
     }
     false
@@ -82,8 +101,23 @@ fn tables_agree(
     words_agree(&data[..], 0, 0, &objects[..], touched)
 }
 
-// A case in tables and lists of just its lengths.
-fn fitted_agrees(
+// Junk everywhere.
+fn fill(
+    nodes: &mut [u32],
+    references: &mut [u32],
+    bytes: &mut [u8],
+    symbols: &mut [u32],
+    objects: &mut [u32],
+) {
+    fill_words(nodes);
+    fill_words(references);
+    fill_bytes(bytes);
+    fill_words(symbols);
+    fill_words(objects);
+}
+
+// The case through load.
+fn load_agrees(
     data: &[u8],
     input: &[u8],
     nodes: &mut [u32],
@@ -92,11 +126,6 @@ fn fitted_agrees(
     symbols: &mut [u32],
     objects: &mut [u32],
 ) -> bool {
-    fill_words(nodes);
-    fill_words(references);
-    fill_bytes(bytes);
-    fill_words(symbols);
-    fill_words(objects);
     let limit = word(&data[..], LIMIT);
     let r = load(
         &input[..],
@@ -109,6 +138,100 @@ fn fitted_agrees(
     );
     if loaded_agrees(&data[..], r) {
         return tables_agree(&data[..], nodes, references, bytes, symbols, objects);
+    }
+    false
+}
+
+// The case through load_measured.
+fn load_measured_agrees(
+    data: &[u8],
+    input: &[u8],
+    nodes: &mut [u32],
+    references: &mut [u32],
+    bytes: &mut [u8],
+    symbols: &mut [u32],
+    objects: &mut [u32],
+) -> bool {
+    let limit = word(&data[..], LIMIT);
+    let r = load_measured(
+        &input[..],
+        nodes,
+        references,
+        bytes,
+        symbols,
+        objects,
+        limit,
+    );
+    if measured_agrees(&data[..], r) {
+        return tables_agree(&data[..], nodes, references, bytes, symbols, objects);
+    }
+    false
+}
+
+// The case through one of the two, over junk.
+fn call_agrees(
+    data: &[u8],
+    input: &[u8],
+    nodes: &mut [u32],
+    references: &mut [u32],
+    bytes: &mut [u8],
+    symbols: &mut [u32],
+    objects: &mut [u32],
+    measured: bool,
+) -> bool {
+    fill(nodes, references, bytes, symbols, objects);
+    if measured {
+        return load_measured_agrees(
+            &data[..],
+            &input[..],
+            nodes,
+            references,
+            bytes,
+            symbols,
+            objects,
+        );
+    }
+    load_agrees(
+        &data[..],
+        &input[..],
+        nodes,
+        references,
+        bytes,
+        symbols,
+        objects,
+    )
+}
+
+// A case in tables and lists of just its lengths, through both.
+fn fitted_agrees(
+    data: &[u8],
+    input: &[u8],
+    nodes: &mut [u32],
+    references: &mut [u32],
+    bytes: &mut [u8],
+    symbols: &mut [u32],
+    objects: &mut [u32],
+) -> bool {
+    if call_agrees(
+        &data[..],
+        &input[..],
+        nodes,
+        references,
+        bytes,
+        symbols,
+        objects,
+        false,
+    ) {
+        return call_agrees(
+            &data[..],
+            &input[..],
+            nodes,
+            references,
+            bytes,
+            symbols,
+            objects,
+            true,
+        );
     }
     false
 }

@@ -9,7 +9,7 @@ use lib.ListN.{length, set, replicate, length-append}
 use native.Mathlib.Omega.{arith}
 use Rattle.definition.specs.Run.{ok, pick}
 use Rattle.definition.specs.Graph.{Header}
-use Rattle.definition.specs.Load.{Room, Notes, State, at-set, note, read-header, read-value, begin, load}
+use Rattle.definition.specs.Load.{Room, State, at-set, note, read-header, read-value, begin, load}
 use Rattle.lists.specs.Lists.{At, at-app, at-snoc, at-snoc-inv, at-set-other, no-at, apart}
 use Rattle.graph.specs.Forest.{Node, leaf, sym, box, Num, fresh, F, fEnd, refsOf, bytesOf, boxesOf, symsOf, values, Text}
 use Rattle.graph.specs.Describe.{E, e-len}
@@ -128,7 +128,7 @@ back room limit P g x y σ t =
       state = s;
       runs = step _ _ begin tt opening (header-runs (x ++ y)) ∙ t .runs;
       used = omega (arith, t .ahead .size, length-append x y);
-      form = ap (λ (n : Notes). n .form) (t .notes);
+      form = t .form;
       num = num (state-seen s);
       says = subst (λ (L : List Node). E L g (h ∷ []) fresh (num (state-seen s))) (psym (seen-root s h)) d;
       nodes = omega (arith, ev .nodes);

@@ -50,7 +50,7 @@ module _ (input : List ℕ) (room : Room) (P : List Node) where
       → B ⊥ p (state-seen s) us (state-seen u) → Ph ⊥ hd φ → state-seen t ≡ pushO φ (state-seen u) → B ⊥ f (state-seen t) ms (state-seen w)
       → row-seen w row ≡ box hd (us ++ ms)
       → Ahead input (w .at) y → Inv P σ₂ (state-seen w) → Ranged w → Inside w row
-      → Frame (length (s .references)) s w → Keeps Every s w → w .notes ≡ s .notes → Above (length (s .references)) row → length (s .nodes) ≤ length (u .nodes)
+      → Frame (length (s .references)) s w → Keeps Every s w → w .notes .form ≡ s .notes .form → Above (length (s .references)) row → length (s .nodes) ≤ length (u .nodes)
       → Even 0 (fBox hd p f r) s r w → Step input room P rd (fBox hd p f r) r σ₂ s y
   box-step rd hd p f r φ row σ₂ s u t w us ms y e b₀ ph e₁ b₁ e₂ h v a i fr k m o l ev =
       let n = length (u .nodes) in
@@ -65,7 +65,7 @@ module _ (input : List ℕ) (room : Room) (P : List Node) where
         ranged = ranged-row n row w i a;
         frame = frame-trans fr (frame-row _ n row w o);
         keeps = keeps-row n row s w l k;
-        notes = m;
+        form = m;
         even = record {
           nodes = omega (arith, ev .nodes, length-set (w .nodes) n row);
           objects = ev .objects;
@@ -87,7 +87,7 @@ module _ (input : List ℕ) (room : Room) (P : List Node) where
     pub ranged : Ranged then′
     pub frame : Frame (length (s .references)) s then′
     pub keeps : Keeps Every s then′
-    pub notes : then′ .notes ≡ s .notes
+    pub form : then′ .notes .form ≡ s .notes .form
     pub holds : range (then′ .references) (length (s .references)) (n * each) ≡ values
     pub inside : length (s .references) + n * each ≤ length (then′ .references)
     pub even : Even (n * each) f s fEnd then′
@@ -116,7 +116,7 @@ module _ (input : List ℕ) (room : Room) (P : List Node) where
         ranged = c .ranged;
         frame = c .frame;
         keeps = c .keeps;
-        notes = c .notes;
+        form = c .form;
         holds = c .holds;
         inside = c .inside;
         even = record {
@@ -181,7 +181,7 @@ module _ (input : List ℕ) (room : Room) (P : List Node) where
       let w = t .then′ in
       let p = length (s .references) in
       box-step rd hd fEnd f r (leaf 0 0) row σ₂ s s (with-object-node nil s) w [] (t .values) y runs bEnd (inl refl) (opened-seen s) (t .built) e₄ (t .ahead) (t .inv) (t .ranged)
-      (inside-listed w row li (omega (arith, t .inside))) (frame-trans (frame-opened p s) (t .frame)) (keeps-trans (keeps-object-node nil s) (t .keeps)) (t .notes)
+      (inside-listed w row li (omega (arith, t .inside))) (frame-trans (frame-opened p s) (t .frame)) (keeps-trans (keeps-object-node nil s) (t .keeps)) (t .form)
       (above-listed p row (omega arith) li) (omega arith) (nil-even hd f r s w e₃ (rw e₂ (t .even)))
 
   pub takes-array : Small room → (inner : Reader ℕ) (n : ℕ) (f r : F) (y : List ℕ) (σ σ₂ : Num) (v : ℕ) → Items input room P (replicate n inner) f y (addO v σ) σ₂
@@ -258,7 +258,7 @@ module _ (input : List ℕ) (room : Room) (P : List Node) where
       bEnd (inl refl) (opened-seen s) (c .built (d ∷ []) (state-seen w) (t .built [] (state-seen w) bEnd)) (see-hash-default (arena-of w 0) start n d (c .values) e₂)
       (t .ahead) (t .inv) (t .ranged) (inside-hash w start n (d + 1) (omega (arith, c .inside, t .frame .references-grow)))
       (frame-trans (frame-opened start s) (frame-trans (c .frame) (frame-below start (omega (arith, c .inside)) (t .frame))))
-      (keeps-trans (keeps-object-node nil s) (keeps-trans (c .keeps) (t .keeps))) (t .notes ∙ c .notes) (above-hash start start n (d + 1) (omega arith)) (omega arith)
+      (keeps-trans (keeps-object-node nil s) (keeps-trans (c .keeps) (t .keeps))) (t .form ∙ c .form) (above-hash start start n (d + 1) (omega arith)) (omega arith)
       (nil-even hd f r s w refl (rw e₁ (even-on (n * 2) 0 (n * 2) f (c .forest) fEnd (with-object-node nil s) u w (omega arith) (c .even) (t .even))))
 
   pub takes-hash-default : Small room → (inner : Reader ℕ) (n : ℕ) (f r : F) (y : List ℕ) (σ σ₂ : Num) (v : ℕ) → Items input room P (replicate (n * 2 + 1) inner) f y (addO v σ) σ₂
@@ -299,7 +299,7 @@ module _ (input : List ℕ) (room : Room) (P : List Node) where
       bEnd (inl refl) (opened-seen s) (m .built (t .values) (state-seen w) (t .built)) (see-object (arena-of w 0) start n c (t .values) (t .holds))
       (t .ahead) (t .inv) (t .ranged) (inside-object w start n c (t .inside))
       (frame-trans (frame-opened p s) (frame-trans (m .frame) (frame-below p l₁ (t .frame))))
-      (keeps-trans (keeps-object-node nil s) (keeps-trans (m .keeps) (t .keeps))) (t .notes ∙ m .notes) (above-object p start n c l₁) (omega arith)
+      (keeps-trans (keeps-object-node nil s) (keeps-trans (m .keeps) (t .keeps))) (t .form ∙ m .form) (above-object p start n c l₁) (omega arith)
       (nil-even hd f r s w refl (rw e₁ (even-on 0 (n * 2) (n * 2) f f′ fEnd (with-object-node nil s) u w (omega arith) (m .even) (t .even))))
 
   fits-without : (k : ℕ) (f : F) (s : State) → Fits room k f s → Fits room 0 f s

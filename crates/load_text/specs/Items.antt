@@ -70,7 +70,7 @@ abbrev pub Every : Row → Type 0
 Every r = Unit {0}
 
 module _ (input : List ℕ) (room : Room) (P : List Node) where
-  -- the reader takes the first tree of g, r and the bytes y are left; what is noted stands
+  -- the reader takes the first tree of g, r and the bytes y are left; what is noted of dump form stands
   pub record Step (rd : Reader ℕ) (g r : F) (σ : Num) (s : State) (y : List ℕ) : Type 0 where
     pub value : ℕ
     pub then′ : State
@@ -81,7 +81,7 @@ module _ (input : List ℕ) (room : Room) (P : List Node) where
     pub ranged : Ranged then′
     pub frame : Frame (length (s .references)) s then′
     pub keeps : Keeps Every s then′
-    pub notes : then′ .notes ≡ s .notes
+    pub form : then′ .notes .form ≡ s .notes .form
     pub even : Even 0 g s r then′
 
   abbrev pub Takes : Reader ℕ → F → F → List ℕ → Num → Num → Type 0
@@ -107,7 +107,7 @@ module _ (input : List ℕ) (room : Room) (P : List Node) where
     pub ranged : Ranged then′
     pub frame : Frame i s then′
     pub keeps : Keeps Every s then′
-    pub notes : then′ .notes ≡ s .notes
+    pub form : then′ .notes .form ≡ s .notes .form
     pub holds : range (then′ .references) i (length rds) ≡ values
     pub even : Even 0 g s forest then′
 
@@ -136,7 +136,7 @@ module _ (input : List ℕ) (room : Room) (P : List Node) where
         ranged = u .ranged;
         frame = frame-trans (frame-below i (omega arith) (t .frame)) (frame-trans (frame-word i i v s₁ (omega arith)) (frame-below i (omega arith) (u .frame)));
         keeps = keeps-trans (t .keeps) (keeps-trans (keeps-refl s₁ (with-word i v s₁) refl) (u .keeps));
-        notes = u .notes ∙ t .notes;
+        form = u .form ∙ t .form;
         holds = range-written s₁ (u .then′) i (length rds) v vs (omega (arith, t .frame .references-grow)) (u .frame) (u .holds);
         even = record {
           nodes = u .even .nodes ∙ t .even .nodes;
@@ -174,7 +174,7 @@ module _ (input : List ℕ) (room : Room) (P : List Node) where
     ranged = a;
     frame = frame-refl i s;
     keeps = keeps-refl s s refl;
-    notes = refl;
+    form = refl;
     holds = range-none (s .references) i;
     even = record { nodes = refl; objects = refl; symbols = refl; references = omega arith; bytes = refl };
   }
@@ -204,7 +204,7 @@ module _ (input : List ℕ) (room : Room) (P : List Node) where
     pub ranged : Ranged then′
     pub frame : Frame (length (s .references)) s then′
     pub keeps : Keeps Every s then′
-    pub notes : then′ .notes ≡ s .notes
+    pub form : then′ .notes .form ≡ s .notes .form
     pub holds : range (then′ .references) (length (s .references)) (n * each) ≡ values
     pub inside : length (s .references) + n * each ≤ length (then′ .references)
     pub even : Even (n * each) f s forest then′
@@ -240,7 +240,7 @@ module _ (input : List ℕ) (room : Room) (P : List Node) where
         ranged = u .ranged;
         frame = frame-trans (frame-at-set p _ s) (frame-trans (frame-words p (replicate (n * each) 0) (counted-at n s)) (u .frame));
         keeps = keeps-trans (keeps-refl s (reserved each n s) refl) (u .keeps);
-        notes = u .notes;
+        form = u .form;
         holds = subst (λ (k : ℕ). range (u .then′ .references) p k ≡ u .values) e₂ (u .holds);
         inside = omega (arith, l₁, l₂, u .frame .references-grow);
         even = record {

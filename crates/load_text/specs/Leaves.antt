@@ -18,9 +18,9 @@ use Rattle.lists.specs.Lists.{At, NotIn, lt-at, len-snoc, apart}
 use Rattle.graph.specs.Forest.{Node, leaf, sym, Num, addS, F, fLeaf, fRef, fSym, fSymref}
 use Rattle.graph.specs.Build.{St, push, addSym, B, bLeaf, bRef, bNew, bSymref, Inv, Names, inv-push, inv-sym, new-name}
 use Rattle.graph.specs.View.{see, arena-of, state-seen}
-use Rattle.states.specs.States.{Inside, Ranged, Above, with-node, with-bytes, with-new-symbol, length-seen, seen-at-set, seen-node, new-symbol-seen, ranged-node, ranged-new-symbol, frame-trans, frame-at-set, frame-node, frame-new-symbol, keeps-refl, keeps-trans, keeps-node}
+use Rattle.states.specs.States.{Inside, Ranged, Above, sought, with-node, with-bytes, with-new-symbol, length-seen, seen-at-set, seen-sought, seen-node, new-symbol-seen, ranged-node, ranged-new-symbol, frame-trans, frame-at-set, frame-sought, frame-node, frame-new-symbol, keeps-refl, keeps-trans, keeps-node}
 use Rattle.states.specs.Symbols.{not-found}
-use Rattle.load_text.specs.Steps.{step, add-node-runs, add-bytes-runs, add-symbol-runs, entry-runs}
+use Rattle.load_text.specs.Steps.{step, compare-runs, add-node-runs, add-bytes-runs, add-symbol-runs, entry-runs}
 use Rattle.load_text.specs.Input.{Ahead, ahead-past, read-byte-ahead, read-integer-ahead, read-count-ahead, read-byte-string-ahead}
 use Rattle.load_text.specs.Items.{Even, Step, Takes}
 
@@ -50,7 +50,7 @@ module _ (input : List ℕ) (room : Room) (P : List Node) where
         ranged = t .ranged;
         frame = frame-trans (frame-at-set _ _ s) (t .frame);
         keeps = keeps-trans (keeps-refl s s₁ refl) (t .keeps);
-        notes = t .notes;
+        form = t .form;
         even = t .even;
       }
 
@@ -95,7 +95,7 @@ module _ (input : List ℕ) (room : Room) (P : List Node) where
         ranged = ranged-node row s₀ (inside s₀) a;
         frame = frame-trans (frame-at-set _ n s) (frame-node _ row s₀ (above _));
         keeps = keeps-trans (keeps-refl s s₀ refl) (keeps-node row s₀);
-        notes = refl;
+        form = refl;
         even = record { nodes = omega (arith, ln); objects = refl; symbols = refl; references = omega arith; bytes = refl };
       }
 
@@ -128,7 +128,7 @@ module _ (input : List ℕ) (room : Room) (P : List Node) where
     ranged = a;
     frame = frame-at-set _ _ s;
     keeps = keeps-refl s (at-set (s .at + length x) s) refl;
-    notes = refl;
+    form = refl;
     even = ev;
   }
 
@@ -151,9 +151,11 @@ module _ (input : List ℕ) (room : Room) (P : List Node) where
   -- ---- a new symbol
 
   intern-runs : (b : List ℕ) (s : State) → NotIn (sym b) (state-seen s .nodes) → length (s .nodes) < room .nodes → length (s .bytes) + length b ≤ room .bytes
-      → intern room b s ≡ ok (length (s .nodes)) (with-node (symbol (length (s .bytes)) (length b)) (with-bytes b s))
+      → intern room b s ≡ ok (length (s .nodes)) (with-node (symbol (length (s .bytes)) (length b)) (with-bytes b (sought b s)))
   unfolding intern look intern-as
-  intern-runs b s n h k = rw (not-found s b n) (step _ _ s _ _ (add-bytes-runs room s b k) ∙ add-node-runs room (with-bytes b s) (symbol (length (s .bytes)) (length b)) h)
+  intern-runs b s n h k =
+      let t = sought b s in
+      rw (not-found s b n) (step _ _ s tt t (compare-runs _ s) ∙ step _ _ t _ _ (add-bytes-runs room t b k) ∙ add-node-runs room (with-bytes b t) (symbol (length (s .bytes)) (length b)) h)
 
   pub takes-symbol : Small room → Names P → (m : Bool) (b : List ℕ) (r : F) (σ : Num) (u : ℕ) → At P u (sym b) → NotIn u (σ .syms)
       → Takes input room P (read-symbol input room) (fSym m b r) r (byte-string-bytes b) σ (addS u σ)
@@ -161,24 +163,25 @@ module _ (input : List ℕ) (room : Room) (P : List Node) where
   takes-symbol sm nm m b r σ u at ni s y v a h f =
       let n = s .at + length (byte-string-bytes b) in
       let s₀ = at-set n s in
+      let s₁ = sought b s₀ in
       let new : NotIn (sym b) (state-seen s .nodes) = new-name P nm (λ h us. leaf 0 0) (λ h us. inl refl) σ (state-seen s) u b v at ni in
-      let q : state-seen (with-new-symbol b s₀) ≡ addSym (length (state-seen s .nodes)) (push (sym b) (state-seen s)) =
-      new-symbol-seen b s₀ a ∙ ap (λ (S : St). addSym (length (S .nodes)) (push (sym b) S)) (seen-at-set n s) in
+      let q : state-seen (with-new-symbol b s₁) ≡ addSym (length (state-seen s .nodes)) (push (sym b) (state-seen s)) =
+      new-symbol-seen b s₁ a ∙ ap (λ (S : St). addSym (length (S .nodes)) (push (sym b) S)) (seen-sought b s₀ ∙ seen-at-set n s) in
       let l₁ = len-snoc (s .nodes) (symbol (length (s .bytes)) (length b)) in
       let l₂ = length-append (s .bytes) b in
       let l₃ = len-snoc (s .symbols) (length (s .nodes)) in
       record {
         value = length (s .nodes);
-        then′ = with-new-symbol b s₀;
+        then′ = with-new-symbol b s₁;
         runs = step _ _ s b _ (read-byte-string-ahead input s b y (omega (arith, f .bytes, sm .bytes)) h)
             ∙ step _ _ s₀ _ _ (intern-runs b s₀ (subst (λ (S : St). NotIn (sym b) (S .nodes)) (psym (seen-at-set n s)) new) (omega (arith, f .nodes)) (omega (arith, f .bytes)))
-            ∙ add-symbol-runs room (with-node (symbol (length (s .bytes)) (length b)) (with-bytes b s₀)) (length (s .nodes)) (omega (arith, f .symbols));
+            ∙ add-symbol-runs room (with-node (symbol (length (s .bytes)) (length b)) (with-bytes b s₁)) (length (s .nodes)) (omega (arith, f .symbols));
         ahead = ahead-past (byte-string-bytes b) y h;
         built = λ ws T t. subst (λ (k : ℕ). B ⊥ (fSym m b r) (state-seen s) (k ∷ ws) T) (length-seen s) (bNew new (subst (λ (S : St). B ⊥ r S ws T) q t));
         inv = subst (Inv P (addS u σ)) (psym q) (inv-sym P σ (state-seen s) u b at v);
-        ranged = ranged-new-symbol b s₀ a;
-        frame = frame-trans (frame-at-set _ n s) (frame-new-symbol _ b s₀);
-        keeps = keeps-trans (keeps-refl s s₀ refl) (keeps-trans (keeps-node _ s₀) (keeps-refl (with-node _ s₀) (with-new-symbol b s₀) refl));
-        notes = refl;
+        ranged = ranged-new-symbol b s₁ a;
+        frame = frame-trans (frame-at-set _ n s) (frame-trans (frame-sought _ b s₀) (frame-new-symbol _ b s₁));
+        keeps = keeps-trans (keeps-refl s s₀ refl) (keeps-trans (keeps-node _ s₀) (keeps-refl (with-node _ s₀) (with-new-symbol b s₁) refl));
+        form = refl;
         even = record { nodes = omega (arith, l₁); objects = refl; symbols = omega (arith, l₃); references = omega arith; bytes = omega (arith, l₂) };
       }

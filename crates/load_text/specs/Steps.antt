@@ -9,7 +9,7 @@ use native.Mathlib.Omega.{arith}
 use borrow.Author.Tests.{le-leb}
 use Rattle.definition.specs.Run.{Run, ok, next, _>>=_, pick}
 use Rattle.definition.specs.Node.{Row}
-use Rattle.definition.specs.Load.{Room, State, note, add-node, reserve, add-bytes, add-symbol, add-object, add-object-node, put-reference, entry}
+use Rattle.definition.specs.Load.{Room, State, note, compare, compared-more, add-node, reserve, add-bytes, add-symbol, add-object, add-object-node, put-reference, entry}
 use Rattle.lists.specs.Lists.{At, at-lt, getD-at}
 use Rattle.states.specs.States.{with-node, with-object, with-symbol, with-object-node, with-bytes, with-word, with-room}
 
@@ -22,6 +22,10 @@ step m f s a t e = rw e
 pub note-runs : (b : Bool) (s : State) → b ≡ true → note b s ≡ ok tt s
 unfolding note
 note-runs b s e = rw e
+
+pub compare-runs : (n : ℕ) (s : State) → compare n s ≡ ok tt (compared-more n s)
+unfolding compare
+compare-runs n s = refl
 
 module _ (room : Room) (s : State) where
   pub add-node-runs : (r : Row) → length (s .nodes) < room .nodes → add-node room r s ≡ ok (length (s .nodes)) (with-node r s)

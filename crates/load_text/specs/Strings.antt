@@ -99,7 +99,7 @@ module _ (input : List ℕ) (room : Room) (P : List Node) where
   -- without variables
   store-step : (rd : Reader ℕ) {kd : ℕ} {us : List ℕ} {row : ℕ → Row} (b : List ℕ) → Stores kd (length b) us row → (p r : F) (σ : Num) (v : ℕ) (s u : State) (y : List ℕ) (n : ℕ)
       → rd s ≡ ok (length (u .nodes)) (stored b (row (length (u .bytes))) n u) → Ahead input n y
-      → B ⊥ p (state-seen s) us (state-seen u) → Inv P σ (state-seen u) → Ranged u → Frame (length (s .references)) s u → Keeps Every s u → u .notes ≡ s .notes → Even 0 p s fEnd u
+      → B ⊥ p (state-seen s) us (state-seen u) → Inv P σ (state-seen u) → Ranged u → Frame (length (s .references)) s u → Keeps Every s u → u .notes .form ≡ s .notes .form → Even 0 p s fEnd u
       → Step input room P rd (fBox (header-of kd 0 b 0 false) p fEnd r) r (addO v σ) s y
   store-step rd {kd} {us} {row} b ss p r σ v s u y n e h b₀ i a fr kp nt ev =
       let hd = header-of kd 0 b 0 false in
@@ -168,7 +168,7 @@ module _ (input : List ℕ) (room : Room) (P : List Node) where
       let ev = m .even in
       store-step (read-user-defined input room) b (stores-user (length b) (m .value)) p r σ₁ v s u y (u .at + length (byte-string-bytes b))
       (user-runs sm b (m .value) s u y (m .runs) (m .ahead) (omega (arith, g .nodes, ev .nodes)) (omega (arith, g .objects, ev .objects)) (omega (arith, g .bytes, ev .bytes)))
-      (ahead-past (byte-string-bytes b) y (m .ahead)) (m .built [] (state-seen u) bEnd) (m .inv) (m .ranged) (m .frame) (m .keeps) (m .notes) ev
+      (ahead-past (byte-string-bytes b) y (m .ahead)) (m .built [] (state-seen u) bEnd) (m .inv) (m .ranged) (m .frame) (m .keeps) (m .form) ev
 
   -- ---- with variables
 
@@ -176,7 +176,7 @@ module _ (input : List ℕ) (room : Room) (P : List Node) where
   vars-step : (inner : Reader ℕ) {kd : ℕ} {us : List ℕ} {row : ℕ → Row} {row′ : ℕ → ℕ → ℕ → Row} (b : List ℕ) → Stores kd (length b) us row → Varies kd (length b) us row row′
       → (p f r : F) (σ₂ : Num) (s u : State) (z : List ℕ) (k n : ℕ)
       → takes-variables (getD input (s .at) 0) ≡ true → inner s ≡ ok (length (u .nodes)) (stored b (row (length (u .bytes))) k u)
-      → B ⊥ p (state-seen s) us (state-seen u) → Ranged u → Frame (length (s .references)) s u → Keeps Every s u → u .notes ≡ s .notes → Even 0 p s fEnd u
+      → B ⊥ p (state-seen s) us (state-seen u) → Ranged u → Frame (length (s .references)) s u → Keeps Every s u → u .notes .form ≡ s .notes .form → Even 0 p s fEnd u
       → Told input room P 2 n (λ start m. read-pairs (read-symbol-like input room) inner m start) f σ₂ (stored b (row (length (u .bytes))) k u) z
       → Step input room P (read-variables input room inner) (fBox (header-of kd 0 b n true) p f r) r σ₂ s z
   unfolding read-variables read-instance-variables look
@@ -209,7 +209,7 @@ module _ (input : List ℕ) (room : Room) (P : List Node) where
       b₀ (stored-ph b ss k u n true) (stored-seen b ss k u a) (t .built) e₃ (t .ahead) (t .inv) (t .ranged)
       (inside-varied w (row st) r₁ vd (t .inside) (t .ranged h (row st) e₁))
       (frame-trans fr (frame-trans (stored-frame b ss k u p′) (frame-below p′ (fr .references-grow) (t .frame))))
-      (keeps-trans kp (keeps-trans (stored-keeps b ss k u) (t .keeps))) (t .notes ∙ nt) (above-varied p′ (row st) r₁ (fr .references-grow) vd) l₂
+      (keeps-trans kp (keeps-trans (stored-keeps b ss k u) (t .keeps))) (t .form ∙ nt) (above-varied p′ (row st) r₁ (fr .references-grow) vd) l₂
       (record {
         nodes = omega (arith, ev .nodes, wv .nodes);
         objects = omega (arith, ev .objects, wv .objects);
@@ -278,4 +278,4 @@ module _ (input : List ℕ) (room : Room) (P : List Node) where
       vars-step inner b ss (varies-user (length b) (m .value)) p f r σ₂ s u z c n (taking k s _ tv h)
       (bh s _ h ∙ user-runs sm b (m .value) (at-set (s .at + 1) s) u (integer-bytes n ++ (y ++ z)) (m .runs) (m .ahead)
       (omega (arith, g .nodes, ev .nodes)) (omega (arith, g .objects, ev .objects)) (omega (arith, g .bytes, ev .bytes)))
-      (m .built [] (state-seen u) bEnd) (m .ranged) (frame-trans (frame-at-set _ _ s) (m .frame)) (keeps-trans (keeps-refl s (at-set (s .at + 1) s) refl) (m .keeps)) (m .notes) ev t
+      (m .built [] (state-seen u) bEnd) (m .ranged) (frame-trans (frame-at-set _ _ s) (m .frame)) (keeps-trans (keeps-refl s (at-set (s .at + 1) s) refl) (m .keeps)) (m .form) ev t

@@ -14,11 +14,6 @@ use Rattle.reader.specs.Answers.{refusal-at}
 use Rattle.lists.specs.Words.{length-flat}
 use Rattle.loader.proofs.Stores.{at-held, flat-word}
 
--- the reader m, where it gives h, goes on as f h
-bind-ok : {A B : Type 0} (m : Reader A) (f : A → Reader B) (s s' : State) (h : A) → m s ≡ pure h s' → (m >>= f) s ≡ f h s'
-unfolding _>>=_ pure next
-bind-ok {B = B} m f s s' h e = ap (λ o. next {B = B} o f) e
-
 bind-refused : {A B : Type 0} (m : Reader A) (f : A → Reader B) (s : State) (q : Refusal) → m s ≡ refused q → (m >>= f) s ≡ refused q
 unfolding _>>=_ next
 bind-refused {B = B} m f s q e = ap (λ o. next {B = B} o f) e
@@ -41,24 +36,35 @@ then a b = record {
       let w = a .goes s H in
       let v = b .goes (w .state) (w .holds) in
       record { state = v .state; holds = v .holds; same = w .same ∙ v .same; grown = record { nodes = omega arith; references = omega arith; plain = λ i l p. v .grown .plain i (omega (arith, w .grown .nodes)) (w .grown .plain i l p) } };
+  counts = λ n. b .counts (a .counts n);
 }
 
 pub still : {A : Type 0} {input : List ℕ} {room : Room} {m m' : Reader A} {T : Lists} {c : List ℕ} → ((s : State) → Holds input room s T c → m s ≡ m' s) → Goes input room m T c m' T c
-still e = record { goes = λ s H. record { state = s; holds = H; same = e s H; grown = grown-same s } }
+still e = record { goes = λ s H. record { state = s; holds = H; same = e s H; grown = grown-same s }; counts = λ n. n }
 
 -- the reader left by another name
 pub goes-to : {A : Type 0} {input : List ℕ} {room : Room} {m m' n' : Reader A} {T T' : Lists} {c c' : List ℕ} → m' ≡ n' → Goes input room m T c m' T' c' → Goes input room m T c n' T' c'
 goes-to {input = input} {room} {m} {T = T} {T'} {c} {c'} e g = subst (λ x. Goes input room m T c x T' c') e g
 
+-- the first part of more
+pub goes-part : {A B : Type 0} {input : List ℕ} {room : Room} {m m' : Reader A} {T T' : Lists} {c c' : List ℕ} (f : A → Reader B) → Goes input room m T c m' T' c' → Goes input room (m >>= f) T c (m' >>= f) T' c'
+unfolding _>>=_
+goes-part {B = B} f g = record { goes = λ s H. let w = g .goes s H in record { state = w .state; holds = w .holds; same = ap (λ o. next {B = B} o f) (w .same); grown = w .grown }; counts = g .counts }
+
 -- a step that goes, and then the rest
 pub goes-first : {A B : Type 0} {input : List ℕ} {room : Room} {m : Reader A} {a : A} {T T' : Lists} {c c' : List ℕ} (f : A → Reader B) → Goes input room m T c (pure a) T' c' → Goes input room (m >>= f) T c (f a) T' c'
-goes-first {m = m} {a = a} f g = record { goes = λ s H. let w = g .goes s H in record { state = w .state; holds = w .holds; same = bind-ok m f s (w .state) a (w .same); grown = w .grown } }
+unfolding pure _>>=_ next
+goes-first f g = goes-part f g
 
 -- ---- by the number answered
 
--- the first step of more
+-- the first part of more, and the first step
+pub lead-part : {A B : Type 0} {input : List ℕ} {room : Room} {limit : ℕ} {m m' : Reader A} {T T' : Lists} {c c' : List ℕ} {r : ℕ} (f : A → Reader B) → Leads input room limit m m' T c r T' c' → Leads input room limit (m >>= f) (m' >>= f) T c r T' c'
+lead-part {limit = limit} {m = m} {r = r} f k = record { goes = λ l. goes-part f (k .goes l); stops = λ l. record { refuses = λ s H. bind-refused m f s (refusal-at limit r) (k .stops l .refuses s H) } }
+
 pub lead-first : {A B : Type 0} {input : List ℕ} {room : Room} {limit : ℕ} {m : Reader A} {a : A} {T T' : Lists} {c c' : List ℕ} {r : ℕ} (f : A → Reader B) → Leads input room limit m (pure a) T c r T' c' → Leads input room limit (m >>= f) (f a) T c r T' c'
-lead-first {limit = limit} {m = m} {r = r} f k = record { goes = λ l. goes-first f (k .goes l); stops = λ l. record { refuses = λ s H. bind-refused m f s (refusal-at limit r) (k .stops l .refuses s H) } }
+unfolding pure _>>=_ next
+lead-first f k = lead-part f k
 
 module _ {A : Type 0} {input : List ℕ} {room : Room} {limit : ℕ} where
   -- what was done before

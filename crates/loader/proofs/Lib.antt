@@ -3,6 +3,7 @@ pub mod Counts
 pub mod Stores
 pub mod Laws
 pub mod Names
+pub mod Interned
 pub mod Steps
 pub mod Readers
 pub mod Run

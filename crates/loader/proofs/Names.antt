@@ -13,7 +13,7 @@ use lib.Dec.{eqb}
 use borrow.Author.Tests.{eq-eqb, ne-eqb}
 use Rattle.definition.specs.Run.{pick}
 use Rattle.definition.specs.Node.{Row, nil, bool, fixnum, symbol, array, hash, object, string, user, float, kind, words, equal}
-use Rattle.definition.specs.Arena.{range, name-of, named, find-symbol}
+use Rattle.definition.specs.Arena.{range, name-of, named, find-symbol, bytes-compared}
 use Rattle.loader.specs.Holds.{Plain, Symbolic, Fit, AllFit, AllSymbolic, Names, find-listed, span}
 
 -- a test that did not hold
@@ -26,32 +26,49 @@ untrue e = absurd (subst test e tt)
 
 -- ---- one row
 
-pub plain-named : (bytes name : List ℕ) (r : Row) → Plain r → named bytes name r ≡ false
-unfolding named kind
-plain-named bytes name nil p = refl
-plain-named bytes name (bool b) p = refl
-plain-named bytes name (fixnum w) p = refl
-plain-named bytes name (symbol s l) p = absurd p
-plain-named bytes name (array s n) p = refl
-plain-named bytes name (hash s n d) p = refl
-plain-named bytes name (object s n c) p = refl
-plain-named bytes name (string s l v) p = refl
-plain-named bytes name (user s l c v) p = refl
-plain-named bytes name (float s l) p = refl
+pub plain-kind : (r : Row) → Plain r → eqb (kind r) 3 ≡ false
+unfolding kind
+plain-kind nil p = refl
+plain-kind (bool b) p = refl
+plain-kind (fixnum w) p = refl
+plain-kind (symbol s l) p = absurd p
+plain-kind (array s n) p = refl
+plain-kind (hash s n d) p = refl
+plain-kind (object s n c) p = refl
+plain-kind (string s l v) p = refl
+plain-kind (user s l c v) p = refl
+plain-kind (float s l) p = refl
 
--- what a symbol's words say
-pub symbol-named : (n : ℕ) (bytes name : List ℕ) (r : Row) → Symbolic r → Fit n r → (named bytes name r ≡ equal name (take (getD (words r) 2 0) (drop (getD (words r) 1 0) bytes))) × (getD (words r) 1 0 + getD (words r) 2 0 ≤ n)
-unfolding named kind name-of range words
-symbol-named n bytes name nil p f = absurd p
-symbol-named n bytes name (bool b) p f = absurd p
-symbol-named n bytes name (fixnum w) p f = absurd p
-symbol-named n bytes name (symbol s l) p f = (refl, f)
-symbol-named n bytes name (array s k) p f = absurd p
-symbol-named n bytes name (hash s k d) p f = absurd p
-symbol-named n bytes name (object s k c) p f = absurd p
-symbol-named n bytes name (string s l v) p f = absurd p
-symbol-named n bytes name (user s l c v) p f = absurd p
-symbol-named n bytes name (float s l) p f = absurd p
+pub symbolic-kind : (r : Row) → Symbolic r → eqb (kind r) 3 ≡ true
+unfolding kind
+symbolic-kind nil p = absurd p
+symbolic-kind (bool b) p = absurd p
+symbolic-kind (fixnum w) p = absurd p
+symbolic-kind (symbol s l) p = refl
+symbolic-kind (array s n) p = absurd p
+symbolic-kind (hash s n d) p = absurd p
+symbolic-kind (object s n c) p = absurd p
+symbolic-kind (string s l v) p = absurd p
+symbolic-kind (user s l c v) p = absurd p
+symbolic-kind (float s l) p = absurd p
+
+plain-named : (bytes name : List ℕ) (r : Row) → Plain r → named bytes name r ≡ false
+unfolding named
+plain-named bytes name r p = rw (plain-kind r p) refl
+
+-- a symbol's name by its words
+pub symbol-name : (n : ℕ) (bytes : List ℕ) (r : Row) → Symbolic r → Fit n r → (name-of bytes r ≡ take (getD (words r) 2 0) (drop (getD (words r) 1 0) bytes)) × (getD (words r) 1 0 + getD (words r) 2 0 ≤ n)
+unfolding name-of range words
+symbol-name n bytes nil p f = absurd p
+symbol-name n bytes (bool b) p f = absurd p
+symbol-name n bytes (fixnum w) p f = absurd p
+symbol-name n bytes (symbol s l) p f = (refl, f)
+symbol-name n bytes (array s k) p f = absurd p
+symbol-name n bytes (hash s k d) p f = absurd p
+symbol-name n bytes (object s k c) p f = absurd p
+symbol-name n bytes (string s l v) p f = absurd p
+symbol-name n bytes (user s l c v) p f = absurd p
+symbol-name n bytes (float s l) p f = absurd p
 
 pub range-more : (b bs : List ℕ) (s l : ℕ) → s + l ≤ length b → take l (drop s (b ++ bs)) ≡ take l (drop s b)
 range-more b bs s l h =
@@ -279,6 +296,10 @@ same-cons : (X Y : List ℕ) (i : ℕ) → i < length X → i < length Y → equ
 unfolding equal
 same-cons X Y i l m = ap (λ (a : List ℕ). equal a (drop i Y)) (drop-cons X i 0 l) ∙ ap (λ (b : List ℕ). equal (getD X i 0 ∷ drop (suc i) X) b) (drop-cons Y i 0 m)
 
+compared-cons : (X Y : List ℕ) (i : ℕ) → i < length X → i < length Y → bytes-compared (drop i X) (drop i Y) ≡ suc (pick (eqb (getD X i 0) (getD Y i 0)) (bytes-compared (drop (suc i) X) (drop (suc i) Y)) 0)
+unfolding bytes-compared
+compared-cons X Y i l m = ap (λ (a : List ℕ). bytes-compared a (drop i Y)) (drop-cons X i 0 l) ∙ ap (λ (b : List ℕ). bytes-compared (getD X i 0 ∷ drop (suc i) X) b) (drop-cons Y i 0 m)
+
 never : (t : Bool) → pick t false false ≡ false
 unfolding pick
 never true = refl
@@ -324,6 +345,30 @@ module _ (input bytes : List ℕ) (from to n i : ℕ) (a : from + n ≤ length i
       let x : length lhs ≤ n = simp (length-take, length-drop) (omega arith) in
       let y : length rhs ≤ n = simp (length-take, length-drop) (omega arith) in
       ap (λ (v : List ℕ). equal v (drop n rhs)) (drop-of-length-le lhs x) ∙ ap (λ (v : List ℕ). equal [] v) (drop-of-length-le rhs y)
+
+  -- from the first byte on: one more that is the same, the first that is not, and the end
+  pub on-same : i < n → getD input (from + i) 0 ≡ getD bytes (to + i) 0 → (equal (drop i lhs) (drop i rhs) ≡ equal (drop (i + 1) lhs) (drop (i + 1) rhs)) × (bytes-compared (drop i lhs) (drop i rhs) ≡ suc (bytes-compared (drop (i + 1) lhs) (drop (i + 1) rhs)))
+  unfolding pick
+  on-same l e =
+      let x : i < length lhs = simp (length-take, length-drop) (omega arith) in
+      let y : i < length rhs = simp (length-take, length-drop) (omega arith) in
+      let q : eqb (getD lhs i 0) (getD rhs i 0) ≡ true = eq-eqb _ _ (at-lhs l ∙ e ∙ sym (at-rhs l)) in (
+        same-cons lhs rhs i x y ∙ ap (λ (t : Bool). pick t (equal (drop (suc i) lhs) (drop (suc i) rhs)) false) q ∙ ap (λ (j : ℕ). equal (drop j lhs) (drop j rhs)) (sym (add-one i)),
+        compared-cons lhs rhs i x y ∙ ap (λ (t : Bool). suc (pick t (bytes-compared (drop (suc i) lhs) (drop (suc i) rhs)) 0)) q ∙ ap (λ (j : ℕ). suc (bytes-compared (drop j lhs) (drop j rhs))) (sym (add-one i)),
+      )
+
+  pub on-apart : i < n → (getD input (from + i) 0 ≡ getD bytes (to + i) 0 → ⊥) → bytes-compared (drop i lhs) (drop i rhs) ≡ 1
+  unfolding pick
+  on-apart l e =
+      let x : i < length lhs = simp (length-take, length-drop) (omega arith) in
+      let y : i < length rhs = simp (length-take, length-drop) (omega arith) in
+      compared-cons lhs rhs i x y ∙ ap (λ (t : Bool). suc (pick t (bytes-compared (drop (suc i) lhs) (drop (suc i) rhs)) 0)) (ne-eqb _ _ (λ q. e (sym (at-lhs l) ∙ q ∙ at-rhs l)))
+
+  pub on-end : bytes-compared (drop n lhs) (drop n rhs) ≡ 0
+  unfolding bytes-compared
+  on-end =
+      let x : length lhs ≤ n = simp (length-take, length-drop) (omega arith) in
+      ap (λ (v : List ℕ). bytes-compared v (drop n rhs)) (drop-of-length-le lhs x)
 
 -- one byte more from the end, before which i are left
 pub same-more : (input bytes : List ℕ) (from to n i : ℕ) → from + n ≤ length input → to + n ≤ length bytes → 0 < i → i ≤ n → getD input (from + (i - 1)) 0 ≡ getD bytes (to + (i - 1)) 0 → equal (drop i (take n (drop from input))) (drop i (take n (drop to bytes))) ≡ true → equal (drop (i - 1) (take n (drop from input))) (drop (i - 1) (take n (drop to bytes))) ≡ true

@@ -1,28 +1,32 @@
 -- Parts of readers: a name, a value after its kind byte, members' lists, what is held for the code's needs.
 use Prim.Native.Nat.{ℕ, zero, suc, _+_, _-_, _*_, _≤_, _<_}
 use native.Mathlib.Omega.{arith}
+use native.Mathlib.Nat.{add-zero, add-assoc, le-trans, mul-le-mul, mul-le-mul-left}
 use mathlib.Core.Path.{_≡_, refl, sym, ap, _∙_, subst}
 use mathlib.Core.Bool.{Bool, true, false}
 use mathlib.Core.List.{List, [], _∷_}
 use mathlib.Core.Option.{Option, none, some}
 use mathlib.Core.Logic.{_⊎_, inl, inr}
-use lib.Dec.{eqb}
-use lib.ListN.{length, getD, set, drop, List·getD-eq-default}
-use borrow.Author.Tests.{ne-eqb, eq-eqb}
+use lib.Dec.{eqb, ltb}
+use lib.ListN.{length, getD, set, take, drop, List·getD-eq-default}
+use borrow.Author.Tests.{ne-eqb, eq-eqb, lt-ltb, le-ltb, ltb-true, ltb-false, le-leb}
 use mir.Syntax.{w32}
 use mir.Val.{Fits}
 use Rattle.definition.specs.Run.{ok, pure, refuse, pick, look, _>>=_}
 use Rattle.definition.specs.Kind.{NIL, TRUE, FALSE, FIXNUM, SYMBOL, SYMBOL-LINK, OBJECT-LINK, INSTANCE-VARIABLES, ARRAY, HASH, HASH-DEFAULT, OBJECT, STRING, USER-DEFINED, FLOAT}
-use Rattle.definition.specs.Node.{Row, nil, symbol, string, float, absent, words}
-use Rattle.definition.specs.Arena.{find-symbol, named}
-use Rattle.definition.specs.Load.{Room, State, Reader, Lists, at-set, noted, note, takes-variables, Head, String, Float, Unknown, head, value-of, read-text, read-string, read-float, read-header, read-value, read-symbol, read-symbol-link, read-symbol-like, intern, intern-as, add-symbol, add-bytes, add-node}
+use Rattle.definition.specs.Node.{Row, nil, symbol, string, float, absent, words, equal}
+use Rattle.definition.specs.Arena.{range, find-symbol, named, bytes-compared, compared-with, compared-among}
+use Rattle.definition.specs.Load.{Room, State, Reader, Lists, at-set, noted, note, compared-more, compare, takes-variables, Head, String, Float, Unknown, head, value-of, read-text, read-string, read-float, read-header, read-value, read-symbol, read-symbol-link, read-symbol-like, read-bytes, intern, intern-as, add-symbol, add-bytes, add-node}
 use Rattle.definition.specs.declared.Refusal.the-variants.{NotASymbol, TooDeep}
-use Rattle.loader.specs.Holds.{Holds, Held, Goes, Leads, Does, Leaf, Plain, new-symbol, after-i, find-listed, at-of, nodes-of, symbols-of}
+use Rattle.loader.specs.Holds.{Holds, Held, Goes, Leads, Does, Leaf, Plain, Found, Alike, Compared, answered, Counting, risen, new-symbol, read-name, add-name, after-i, find-listed, span, span-of, at-of, nodes-of, symbols-of, compared-of}
+use Rattle.lists.specs.Compared.{among-most, symbol-count-most}
 use Rattle.reader.specs.Answers.{Reads, coded, at-name, at-level}
+use Rattle.loader.proofs.Counts as K
 use Rattle.loader.proofs.Stores.{at-held}
 use Rattle.loader.proofs.Names.{listed-here, listed-on, listed-none}
+use Rattle.loader.proofs.Interned.{seek, searched, searched-list, risen-met, risen-next, risen-end}
 use Rattle.loader.proofs.Laws.{still, given, goes-to, goes-first, lead-first, lead-after, lead-stop, lead-as, refuses, bind-assoc}
-use Rattle.loader.proofs.Steps.{moved, moved-lost, lost, byte-goes, byte-missing}
+use Rattle.loader.proofs.Steps.{grown-rows, length-span, name-passed, moved, moved-lost, lost, byte-goes, byte-missing}
 
 -- ---- a value after its kind byte
 
@@ -69,11 +73,11 @@ other k l a b c d e f g h i = simp (ne-eqb k FIXNUM a, ne-eqb k SYMBOL-LINK b, n
 
 module _ {input : List ℕ} {room : Room} {limit : ℕ} {T : Lists} {c : List ℕ} {r : ℕ} where
   pub header-read : r ≡ 0 → at-of c + 2 ≤ length input → Reads (read-header input) (at-of c) r (at-of c + 2) → Does input room limit (read-header input) T c r T (set c 0 (at-of c + 2))
-  header-read z h k = let l : r < 4294967296 = omega arith in given (λ s H. l) (moved (at-of c + 2) h (λ s H. k .reads l s (sym (H .count-at)) ∙ ap (λ t. ok tt (noted t (at-set (at-of c + 2) s))) (eq-eqb r 0 z)))
+  header-read z h k = let l : r < 4294967296 = omega arith in given (λ s H. l) (moved (at-of c + 2) (omega arith) h (λ s H. k .reads l s (sym (H .count-at)) ∙ ap (λ t. ok tt (noted t (at-set (at-of c + 2) s))) (eq-eqb r 0 z)))
 
   -- an older version
   pub header-older : (r ≡ 0 → ⊥) → r < 4294967296 → at-of c + 2 ≤ length input → Reads (read-header input) (at-of c) r (at-of c + 2) → Does input room limit (read-header input) T c r T (set (set c 0 (at-of c + 2)) 6 1)
-  header-older z l h k = given (λ s H. l) (moved-lost (at-of c + 2) h (λ s H. k .reads l s (sym (H .count-at)) ∙ ap (λ t. ok tt (noted t (at-set (at-of c + 2) s))) (ne-eqb r 0 z)))
+  header-older z l h k = given (λ s H. l) (moved-lost (at-of c + 2) (omega arith) h (λ s H. k .reads l s (sym (H .count-at)) ∙ ap (λ t. ok tt (noted t (at-set (at-of c + 2) s))) (ne-eqb r 0 z)))
 
   pub header-stop : {T' : Lists} {c' : List ℕ} → 4294967296 ≤ r → Reads (read-header input) (at-of c) r (at-of c + 2) → Does input room limit (read-header input) T c r T' c'
   header-stop l k = record { goes = λ h. absurd (omega (arith, l, h)); stops = λ h. record { refuses = λ s H. k .stops h limit s (sym (H .count-at)) } }
@@ -103,17 +107,75 @@ like-missing {T = T} {c = c} l = lead-stop {T' = T} {c' = c} (omega arith) (lead
 
 -- ---- a symbol found or made
 
-module _ {input : List ℕ} {room : Room} {T : Lists} {c : List ℕ} (name : List ℕ) where
-  pub known : (h : ℕ) → ((s : State) → Holds input room s T c → find-symbol (s .bytes) name (s .nodes) 0 ≡ some h) → Goes input room (intern room name >>= add-symbol room) T c (add-symbol room h) T (set c 6 1)
-  unfolding intern look intern-as note pure _>>=_ Rattle.definition.specs.Run.next
-  known h e = lost (λ s H. ap (λ (f : Option ℕ). (intern-as room name f >>= add-symbol room) s) (e s H))
+-- a search compares at most the name's bytes with every node
+rows-most : (bytes name : List ℕ) (rows : List Row) → compared-among bytes name rows ≤ length name * length rows
+rows-most bytes name rows = le-trans (among-most bytes name rows) (mul-le-mul-left (length name) (symbol-count-most rows))
 
-  pub unknown : ((s : State) → Holds input room s T c → find-symbol (s .bytes) name (s .nodes) 0 ≡ none) → Goes input room (intern room name >>= add-symbol room) T c (add-bytes room name >>= λ start. new-symbol room start (length name)) T c
-  unfolding intern look intern-as _>>=_
-  unknown e = still (λ s H. step s (e s H))
-    where
-      step : (s : State) → find-symbol (s .bytes) name (s .nodes) 0 ≡ none → (intern room name >>= add-symbol room) s ≡ (add-bytes room name >>= λ start. new-symbol room start (length name)) s
-      step s e = ap (λ (f : Option ℕ). (intern-as room name f >>= add-symbol room) s) e ∙ bind-assoc (add-bytes room name) (λ start. add-node room (symbol start (length name))) (add-symbol room) s
+-- below 2^32 a symbol was found, from there on none
+pub found-as : {s : State} {name : List ℕ} {r : ℕ} → Found s name r → find-symbol (s .bytes) name (s .nodes) 0 ≡ answered r
+unfolding pick
+found-as {s} {name} {r} F = go (ltb r 4294967296) refl
+  where
+    go : (t : Bool) → ltb r 4294967296 ≡ t → find-symbol (s .bytes) name (s .nodes) 0 ≡ pick t (some r) none
+    go true e = F .there (ltb-true r 4294967296 e)
+    go false e = F .none (ltb-false r 4294967296 e)
+
+module _ {input : List ℕ} {room : Room} {T : Lists} {c : List ℕ} (n r : ℕ) (h : at-of c + n ≤ length input) (f : (s : State) → Holds input room s T c → Found s (span input (at-of c + n) n) r) where
+  -- the bytes that a search for the name compares
+  abbrev costs : State → ℕ
+  costs s = compared-among (s .bytes) (span input (at-of c + n) n) (s .nodes)
+
+  costs-most : (s : State) → costs s ≤ n * length (s .nodes)
+  costs-most s = let z = length-span input (at-of c + n) n (omega arith) h in rw z at (rows-most (s .bytes) (span input (at-of c + n) n) (s .nodes))
+
+  -- a name was passed and searched for
+  sought : {c' : List ℕ} → at-of c' ≡ at-of c + n → ((s : State) → Holds input room s T c → Holds input room (compared-more (costs s) (at-set (at-of c + n) s)) T c') → (Counting c → Counting c') → Goes input room (read-name input room n) T c (add-name room (span-of input c' n) r) T c'
+  unfolding read-bytes range intern look compare pick _>>=_ Rattle.definition.specs.Run.next
+  sought {c'} a g k = record {
+    goes = λ s H.
+        let e : at-of c ≡ s .at = H .count-at in
+        let le : n ≤ length input - s .at = omega (arith, e, h) in
+        let p : s .at ≡ at-of c' - n = omega (arith, e, a) in
+        let q : s .at ≡ at-of c + n - n = omega (arith, e) in
+        let z : s .at + n ≡ at-of c + n = omega (arith, e) in
+        record {
+          state = _;
+          holds = g s H;
+          same =
+              rw (le-leb _ _ le)
+              ((λ j. (intern-as room (take n (drop (p j) input)) (find-symbol (s .bytes) (take n (drop (q j) input)) (s .nodes) 0) >>= add-symbol room) (compared-more (compared-among (s .bytes) (take n (drop (q j) input)) (s .nodes)) (at-set (z j) s)))
+              ∙ ap (λ (o : Option ℕ). (intern-as room (span-of input c' n) o >>= add-symbol room) (compared-more (costs s) (at-set (at-of c + n) s))) (found-as (f s H)));
+          grown = grown-rows refl (omega arith);
+        };
+    counts = k;
+  }
+
+  -- where nothing is counted
+  pub searched-plainly : length c ≡ 8 → compared-of c ≡ 0 → Goes input room (read-name input room n) T c (add-name room (span-of input (set c 0 (at-of c + n)) n) r) T (set c 0 (at-of c + n))
+  searched-plainly z e =
+      let o = K.put 0 (at-of c + n) c in
+      let a = K.is 0 (at-of c + n) c z (omega arith) in
+      sought a (λ s H. name-passed n H (o .sized) (λ j p q. o .others j p) a (λ k. absurd (k (o .others 7 (omega arith) ∙ e))) h (costs-most s)) (λ k. absurd (k e))
+
+  -- where it is
+  pub searched-counting : {c₁ : List ℕ} (y : ℕ) → length c ≡ 8 → Counting c → c₁ ≡ set c 7 (compared-of c + y) → ((s : State) → Holds input room s T c → c₁ ≡ set c 7 (compared-of c + costs s)) → Goes input room (read-name input room n) T c (add-name room (span-of input (set c₁ 0 (at-of c + n)) n) r) T (set c₁ 0 (at-of c + n))
+  searched-counting {c₁} y z k d e =
+      let q = subst (K.Only 7 c) (sym d) (K.put 7 (compared-of c + y) c) in
+      let o = K.put 0 (at-of c + n) c₁ in
+      let a = K.is 0 (at-of c + n) c₁ (q .sized ∙ z) (omega arith) in
+      let t : (v : ℕ) → c₁ ≡ set c 7 (compared-of c + v) → compared-of (set c₁ 0 (at-of c + n)) ≡ compared-of c + v = λ v g. o .others 7 (omega arith) ∙ ap (λ (l : List ℕ). getD l 7 0) g ∙ K.is 7 (compared-of c + v) c z (omega arith) in
+      sought a
+      (λ s H. name-passed n H (o .sized ∙ q .sized) (λ j u v. o .others j u ∙ q .others j v) a (λ _. omega (arith, t (costs s) (e s H), H .notes .compared k)) h (costs-most s))
+      (λ _ g. k (omega (arith, t y d, g)))
+
+module _ {input : List ℕ} {room : Room} {T : Lists} {c : List ℕ} (name : List ℕ) {r : ℕ} where
+  pub known : r < 4294967296 → Goes input room (add-name room name r) T c (add-symbol room r) T (set c 6 1)
+  unfolding intern-as note pure pick _>>=_ Rattle.definition.specs.Run.next
+  known l = lost (λ s H. ap (λ (f : Option ℕ). (intern-as room name f >>= add-symbol room) s) (ap (λ (t : Bool). pick t (some r) none) (lt-ltb r 4294967296 l)))
+
+  pub unknown : 4294967296 ≤ r → Goes input room (add-name room name r) T c (add-bytes room name >>= λ start. new-symbol room start (length name)) T c
+  unfolding intern-as pick
+  unknown l = still (λ s H. ap (λ (t : Bool). (intern-as room name (pick t (some r) none) >>= add-symbol room) s) (le-ltb r 4294967296 l) ∙ bind-assoc (add-bytes room name) (λ start. add-node room (symbol start (length name))) (add-symbol room) s)
 
 -- ---- what stands directly after `I`
 
@@ -149,8 +211,8 @@ module _ {input : List ℕ} {T : Lists} {c : List ℕ} (H : Held input T c) wher
   pub nodes-small : length (T .nodes) ≤ 2147483647
   nodes-small = omega arith
 
-  pub seven : length c ≡ 7
-  seven = H .holds .counts
+  pub eight : length c ≡ 8
+  eight = H .holds .counts
 
   pub slot-room : {h : ℕ} → h < nodes-of c → h * 7 + 7 ≤ length (T .nodes)
   slot-room l = omega arith
@@ -163,6 +225,20 @@ twice-at-most n zero l h = omega arith
 twice-at-most n (suc zero) l h = omega arith
 twice-at-most n (suc (suc zero)) l h = omega arith
 twice-at-most n (suc (suc (suc e))) l h = absurd (omega arith)
+
+-- a name against a symbol's of its length, by how many bytes are alike
+pub compared-by : {s : State} {name Y : List ℕ} {row : Row} {n a r : ℕ} → Alike name Y n a → n < 4294967296 → (a ≡ n → r ≡ n) → ((a ≡ n → ⊥) → r ≡ 4294967296 + (a + 1)) → (equal name Y ≡ named (s .bytes) name row) × (bytes-compared name Y ≡ compared-with (s .bytes) name row) → Compared s name row r
+compared-by {s} {name} {Y} {row} {n} {a} {r} A l p q (e, f) = go (ltb a n) refl
+  where
+    go : (t : Bool) → ltb a n ≡ t → Compared s name row r
+    go true x =
+        let d : a ≡ n → ⊥ = λ z. omega (arith, z, ltb-true a n x) in
+        let b = A .part d in
+        record { same = λ h. absurd (omega (arith, h, q d)); other = λ h. (sym e ∙ b .0, omega (arith, sym f ∙ b .1, q d)) }
+    go false x =
+        let z : a ≡ n = omega (arith, A .most, ltb-false a n x) in
+        let b = A .whole z in
+        record { same = λ h. (sym e ∙ b .0, sym f ∙ b .1 ∙ sym (p z)); other = λ h. absurd (omega (arith, h, l, p z)) }
 
 -- ---- one turn of the search for a symbol
 
@@ -181,3 +257,82 @@ module _ {input : List ℕ} {room : Room} {s : State} {T : Lists} {c : List ℕ}
 
   pub found-none : (name : List ℕ) → symbols-of c ≤ i → find-listed (s .bytes) name (s .nodes) (drop i (s .symbols)) ≡ none
   found-none name l = listed-none (s .bytes) name (s .nodes) (s .symbols) i (omega (arith, H .count-symbols))
+
+-- ---- one turn of the search that counts
+
+-- the count fits 64 bits, with one name more
+count-fits : {input : List ℕ} {room : Room} {s : State} {T : Lists} {c : List ℕ} (name : List ℕ) → Holds input room s T c → length name ≤ length input → suc (s .notes .compared) + compared-among (s .bytes) name (s .nodes) < 18446744073709551616
+count-fits {input} {room} {s} name H l =
+    let x : s .at ≤ 2147483647 = omega (arith, H .inside, H .short) in
+    let y : length name ≤ 2147483647 = omega (arith, l, H .short) in
+    let z : length (s .nodes) ≤ 306783378 = omega (arith, H .small .nodes, H .room-nodes) in
+    let a = mul-le-mul x z in
+    let b = mul-le-mul y z in
+    omega (arith, a, b, H .compared, rows-most (s .bytes) name (s .nodes))
+
+-- what is left to search after entry i, of the entries from `next` on that rise
+abbrev left : State → List ℕ → ℕ → ℕ → Option ℕ × ℕ
+left s name next i = searched (s .bytes) name (s .nodes) (risen next (drop i (s .symbols)))
+
+-- of `first` and all that is compared, `total` is counted, and nothing was found
+pub record Turned (s : State) (name : List ℕ) (first total next i : ℕ) : Type 0 where
+  pub found : find-symbol (s .bytes) name (s .nodes) 0 ≡ left s name next i .0
+  pub counted : first + compared-among (s .bytes) name (s .nodes) ≡ total + left s name next i .1
+
+module _ {input : List ℕ} {room : Room} {s : State} {T : Lists} {c : List ℕ} (H : Holds input room s T c) (name : List ℕ) where
+  pub turned-start : (first : ℕ) → Turned s name first first 0 0
+  turned-start first =
+      let e = searched-list name (H .interned) in
+      record { found = sym (ap (λ (x : Option ℕ × ℕ). x .0) e); counted = ap (λ (x : Option ℕ × ℕ). first + x .1) (sym e) }
+
+  module _ {first total next : ℕ} (i : ℕ) (t : Turned s name first total next i) where
+    -- the list is over
+    pub turned-end : symbols-of c ≤ i → (find-symbol (s .bytes) name (s .nodes) 0 ≡ none) × (first + compared-among (s .bytes) name (s .nodes) ≡ total)
+    unfolding searched
+    turned-end l =
+        let e = risen-end (s .symbols) i next (omega (arith, H .count-symbols)) in
+        let q = ap (searched (s .bytes) name (s .nodes)) e in
+        (t .found ∙ ap (λ (x : Option ℕ × ℕ). x .0) q, t .counted ∙ ap (λ (x : Option ℕ × ℕ). total + x .1) q ∙ add-zero total)
+
+    module _ (l : i < symbols-of c) where
+      abbrev entry : ℕ
+      entry = getD (T .symbols) i 0
+
+      is-entry : entry ≡ getD (s .symbols) i 0
+      is-entry = same-entry H i l
+
+      there : i < length (s .symbols)
+      there = omega (arith, H .count-symbols)
+
+      -- an entry that was met
+      pub turned-met : entry < next → Turned s name first total next (i + 1)
+      turned-met h =
+          let q = ap (searched (s .bytes) name (s .nodes)) (risen-met (s .symbols) i next there (omega (arith, h, is-entry))) in
+          record { found = t .found ∙ ap (λ (x : Option ℕ × ℕ). x .0) q; counted = t .counted ∙ ap (λ (x : Option ℕ × ℕ). total + x .1) q }
+
+      -- a new one, and what is left then
+      next-left : next ≤ entry → left s name next i ≡ seek (s .bytes) name entry (getD (s .nodes) entry nil) (left s name (entry + 1) (i + 1))
+      unfolding searched
+      next-left h =
+          ap (searched (s .bytes) name (s .nodes)) (risen-next (s .symbols) i next there (omega (arith, h, is-entry)))
+          ∙ ap (λ (k : ℕ). seek (s .bytes) name k (getD (s .nodes) k nil) (left s name (k + 1) (i + 1))) (sym is-entry)
+
+      -- the bytes compared with it are among those that are left
+      pub turned-fits : next ≤ entry → first ≡ suc (s .notes .compared) → length name ≤ length input → total + compared-with (s .bytes) name (getD (s .nodes) entry nil) < 18446744073709551616
+      turned-fits h e l = let q = ap (λ (x : Option ℕ × ℕ). x .1) (next-left h) in omega (arith, t .counted, q, e, count-fits name H l)
+
+      pub turned-on : {x : ℕ} → next ≤ entry → named (s .bytes) name (getD (s .nodes) entry nil) ≡ false → compared-with (s .bytes) name (getD (s .nodes) entry nil) ≡ x → Turned s name first (total + x) (entry + 1) (i + 1)
+      unfolding pick
+      turned-on {x} h n e =
+          let q = next-left h in record {
+            found = t .found ∙ ap (λ (x : Option ℕ × ℕ). x .0) q ∙ ap (λ (b : Bool). pick b (some entry) (left s name (entry + 1) (i + 1) .0)) n;
+            counted = t .counted ∙ ap (λ (x : Option ℕ × ℕ). total + x .1) q ∙ (λ j. total + (e j + pick (n j) 0 (left s name (entry + 1) (i + 1) .1))) ∙ sym (add-assoc total x _);
+          }
+
+      pub turned-here : {x : ℕ} → next ≤ entry → named (s .bytes) name (getD (s .nodes) entry nil) ≡ true → compared-with (s .bytes) name (getD (s .nodes) entry nil) ≡ x → (find-symbol (s .bytes) name (s .nodes) 0 ≡ some entry) × (first + compared-among (s .bytes) name (s .nodes) ≡ total + x)
+      unfolding pick
+      turned-here {x} h n e =
+          let q = next-left h in (
+            t .found ∙ ap (λ (x : Option ℕ × ℕ). x .0) q ∙ ap (λ (b : Bool). pick b (some entry) (left s name (entry + 1) (i + 1) .0)) n,
+            t .counted ∙ ap (λ (x : Option ℕ × ℕ). total + x .1) q ∙ (λ j. total + (e j + pick (n j) 0 (left s name (entry + 1) (i + 1) .1))) ∙ ap (λ (k : ℕ). total + k) (add-zero x),
+          )

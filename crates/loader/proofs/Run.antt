@@ -1,5 +1,5 @@
 -- The words of a list: one more of them, and the run over integers and symbol links.
-use Prim.Native.Nat.{ℕ, zero, suc, _+_, _-_, _*_, _/_, _%_, _≤_, _<_}
+use Prim.Native.Nat.{ℕ, suc, _+_, _-_, _*_, _/_, _%_, _≤_, _<_}
 use native.Mathlib.Omega.{arith}
 use mathlib.Core.Path.{_≡_, refl, sym, ap, _∙_, subst}
 use mathlib.Core.Bool.{Bool, true, false}
@@ -13,10 +13,10 @@ use Rattle.definition.specs.Run.{pure, pick, look, _>>=_}
 use Rattle.definition.specs.Integer.{form, value, integer-bytes}
 use Rattle.definition.specs.Kind.{FIXNUM, SYMBOL-LINK}
 use Rattle.definition.specs.Node.{fixnum, words}
-use Rattle.definition.specs.Load.{Room, State, Reader, Lists, lists, Fixnum, SymbolLink, head, value-of, read-value, read-integer, read-count, read-fixnum, read-symbol-link, read-symbol-like, put-reference, add-node, entry}
+use Rattle.definition.specs.Load.{Room, Reader, Lists, lists, head, value-of, read-value, read-integer, read-count, read-fixnum, read-symbol-link, read-symbol-like, put-reference, add-node, entry}
 use Rattle.definition.specs.declared.Refusal.the-variants.{MissingSymbol}
 use Rattle.reader.specs.Integers.{size-of, word-of, dumped-at, size-small}
-use Rattle.loader.specs.Holds.{Held, Holds, Goes, Link, Next, Either, Coming, slot, slots, at-of, nodes-of, references-of, symbols-of}
+use Rattle.loader.specs.Holds.{Held, Goes, Link, Next, Either, Coming, slot, slots, at-of, nodes-of, references-of, symbols-of}
 use Rattle.loader.proofs.Counts.{is}
 use Rattle.loader.proofs.Names.{untrue}
 use Rattle.loader.proofs.Laws.{then, still, goes-to, goes-first, held-goes}
@@ -54,11 +54,11 @@ index-goes {c = c} i l e d h k =
     then (goes-first (λ i. look λ s. entry (s .symbols) i (MissingSymbol i)) (then (goes-first _ (integer-one {limit = 0} i l e d (omega arith) .goes (omega arith))) (goes-to (simp (lt-ltb i 2147483648 k)) (still (λ s H. refl)))))
     (symbol-listed i (MissingSymbol i) (omega (arith, q)))
 
-module _ {room : Room} {no re by sy ob : List ℕ} (input c : List ℕ) (limit levels : ℕ) (some : levels ≡ 0 → ⊥) (seven : length c ≡ 7) (i : ℕ) (l : at-of c + 2 ≤ length input) (k : getD input (at-of c) 0 ≡ SYMBOL-LINK) (e : form (getD input (at-of c + 1) 0) ≡ value i) (d : integer-bytes i ≡ getD input (at-of c + 1) 0 ∷ []) (h : i < symbols-of c) (small : i < 2147483648) where
+module _ {room : Room} {no re by sy ob : List ℕ} (input c : List ℕ) (limit levels : ℕ) (some : levels ≡ 0 → ⊥) (eight : length c ≡ 8) (i : ℕ) (l : at-of c + 2 ≤ length input) (k : getD input (at-of c) 0 ≡ SYMBOL-LINK) (e : form (getD input (at-of c + 1) 0) ≡ value i) (d : integer-bytes i ≡ getD input (at-of c + 1) 0 ∷ []) (h : i < symbols-of c) (small : i < 2147483648) where
   -- after the kind byte
   link-rest : Goes input room (read-symbol-link input) (lists no re by sy ob) (set c 0 (at-of c + 1)) (pure (getD sy i 0)) (lists no re by sy ob) (set c 0 (at-of c + 2))
   link-rest =
-      let p : at-of (set c 0 (at-of c + 1)) ≡ at-of c + 1 = is 0 (at-of c + 1) c seven (omega arith) in
+      let p : at-of (set c 0 (at-of c + 1)) ≡ at-of c + 1 = is 0 (at-of c + 1) c eight (omega arith) in
       let q : symbols-of (set c 0 (at-of c + 1)) ≡ symbols-of c = getD-set-other c 0 4 (at-of c + 1) 0 (omega arith) in
       let next : at-of c + 2 ≡ at-of (set c 0 (at-of c + 1)) + 1 = omega (arith, p) in
       subst (λ x. Goes input room (read-symbol-link input) (lists no re by sy ob) (set c 0 (at-of c + 1)) (pure (getD sy i 0)) (lists no re by sy ob) x) (set-set c 0 (at-of c + 1) (at-of (set c 0 (at-of c + 1)) + 1) ∙ ap (set c 0) (sym next))
@@ -79,13 +79,13 @@ size-at input at = size-of (form (getD input at 0))
 abbrev pub word-at : List ℕ → ℕ → ℕ
 word-at input at = word-of (drop (at + 1) input) (form (getD input at 0))
 
-module _ {room : Room} {no re by sy ob : List ℕ} (input c : List ℕ) (limit levels : ℕ) (some : levels ≡ 0 → ⊥) (seven : length c ≡ 7) (l : at-of c + 6 ≤ length input) (k : getD input (at-of c) 0 ≡ FIXNUM) (d : dumped-at input (at-of c + 1) ≡ true) (h : nodes-of c < length no / 7) where
+module _ {room : Room} {no re by sy ob : List ℕ} (input c : List ℕ) (limit levels : ℕ) (some : levels ≡ 0 → ⊥) (eight : length c ≡ 8) (l : at-of c + 6 ≤ length input) (k : getD input (at-of c) 0 ≡ FIXNUM) (d : dumped-at input (at-of c + 1) ≡ true) (h : nodes-of c < length no / 7) where
   -- the integer, after the kind byte
   pub integer-goes : {no' : List ℕ} → word-at input (at-of c + 1) < 4294967296 → no' ≡ sets no (nodes-of c * 7) (2 ∷ word-at input (at-of c + 1) ∷ 0 ∷ 0 ∷ 0 ∷ 0 ∷ 0 ∷ []) → Goes input room (read-value input room limit levels) (lists no re by sy ob) c (pure (nodes-of c)) (lists no' re by sy ob) (set (set c 1 (nodes-of c + 1)) 0 (at-of c + 1 + size-at input (at-of c + 1)))
   unfolding head value-of read-fixnum pick words
   integer-goes {no'} fits f =
       let c₁ = set c 0 (at-of c + 1) in
-      let p : at-of c₁ ≡ at-of c + 1 = is 0 (at-of c + 1) c seven (omega arith) in
+      let p : at-of c₁ ≡ at-of c + 1 = is 0 (at-of c + 1) c eight (omega arith) in
       let q : nodes-of c₁ ≡ nodes-of c = getD-set-other c 0 1 (at-of c + 1) 0 (omega arith) in
       let five = size-small (getD input (at-of c + 1) 0) in
       let number : Goes input room (read-integer input) (lists no re by sy ob) c₁ (pure (word-at input (at-of c + 1))) (lists no re by sy ob) (set c 0 (at-of c + 1 + size-at input (at-of c + 1))) =
@@ -145,11 +145,11 @@ module _ {input no₀ re₀ sy c₀ : List ℕ} {start end names levels : ℕ} {
   abbrev c₁ : List ℕ
   c₁ = set c 0 at
 
-  pub seven : length c ≡ 7
-  seven = sym (length-set c 0 at) ∙ R .held .2 .holds .counts
+  pub eight : length c ≡ 8
+  eight = sym (length-set c 0 at) ∙ R .held .2 .holds .counts
 
   pub is-at : at-of c₁ ≡ at
-  is-at = is 0 at c seven (omega arith)
+  is-at = is 0 at c eight (omega arith)
 
   pub at-inside : at ≤ length input
   at-inside = omega (arith, is-at, R .held .2 .holds .count-at, R .held .2 .holds .inside)

@@ -1,27 +1,29 @@
 -- One law for each primitive of the definition: what the code did to its table and its count is what the definition does.
 use Prim.Native.Nat.{ℕ, zero, suc, _+_, _-_, _*_, _/_, _≤_, _<_}
 use native.Mathlib.Omega.{arith}
+use native.Mathlib.Nat.{le-trans, mul-le-mul, add-mul}
 use mathlib.Core.Path.{_≡_, refl, sym, ap, _∙_, subst}
 use mathlib.Core.Bool.{Bool, true, false}
 use mathlib.Core.List.{List, [], _∷_, _++_}
 use lib.ListN.{length, take, drop, set, getD, replicate, length-take, length-drop, length-append, length-set, length-replicate, List·getD-append}
 use lib.Seq.{sets}
 use lib.Dec.{ltb, eqb}
-use borrow.Author.Tests.{lt-ltb, le-ltb, ltb-true, ltb-false, le-leb, lt-leb}
+use borrow.Author.Tests.{lt-ltb, le-ltb, ltb-true, ltb-false, le-leb, lt-leb, eq-eqb, ne-eqb}
 use Rattle.definition.specs.Run.{Outcome, ok, pure, refuse, next, look, pick, _>>=_}
 use Rattle.definition.specs.Integer.{form, value, integer-bytes}
 use Rattle.definition.specs.Node.{Row, nil, bool, fixnum, symbol, array, hash, object, string, user, float, absent, present, words, flat, equal}
-use Rattle.definition.specs.Arena.{range, named}
-use Rattle.definition.specs.Load.{Room, State, Reader, Lists, lists, at-set, nodes-set, references-set, bytes-set, symbols-set, objects-set, noted, read-byte, read-bytes, read-integer, add-node, reserve, add-bytes, add-symbol, add-object, fill, put-reference, entry, set-variables}
+use Rattle.definition.specs.Arena.{range, name-of, named, bytes-compared, compared-with}
+use Rattle.definition.specs.Load.{Room, Notes, State, Reader, Lists, lists, at-set, nodes-set, references-set, bytes-set, symbols-set, objects-set, noted, copied-more, compared-more, read-byte, read-bytes, read-integer, add-node, reserve, add-bytes, add-symbol, add-object, fill, put-reference, entry, set-variables}
 use Rattle.definition.specs.declared.Refusal.{Refusal}
-use Rattle.definition.specs.declared.Refusal.the-variants.{ShortInput, MissingSymbol, MissingObject, NotAnObject, NoSpace}
+use Rattle.definition.specs.declared.Refusal.the-variants.{ShortInput, NotAnObject, NoSpace}
 use Rattle.reader.specs.Answers.{coded, refusal-at, at-short, at-variables, at-space}
 use Rattle.reader.specs.Integers.{size-of, word-of, dumped-at, size-some, integer-read, integer-short, integer-none, integer-small}
-use Rattle.loader.specs.Holds.{Begins, Holds, Held, Grown, Went, Goes, Leads, Meets, Spans, AllBelow, Plain, Symbolic, Entry, Fit, AllFit, AllSymbolic, Names, Free, span, span-of, new-symbol, settle, at-of, nodes-of, references-of, bytes-of, symbols-of, objects-of, form-of}
-use Rattle.loader.proofs.Counts.{Only, is, none}
+use Rattle.loader.specs.Holds.{Begins, Holds, Held, Grown, Went, Goes, Leads, Meets, Spans, AllBelow, Plain, Symbolic, Entry, Fit, AllFit, Interned, Noted, Free, span, span-of, new-symbol, settle, at-of, nodes-of, references-of, bytes-of, symbols-of, objects-of, compared-of, Counting}
+use Rattle.loader.proofs.Counts.{Only, is, none, counting}
 use Rattle.loader.proofs.Counts as K
 use Rattle.loader.proofs.Stores.{push, put, put-row, push-row, at-held, sets-first, split}
-use Rattle.loader.proofs.Names.{symbolic-below, symbolic-more, symbolic-set, symbolic-known, symbolic-new, names-bytes, names-more, names-set, names-known, names-new, plain-set, symbol-named, same-length, range-more}
+use Rattle.loader.proofs.Interned.{interned-bytes, interned-more, interned-set, interned-known, interned-new}
+use Rattle.loader.proofs.Names.{symbolic-kind, symbolic-below, plain-set, symbol-name, same-length, range-more}
 use Rattle.loader.proofs.Laws.{word, word-0, there, free-plain, denied, given, still, met-as, lead-first, lead-after, lead-stop}
 
 -- ---- rows that fit
@@ -71,37 +73,47 @@ below-snoc {n} {h} (x ∷ l) b g (suc i) lt = below-snoc l (λ j k. b (suc j) (o
 
 -- ---- a state is held with one part changed
 
-form-same : {i : ℕ} {c c' : List ℕ} {t : Bool} → Only i c c' → (6 ≡ i → ⊥) → eqb (form-of c) 0 ≡ t → eqb (form-of c') 0 ≡ t
-form-same o n e = ap (λ (x : ℕ). eqb x 0) (o .others 6 n) ∙ e
+noted-same : {i : ℕ} {c c' : List ℕ} {n : Notes} → Only i c c' → (6 ≡ i → ⊥) → (7 ≡ i → ⊥) → Noted n c → Noted n c'
+noted-same o a b N = record { form = ap (λ (x : ℕ). eqb x 0) (o .others 6 a) ∙ N .form; compared = λ k. o .others 7 b ∙ N .compared (λ e. k (o .others 7 b ∙ e)) }
+
+-- the bound of the bytes compared, where more was read and there are more nodes
+bound-more : {x a b m n : ℕ} → x ≤ a * m → a ≤ b → m ≤ n → x ≤ b * n
+bound-more h p q = le-trans h (mul-le-mul p q)
 
 -- what was read is noted as not in dump form
 form-lost : {input : List ℕ} {room : Room} {s : State} {c : List ℕ} {T : Lists} → Holds input room s T c → Holds input room (noted false s) T (set c 6 1)
 form-lost {c = c} H =
     let o = K.put 6 1 c in
-    record { small = H .small; counts = o .sized ∙ H .counts; nodes = H .nodes; references = H .references; bytes = H .bytes; symbols = H .symbols; objects = H .objects; count-at = o .others 0 (omega arith) ∙ H .count-at; inside = H .inside; count-nodes = o .others 1 (omega arith) ∙ H .count-nodes; room-nodes = H .room-nodes; count-references = o .others 2 (omega arith) ∙ H .count-references; count-bytes = o .others 3 (omega arith) ∙ H .count-bytes; count-symbols = o .others 4 (omega arith) ∙ H .count-symbols; count-objects = o .others 5 (omega arith) ∙ H .count-objects; form = ap (λ (x : ℕ). eqb x 0) (is 6 1 c (H .counts) (omega arith)); below = H .below; fit = H .fit; symbolic = H .symbolic; names = H .names }
+    record { small = H .small; short = H .short; counts = o .sized ∙ H .counts; nodes = H .nodes; references = H .references; bytes = H .bytes; symbols = H .symbols; objects = H .objects; count-at = o .others 0 (omega arith) ∙ H .count-at; inside = H .inside; count-nodes = o .others 1 (omega arith) ∙ H .count-nodes; room-nodes = H .room-nodes; count-references = o .others 2 (omega arith) ∙ H .count-references; count-bytes = o .others 3 (omega arith) ∙ H .count-bytes; count-symbols = o .others 4 (omega arith) ∙ H .count-symbols; count-objects = o .others 5 (omega arith) ∙ H .count-objects; notes = record { form = ap (λ (x : ℕ). eqb x 0) (is 6 1 c (H .counts) (omega arith)); compared = λ k. o .others 7 (omega arith) ∙ H .notes .compared (λ e. k (o .others 7 (omega arith) ∙ e)) }; copied = H .copied; compared = H .compared; below = H .below; fit = H .fit; interned = H .interned }
 
-at-changed : {input : List ℕ} {room : Room} {s : State} {c c' : List ℕ} {T : Lists} {n : ℕ} → Holds input room s T c → Only 0 c c' → at-of c' ≡ n → n ≤ length input → Holds input room (at-set n s) T c'
-at-changed H o e h = record { small = H .small; counts = o .sized ∙ H .counts; nodes = H .nodes; references = H .references; bytes = H .bytes; symbols = H .symbols; objects = H .objects; count-at = e; inside = h; count-nodes = o .others 1 (omega arith) ∙ H .count-nodes; room-nodes = H .room-nodes; count-references = o .others 2 (omega arith) ∙ H .count-references; count-bytes = o .others 3 (omega arith) ∙ H .count-bytes; count-symbols = o .others 4 (omega arith) ∙ H .count-symbols; count-objects = o .others 5 (omega arith) ∙ H .count-objects; form = form-same o (omega arith) (H .form); below = H .below; fit = H .fit; symbolic = H .symbolic; names = H .names }
+at-changed : {input : List ℕ} {room : Room} {s : State} {c c' : List ℕ} {T : Lists} {n : ℕ} → Holds input room s T c → Only 0 c c' → at-of c' ≡ n → s .at ≤ n → n ≤ length input → Holds input room (at-set n s) T c'
+at-changed H o e g h = record { small = H .small; short = H .short; counts = o .sized ∙ H .counts; nodes = H .nodes; references = H .references; bytes = H .bytes; symbols = H .symbols; objects = H .objects; count-at = e; inside = h; count-nodes = o .others 1 (omega arith) ∙ H .count-nodes; room-nodes = H .room-nodes; count-references = o .others 2 (omega arith) ∙ H .count-references; count-bytes = o .others 3 (omega arith) ∙ H .count-bytes; count-symbols = o .others 4 (omega arith) ∙ H .count-symbols; count-objects = o .others 5 (omega arith) ∙ H .count-objects; notes = noted-same o (omega arith) (omega arith) (H .notes); copied = H .copied; compared = bound-more (H .compared) g (omega arith); below = H .below; fit = H .fit; interned = H .interned }
+
+-- a name of n bytes was passed and x bytes compared, which are counted where they are
+pub name-passed : {input : List ℕ} {room : Room} {s : State} {c c' : List ℕ} {T : Lists} {x : ℕ} (n : ℕ) → Holds input room s T c → length c' ≡ length c → ((j : ℕ) → (j ≡ 0 → ⊥) → (j ≡ 7 → ⊥) → getD c' j 0 ≡ getD c j 0) → at-of c' ≡ at-of c + n → (Counting c' → compared-of c' ≡ suc (s .notes .compared + x)) → at-of c + n ≤ length input → x ≤ n * length (s .nodes) → Holds input room (compared-more x (at-set (at-of c + n) s)) T c'
+name-passed {s = s} {c} n H z o e k h l =
+    let g : s .at * length (s .nodes) + n * length (s .nodes) ≡ (at-of c + n) * length (s .nodes) = sym (add-mul (s .at) n (length (s .nodes))) ∙ ap (λ (a : ℕ). (a + n) * length (s .nodes)) (sym (H .count-at)) in
+    record { small = H .small; short = H .short; counts = z ∙ H .counts; nodes = H .nodes; references = H .references; bytes = H .bytes; symbols = H .symbols; objects = H .objects; count-at = e; inside = h; count-nodes = o 1 (omega arith) (omega arith) ∙ H .count-nodes; room-nodes = H .room-nodes; count-references = o 2 (omega arith) (omega arith) ∙ H .count-references; count-bytes = o 3 (omega arith) (omega arith) ∙ H .count-bytes; count-symbols = o 4 (omega arith) (omega arith) ∙ H .count-symbols; count-objects = o 5 (omega arith) (omega arith) ∙ H .count-objects; notes = record { form = ap (λ (v : ℕ). eqb v 0) (o 6 (omega arith) (omega arith)) ∙ H .notes .form; compared = k }; copied = H .copied; compared = omega (arith, H .compared, l, g); below = H .below; fit = H .fit; interned = H .interned }
 
 module _ {input : List ℕ} {room : Room} {s : State} {c c' : List ℕ} {no re by sy ob : List ℕ} (H : Holds input room s (lists no re by sy ob) c) where
-  nodes-changed : {rows : List Row} {no' : List ℕ} → Only 1 c c' → Begins (room .nodes * 7) (flat rows) no' → nodes-of c' ≡ length rows → length (s .nodes) ≤ length rows → length rows ≤ room .nodes → AllFit (length (s .bytes)) rows → AllSymbolic rows (s .symbols) → Names (s .bytes) rows (s .symbols) → Holds input room (nodes-set rows s) (lists no' re by sy ob) c'
-  nodes-changed o p e g h f y m = record { small = H .small; counts = o .sized ∙ H .counts; nodes = p; references = H .references; bytes = H .bytes; symbols = H .symbols; objects = H .objects; count-at = o .others 0 (omega arith) ∙ H .count-at; inside = H .inside; count-nodes = e; room-nodes = h; count-references = o .others 2 (omega arith) ∙ H .count-references; count-bytes = o .others 3 (omega arith) ∙ H .count-bytes; count-symbols = o .others 4 (omega arith) ∙ H .count-symbols; count-objects = o .others 5 (omega arith) ∙ H .count-objects; form = form-same o (omega arith) (H .form); below = λ i l. omega (arith, H .below i l); fit = f; symbolic = y; names = m }
+  nodes-changed : {rows : List Row} {no' : List ℕ} → Only 1 c c' → Begins (room .nodes * 7) (flat rows) no' → nodes-of c' ≡ length rows → length (s .nodes) ≤ length rows → length rows ≤ room .nodes → AllFit (length (s .bytes)) rows → Interned (s .bytes) rows (s .symbols) → Holds input room (nodes-set rows s) (lists no' re by sy ob) c'
+  nodes-changed o p e g h f y = record { small = H .small; short = H .short; counts = o .sized ∙ H .counts; nodes = p; references = H .references; bytes = H .bytes; symbols = H .symbols; objects = H .objects; count-at = o .others 0 (omega arith) ∙ H .count-at; inside = H .inside; count-nodes = e; room-nodes = h; count-references = o .others 2 (omega arith) ∙ H .count-references; count-bytes = o .others 3 (omega arith) ∙ H .count-bytes; count-symbols = o .others 4 (omega arith) ∙ H .count-symbols; count-objects = o .others 5 (omega arith) ∙ H .count-objects; notes = noted-same o (omega arith) (omega arith) (H .notes); copied = H .copied; compared = bound-more (H .compared) (omega arith) g; below = λ i l. omega (arith, H .below i l); fit = f; interned = y }
 
   references-changed : {l re' : List ℕ} → Only 2 c c' → Begins (room .references) l re' → references-of c' ≡ length l → Holds input room (references-set l s) (lists no re' by sy ob) c'
-  references-changed o p e = record { small = H .small; counts = o .sized ∙ H .counts; nodes = H .nodes; references = p; bytes = H .bytes; symbols = H .symbols; objects = H .objects; count-at = o .others 0 (omega arith) ∙ H .count-at; inside = H .inside; count-nodes = o .others 1 (omega arith) ∙ H .count-nodes; room-nodes = H .room-nodes; count-references = e; count-bytes = o .others 3 (omega arith) ∙ H .count-bytes; count-symbols = o .others 4 (omega arith) ∙ H .count-symbols; count-objects = o .others 5 (omega arith) ∙ H .count-objects; form = form-same o (omega arith) (H .form); below = H .below; fit = H .fit; symbolic = H .symbolic; names = H .names }
+  references-changed o p e = record { small = H .small; short = H .short; counts = o .sized ∙ H .counts; nodes = H .nodes; references = p; bytes = H .bytes; symbols = H .symbols; objects = H .objects; count-at = o .others 0 (omega arith) ∙ H .count-at; inside = H .inside; count-nodes = o .others 1 (omega arith) ∙ H .count-nodes; room-nodes = H .room-nodes; count-references = e; count-bytes = o .others 3 (omega arith) ∙ H .count-bytes; count-symbols = o .others 4 (omega arith) ∙ H .count-symbols; count-objects = o .others 5 (omega arith) ∙ H .count-objects; notes = noted-same o (omega arith) (omega arith) (H .notes); copied = H .copied; compared = H .compared; below = H .below; fit = H .fit; interned = H .interned }
 
-  bytes-changed : {by' : List ℕ} (bs : List ℕ) → Only 3 c c' → Begins (room .bytes) (s .bytes ++ bs) by' → bytes-of c' ≡ length (s .bytes ++ bs) → length (s .bytes) ≤ length (s .bytes ++ bs) → Holds input room (bytes-set (s .bytes ++ bs) s) (lists no re by' sy ob) c'
-  bytes-changed bs o p e g = record { small = H .small; counts = o .sized ∙ H .counts; nodes = H .nodes; references = H .references; bytes = p; symbols = H .symbols; objects = H .objects; count-at = o .others 0 (omega arith) ∙ H .count-at; inside = H .inside; count-nodes = o .others 1 (omega arith) ∙ H .count-nodes; room-nodes = H .room-nodes; count-references = o .others 2 (omega arith) ∙ H .count-references; count-bytes = e; count-symbols = o .others 4 (omega arith) ∙ H .count-symbols; count-objects = o .others 5 (omega arith) ∙ H .count-objects; form = form-same o (omega arith) (H .form); below = H .below; fit = λ i l. fit-more (getD (s .nodes) i nil) g (H .fit i l); symbolic = H .symbolic; names = names-bytes (s .bytes) bs (s .nodes) (s .symbols) (H .fit) (H .names) }
+  bytes-changed : {by' : List ℕ} (bs : List ℕ) → Only 3 c c' → Begins (room .bytes) (s .bytes ++ bs) by' → bytes-of c' ≡ length (s .bytes ++ bs) → length (s .bytes) ≤ length (s .bytes ++ bs) → Holds input room (copied-more (length bs) (bytes-set (s .bytes ++ bs) s)) (lists no re by' sy ob) c'
+  bytes-changed bs o p e g = record { small = H .small; short = H .short; counts = o .sized ∙ H .counts; nodes = H .nodes; references = H .references; bytes = p; symbols = H .symbols; objects = H .objects; count-at = o .others 0 (omega arith) ∙ H .count-at; inside = H .inside; count-nodes = o .others 1 (omega arith) ∙ H .count-nodes; room-nodes = H .room-nodes; count-references = o .others 2 (omega arith) ∙ H .count-references; count-bytes = e; count-symbols = o .others 4 (omega arith) ∙ H .count-symbols; count-objects = o .others 5 (omega arith) ∙ H .count-objects; notes = (let N = noted-same o (omega arith) (omega arith) (H .notes) in record { form = N .form; compared = N .compared }); copied = ap (λ (n : ℕ). n + length bs) (H .copied) ∙ sym (length-append (s .bytes) bs); compared = H .compared; below = H .below; fit = λ i l. fit-more (getD (s .nodes) i nil) g (H .fit i l); interned = interned-bytes (s .bytes) bs (s .nodes) (s .symbols) (H .fit) (H .interned) }
 
-  symbols-changed : {l sy' : List ℕ} → Only 4 c c' → Begins (room .symbols) l sy' → symbols-of c' ≡ length l → AllSymbolic (s .nodes) l → Names (s .bytes) (s .nodes) l → Holds input room (symbols-set l s) (lists no re by sy' ob) c'
-  symbols-changed o p e y m = record { small = H .small; counts = o .sized ∙ H .counts; nodes = H .nodes; references = H .references; bytes = H .bytes; symbols = p; objects = H .objects; count-at = o .others 0 (omega arith) ∙ H .count-at; inside = H .inside; count-nodes = o .others 1 (omega arith) ∙ H .count-nodes; room-nodes = H .room-nodes; count-references = o .others 2 (omega arith) ∙ H .count-references; count-bytes = o .others 3 (omega arith) ∙ H .count-bytes; count-symbols = e; count-objects = o .others 5 (omega arith) ∙ H .count-objects; form = form-same o (omega arith) (H .form); below = H .below; fit = H .fit; symbolic = y; names = m }
+  symbols-changed : {l sy' : List ℕ} → Only 4 c c' → Begins (room .symbols) l sy' → symbols-of c' ≡ length l → Interned (s .bytes) (s .nodes) l → Holds input room (symbols-set l s) (lists no re by sy' ob) c'
+  symbols-changed o p e y = record { small = H .small; short = H .short; counts = o .sized ∙ H .counts; nodes = H .nodes; references = H .references; bytes = H .bytes; symbols = p; objects = H .objects; count-at = o .others 0 (omega arith) ∙ H .count-at; inside = H .inside; count-nodes = o .others 1 (omega arith) ∙ H .count-nodes; room-nodes = H .room-nodes; count-references = o .others 2 (omega arith) ∙ H .count-references; count-bytes = o .others 3 (omega arith) ∙ H .count-bytes; count-symbols = e; count-objects = o .others 5 (omega arith) ∙ H .count-objects; notes = noted-same o (omega arith) (omega arith) (H .notes); copied = H .copied; compared = H .compared; below = H .below; fit = H .fit; interned = y }
 
   objects-changed : {l ob' : List ℕ} → Only 5 c c' → Begins (room .objects) l ob' → objects-of c' ≡ length l → AllBelow (length (s .nodes)) l → Holds input room (objects-set l s) (lists no re by sy ob') c'
-  objects-changed o p e b = record { small = H .small; counts = o .sized ∙ H .counts; nodes = H .nodes; references = H .references; bytes = H .bytes; symbols = H .symbols; objects = p; count-at = o .others 0 (omega arith) ∙ H .count-at; inside = H .inside; count-nodes = o .others 1 (omega arith) ∙ H .count-nodes; room-nodes = H .room-nodes; count-references = o .others 2 (omega arith) ∙ H .count-references; count-bytes = o .others 3 (omega arith) ∙ H .count-bytes; count-symbols = o .others 4 (omega arith) ∙ H .count-symbols; count-objects = e; form = form-same o (omega arith) (H .form); below = b; fit = H .fit; symbolic = H .symbolic; names = H .names }
+  objects-changed o p e b = record { small = H .small; short = H .short; counts = o .sized ∙ H .counts; nodes = H .nodes; references = H .references; bytes = H .bytes; symbols = H .symbols; objects = p; count-at = o .others 0 (omega arith) ∙ H .count-at; inside = H .inside; count-nodes = o .others 1 (omega arith) ∙ H .count-nodes; room-nodes = H .room-nodes; count-references = o .others 2 (omega arith) ∙ H .count-references; count-bytes = o .others 3 (omega arith) ∙ H .count-bytes; count-symbols = o .others 4 (omega arith) ∙ H .count-symbols; count-objects = e; notes = noted-same o (omega arith) (omega arith) (H .notes); copied = H .copied; compared = H .compared; below = b; fit = H .fit; interned = H .interned }
 
   -- a symbol's node and its entry
   symbol-changed : {no' sy' c₁ : List ℕ} (r : Row) → Only 1 c c₁ → Only 4 c₁ c' → Begins (room .nodes * 7) (flat (s .nodes ++ (r ∷ []))) no' → Begins (room .symbols) (s .symbols ++ (length (s .nodes) ∷ [])) sy' → nodes-of c₁ ≡ length (s .nodes ++ (r ∷ [])) → symbols-of c' ≡ length (s .symbols ++ (length (s .nodes) ∷ [])) → length (s .nodes) ≤ length (s .nodes ++ (r ∷ [])) → length (s .nodes ++ (r ∷ [])) ≤ room .nodes → Fit (length (s .bytes)) r → Symbolic r → Holds input room (symbols-set (s .symbols ++ (length (s .nodes) ∷ [])) (nodes-set (s .nodes ++ (r ∷ [])) s)) (lists no' re by sy' ob) c'
-  symbol-changed r a o p q e d g h f y = record { small = H .small; counts = o .sized ∙ a .sized ∙ H .counts; nodes = p; references = H .references; bytes = H .bytes; symbols = q; objects = H .objects; count-at = o .others 0 (omega arith) ∙ a .others 0 (omega arith) ∙ H .count-at; inside = H .inside; count-nodes = o .others 1 (omega arith) ∙ e; room-nodes = h; count-references = o .others 2 (omega arith) ∙ a .others 2 (omega arith) ∙ H .count-references; count-bytes = o .others 3 (omega arith) ∙ a .others 3 (omega arith) ∙ H .count-bytes; count-symbols = d; count-objects = o .others 5 (omega arith) ∙ a .others 5 (omega arith) ∙ H .count-objects; form = form-same o (omega arith) (form-same a (omega arith) (H .form)); below = λ i l. omega (arith, H .below i l); fit = fit-snoc _ r (s .nodes) (H .fit) f; symbolic = symbolic-new (s .nodes) r (s .symbols) y (H .symbolic); names = names-new (s .bytes) (s .nodes) r (s .symbols) (H .symbolic) (H .names) }
+  symbol-changed r a o p q e d g h f y = record { small = H .small; short = H .short; counts = o .sized ∙ a .sized ∙ H .counts; nodes = p; references = H .references; bytes = H .bytes; symbols = q; objects = H .objects; count-at = o .others 0 (omega arith) ∙ a .others 0 (omega arith) ∙ H .count-at; inside = H .inside; count-nodes = o .others 1 (omega arith) ∙ e; room-nodes = h; count-references = o .others 2 (omega arith) ∙ a .others 2 (omega arith) ∙ H .count-references; count-bytes = o .others 3 (omega arith) ∙ a .others 3 (omega arith) ∙ H .count-bytes; count-symbols = d; count-objects = o .others 5 (omega arith) ∙ a .others 5 (omega arith) ∙ H .count-objects; notes = noted-same o (omega arith) (omega arith) (noted-same a (omega arith) (omega arith) (H .notes)); copied = H .copied; compared = bound-more (H .compared) (omega arith) g; below = λ i l. omega (arith, H .below i l); fit = fit-snoc _ r (s .nodes) (H .fit) f; interned = interned-new (s .bytes) (s .nodes) r (s .symbols) y (H .interned) }
 
 pub object-below : {input : List ℕ} {T : Lists} {c : List ℕ} {i : ℕ} → Held input T c → i < objects-of c → getD (T .objects) i 0 < nodes-of c
 object-below {i = i} H l =
@@ -112,7 +124,7 @@ object-below {i = i} H l =
 pub entry-symbolic : {input : List ℕ} {room : Room} {s : State} {T : Lists} {c : List ℕ} (i : ℕ) → Holds input room s T c → i < symbols-of c → Symbolic (getD (s .nodes) (getD (T .symbols) i 0) nil)
 entry-symbolic {s = s} i H l =
     let lt : i < length (s .symbols) = omega (arith, H .count-symbols) in
-    subst (λ (h : ℕ). Symbolic (getD (s .nodes) h nil)) (sym (at-held i (H .symbols) lt)) (H .symbolic i lt)
+    subst (λ (h : ℕ). Symbolic (getD (s .nodes) h nil)) (sym (at-held i (H .symbols) lt)) (H .interned .symbolic i lt)
 
 pub symbol-below : {input : List ℕ} {T : Lists} {c : List ℕ} {i : ℕ} → Held input T c → i < symbols-of c → getD (T .symbols) i 0 < nodes-of c
 symbol-below {i = i} H l = omega (arith, symbolic-below (H .state .nodes) _ (entry-symbolic i (H .holds) l), H .holds .count-nodes)
@@ -160,7 +172,7 @@ unfolding pure
 went {s' = s'} H e g = record { state = s'; holds = H; same = e; grown = g }
 
 -- the nodes are as before
-grown-rows : {s s' : State} → s .nodes ≡ s' .nodes → length (s .references) ≤ length (s' .references) → Grown s s'
+pub grown-rows : {s s' : State} → s .nodes ≡ s' .nodes → length (s .references) ≤ length (s' .references) → Grown s s'
 grown-rows {s} {s'} e l = record { nodes = omega (arith, ap length e); references = l; plain = λ i k p. subst (λ (x : List Row). Plain (getD x i nil)) e p }
 
 grown-snoc : (s : State) (r : Row) (s' : State) → s' .nodes ≡ s .nodes ++ (r ∷ []) → s' .references ≡ s .references → Grown s s'
@@ -188,7 +200,7 @@ module _ {input : List ℕ} {room : Room} {c : List ℕ} {no re by sy ob : List 
       let n : nodes-of c ≡ length (set (s .nodes) i row) = H .count-nodes ∙ sym (length-set (s .nodes) i row) in
       let le : length (set (s .nodes) i row) ≤ room .nodes = simp length-set (H .room-nodes) in
       let p : Begins (room .nodes * 7) (flat (set (s .nodes) i row)) no' = rw (f, ← e) (put-row (s .nodes) i row (H .nodes) (omega arith)) in
-      went (nodes-changed H (none 1 c) p n (simp length-set (omega arith)) le (fit-set _ row (s .nodes) i (H .fit) (plain-fit _ row pl)) (symbolic-set (s .nodes) i row (s .symbols) q (H .symbolic)) (names-set (s .bytes) (s .nodes) i row (s .symbols) pl q (H .names)))
+      went (nodes-changed H (none 1 c) p n (simp length-set (omega arith)) le (fit-set _ row (s .nodes) i (H .fit) (plain-fit _ row pl)) (interned-set (s .bytes) (s .nodes) i row (s .symbols) pl q (H .interned)))
       refl (grown-set s i row (omega (arith, H .count-nodes)) pl)
 
   pub words-reserved : {re' : List ℕ} (n : ℕ) → n ≤ length re - references-of c → re' ≡ sets re (references-of c) (replicate n 0) → Goes input room (reserve room n) (lists no re by sy ob) c (pure (references-of c)) (lists no re' by sy ob) (set c 2 (references-of c + n))
@@ -203,6 +215,7 @@ module _ {input : List ℕ} {room : Room} {c : List ℕ} {no re by sy ob : List 
         let e : references-of c + n ≡ length (s .references ++ replicate n 0) = simp (length-append, length-replicate) (omega arith) in
         let p : Begins (room .references) (s .references ++ replicate n 0) re' = rw (f, k) (push (replicate n 0) (H .references) (omega (arith, z, H .references .fits))) in
         went (references-changed H o p (j ∙ e)) (simp (le-leb _ _ le, k)) (grown-rows refl (omega (arith, e, k)));
+    counts = counting (K.put 2 (references-of c + n) c) (omega arith);
   }
 
   pub reference-put : (i v : ℕ) → i < references-of c → Goes input room (put-reference i v) (lists no re by sy ob) c (pure tt) (lists no (set re i v) by sy ob) c
@@ -211,6 +224,7 @@ module _ {input : List ℕ} {room : Room} {c : List ℕ} {no re by sy ob : List 
     goes = λ s H.
         let e : references-of c ≡ length (set (s .references) i v) = H .count-references ∙ sym (length-set (s .references) i v) in
         went (references-changed H (none 2 c) (put i v (H .references) (omega arith)) e) refl (grown-rows refl (omega (arith, length-set (s .references) i v)));
+    counts = λ n. n;
   }
 
   pub row-goes : {no' : List ℕ} (row : Row) (ws : List ℕ) → words row ≡ ws → Plain row → nodes-of c < length no / 7 → no' ≡ sets no (nodes-of c * 7) ws → Goes input room (add-node room row) (lists no re by sy ob) c (pure (nodes-of c)) (lists no' re by sy ob) (set c 1 (nodes-of c + 1))
@@ -223,8 +237,9 @@ module _ {input : List ℕ} {room : Room} {c : List ℕ} {no re by sy ob : List 
         let j = is 1 (nodes-of c + 1) c (H .counts) (omega arith) in
         let n : nodes-of c + 1 ≡ length (s .nodes ++ (row ∷ [])) = simp length-append (omega arith) in
         let p : Begins (room .nodes * 7) (flat (s .nodes ++ (row ∷ []))) no' = rw (f, ← e, k) (push-row (room .nodes) (s .nodes) row (H .nodes) lt) in
-        went (nodes-changed H o p (j ∙ n) (simp length-append (omega arith)) (omega arith) (fit-snoc _ row (s .nodes) (H .fit) (plain-fit _ row pl)) (symbolic-more (s .nodes) row (s .symbols) (H .symbolic)) (names-more (s .bytes) (s .nodes) row (s .symbols) pl (H .symbolic) (H .names)))
+        went (nodes-changed H o p (j ∙ n) (simp length-append (omega arith)) (omega arith) (fit-snoc _ row (s .nodes) (H .fit) (plain-fit _ row pl)) (interned-more (s .bytes) (s .nodes) row (s .symbols) pl (H .interned)))
         (simp (lt-ltb _ _ lt, k)) (grown-snoc s row _ refl refl);
+    counts = counting (K.put 1 (nodes-of c + 1) c) (omega arith);
   }
 
   pub symbol-listed : (i : ℕ) (q : Refusal) → i < symbols-of c → Goes input room (look λ s. entry (s .symbols) i q) (lists no re by sy ob) c (pure (getD sy i 0)) (lists no re by sy ob) c
@@ -233,6 +248,7 @@ module _ {input : List ℕ} {room : Room} {c : List ℕ} {no re by sy ob : List 
     goes = λ s H.
         let lt : i < length (s .symbols) = omega arith in
         went H (simp (lt-ltb _ _ lt, at-held i (H .symbols) lt)) (grown-rows refl (omega arith));
+    counts = λ n. n;
   }
 
 module _ {input : List ℕ} {room : Room} {limit : ℕ} {c : List ℕ} {no re by sy ob : List ℕ} where
@@ -244,7 +260,7 @@ module _ {input : List ℕ} {room : Room} {limit : ℕ} {c : List ℕ} {no re by
   row-full row h = denied (NoSpace 1) (omega arith) (at-space limit 1 (omega arith)) (record { refuses = λ s H. let le : room .nodes ≤ length (s .nodes) = omega arith in simp (le-ltb _ _ le) })
 
   pub row-filled : {no' : List ℕ} (i : ℕ) (row : Row) (ws : List ℕ) → words row ≡ ws → Plain row → i < nodes-of c → Free no i → no' ≡ sets no (i * 7) ws → Meets input room limit (fill i row) (lists no re by sy ob) c i (lists no' re by sy ob) c
-  row-filled i row ws e pl h q f = given (λ s H. omega arith) (record { goes = λ s H. row-went i row ws e pl h f s H (free-plain H i h q) })
+  row-filled i row ws e pl h q f = given (λ s H. omega arith) (record { goes = λ s H. row-went i row ws e pl h f s H (free-plain H i h q); counts = λ n. n })
 
   pub object-added : (h : ℕ) → h < nodes-of c → objects-of c < length ob → Meets input room limit (add-object room h) (lists no re by sy ob) c h (lists no re by sy (set ob (objects-of c) h)) (set c 5 (objects-of c + 1))
   unfolding add-object pick
@@ -257,6 +273,7 @@ module _ {input : List ℕ} {room : Room} {limit : ℕ} {c : List ℕ} {no re by
         let p : Begins (room .objects) (s .objects ++ (h ∷ [])) (set ob (objects-of c) h) = rw k (push (h ∷ []) (H .objects) (omega arith)) in
         went (objects-changed H o p (is 5 _ c (H .counts) (omega arith) ∙ n) (below-snoc (s .objects) (H .below) (omega arith)))
         (simp (lt-ltb _ _ lt)) (grown-rows refl (omega arith));
+    counts = counting (K.put 5 (objects-of c + 1) c) (omega arith);
   })
 
   pub object-full : (h : ℕ) {T' : Lists} {c' : List ℕ} → length ob ≤ objects-of c → Meets input room limit (add-object room h) (lists no re by sy ob) c (coded 12 5) T' c'
@@ -272,8 +289,9 @@ module _ {input : List ℕ} {room : Room} {limit : ℕ} {c : List ℕ} {no re by
         let o = K.put 4 (symbols-of c + 1) c in
         let n : symbols-of c + 1 ≡ length (s .symbols ++ (h ∷ [])) = simp length-append (omega arith) in
         let p : Begins (room .symbols) (s .symbols ++ (h ∷ [])) (set sy (symbols-of c) h) = rw k (push (h ∷ []) (H .symbols) (omega arith)) in
-        went (symbols-changed H o p (is 4 _ c (H .counts) (omega arith) ∙ n) (symbolic-known (s .nodes) (s .symbols) h (y s H) (H .symbolic)) (names-known (s .bytes) (s .nodes) (s .symbols) h (y s H) (H .names)))
+        went (symbols-changed H o p (is 4 _ c (H .counts) (omega arith) ∙ n) (interned-known (s .bytes) (s .nodes) (s .symbols) h (y s H) (H .interned)))
         (simp (lt-ltb _ _ lt)) (grown-rows refl (omega arith));
+    counts = counting (K.put 4 (symbols-of c + 1) c) (omega arith);
   })
 
   pub symbol-full : (h : ℕ) {T' : Lists} {c' : List ℕ} → length sy ≤ symbols-of c → Meets input room limit (add-symbol room h) (lists no re by sy ob) c (coded 12 4) T' c'
@@ -302,6 +320,7 @@ module _ {input : List ℕ} {room : Room} {limit : ℕ} {c : List ℕ} {no re by
         let q : Begins (room .symbols) (s .symbols ++ (length (s .nodes) ∷ [])) (set sy (symbols-of c) (nodes-of c)) = rw (ky, k) (push (length (s .nodes) ∷ []) (H .symbols) (omega arith)) in
         went (symbol-changed H row a o p q (j ∙ m) (jy ∙ my) (simp length-append (omega arith)) (omega arith) (omega (arith, H .count-bytes)) tt)
         (simp (lt-ltb _ _ lt, lt-ltb _ _ ly, k)) (grown-snoc s row _ refl refl);
+    counts = λ k. counting (K.put 4 (symbols-of c + 1) (set c 1 (nodes-of c + 1))) (omega arith) (counting (K.put 1 (nodes-of c + 1) c) (omega arith) k);
   })
 
   pub symbol-no-node : (start l : ℕ) {T' : Lists} {c' : List ℕ} → length no / 7 ≤ nodes-of c → Meets input room limit (new-symbol room start l) (lists no re by sy ob) c (coded 12 1) T' c'
@@ -331,6 +350,7 @@ module _ {input : List ℕ} {room : Room} {limit : ℕ} {c : List ℕ} {no re by
         let e : bytes-of c + n ≡ length (s .bytes ++ bs) = simp length-append (omega arith) in
         let p : Begins (room .bytes) (s .bytes ++ bs) by' = rw (f, k) (push bs (H .bytes) (omega arith)) in
         went (bytes-changed H bs o p (is 3 _ c (H .counts) (omega arith) ∙ e) (simp length-append (omega arith))) (simp (le-leb _ _ le, k)) (grown-rows refl (omega arith));
+    counts = counting (K.put 3 (bytes-of c + n) c) (omega arith);
   })
 
   pub bytes-full : (bs : List ℕ) (n : ℕ) {T' : Lists} {c' : List ℕ} → length bs ≡ n → length by - bytes-of c < n → Meets input room limit (add-bytes room bs) (lists no re by sy ob) c (coded 12 3) T' c'
@@ -339,19 +359,19 @@ module _ {input : List ℕ} {room : Room} {limit : ℕ} {c : List ℕ} {no re by
 
 module _ {input : List ℕ} {room : Room} {c : List ℕ} {T : Lists} where
   -- only the offset is moved
-  pub moved : {A : Type 0} {m : Reader A} {a : A} (n : ℕ) → n ≤ length input → ((s : State) → Holds input room s T c → m s ≡ ok a (at-set n s)) → Goes input room m T c (pure a) T (set c 0 n)
-  moved n h e = record { goes = λ s H. went (at-changed H (K.put 0 n c) (is 0 n c (H .counts) (omega arith)) h) (e s H) (grown-rows refl (omega arith)) }
+  pub moved : {A : Type 0} {m : Reader A} {a : A} (n : ℕ) → at-of c ≤ n → n ≤ length input → ((s : State) → Holds input room s T c → m s ≡ ok a (at-set n s)) → Goes input room m T c (pure a) T (set c 0 n)
+  moved n g h e = record { goes = λ s H. went (at-changed H (K.put 0 n c) (is 0 n c (H .counts) (omega arith)) (omega (arith, H .count-at)) h) (e s H) (grown-rows refl (omega arith)); counts = counting (K.put 0 n c) (omega arith) }
 
   -- what is read is not in dump form
   pub lost : {A : Type 0} {m m' : Reader A} → ((s : State) → Holds input room s T c → m s ≡ m' (noted false s)) → Goes input room m T c m' T (set c 6 1)
-  lost e = record { goes = λ s H. record { state = noted false s; holds = form-lost H; same = e s H; grown = grown-rows refl (omega arith) } }
+  lost e = record { goes = λ s H. record { state = noted false s; holds = form-lost H; same = e s H; grown = grown-rows refl (omega arith) }; counts = counting (K.put 6 1 c) (omega arith) }
 
-  pub moved-lost : {A : Type 0} {m : Reader A} {a : A} (n : ℕ) → n ≤ length input → ((s : State) → Holds input room s T c → m s ≡ ok a (noted false (at-set n s))) → Goes input room m T c (pure a) T (set (set c 0 n) 6 1)
-  moved-lost n h e = record { goes = λ s H. went (form-lost (at-changed H (K.put 0 n c) (is 0 n c (H .counts) (omega arith)) h)) (e s H) (grown-rows refl (omega arith)) }
+  pub moved-lost : {A : Type 0} {m : Reader A} {a : A} (n : ℕ) → at-of c ≤ n → n ≤ length input → ((s : State) → Holds input room s T c → m s ≡ ok a (noted false (at-set n s))) → Goes input room m T c (pure a) T (set (set c 0 n) 6 1)
+  moved-lost n g h e = record { goes = λ s H. went (form-lost (at-changed H (K.put 0 n c) (is 0 n c (H .counts) (omega arith)) (omega (arith, H .count-at)) h)) (e s H) (grown-rows refl (omega arith)); counts = λ k. counting (K.put 6 1 (set c 0 n)) (omega arith) (counting (K.put 0 n c) (omega arith) k) }
 
   pub byte-goes : at-of c < length input → Goes input room (read-byte input) T c (pure (getD input (at-of c) 0)) T (set c 0 (at-of c + 1))
   unfolding read-byte pick
-  byte-goes l = moved (at-of c + 1) (omega arith) (λ s H. let k : at-of c ≡ s .at = H .count-at in simp (k, lt-ltb (s .at) (length input) (omega arith)))
+  byte-goes l = moved (at-of c + 1) (omega arith) (omega arith) (λ s H. let k : at-of c ≡ s .at = H .count-at in simp (k, lt-ltb (s .at) (length input) (omega arith)))
 
   -- an integer whose bytes are all there
   integer-there : (t : Bool) (v : ℕ) → at-of c + size-of (form (getD input (at-of c) 0)) ≤ length input → v ≡ word-of (drop (at-of c + 1) input) (form (getD input (at-of c) 0)) → t ≡ dumped-at input (at-of c) → (s : State) → Holds input room s T c → read-integer input s ≡ ok v (noted t (at-set (at-of c + size-of (form (getD input (at-of c) 0))) s))
@@ -364,11 +384,11 @@ module _ {input : List ℕ} {room : Room} {limit : ℕ} {c : List ℕ} {T : List
   unfolding read-byte pick
   byte-missing l = denied ShortInput (omega arith) (at-short limit) (record { refuses = λ s H. let le : length input ≤ s .at = omega arith in simp (le-ltb _ _ le) })
 
-  pub span-read : (n : ℕ) → at-of c ≤ length input → n ≤ length input - at-of c → n < 4294967296 → length c ≡ 7 → Spans input room limit (read-bytes input n) T c n T (set c 0 (at-of c + n))
+  pub span-read : (n : ℕ) → at-of c ≤ length input → n ≤ length input - at-of c → n < 4294967296 → length c ≡ 8 → Spans input room limit (read-bytes input n) T c n T (set c 0 (at-of c + n))
   unfolding read-bytes range pick
   span-read n i l f z =
       given (λ s H. f)
-      (moved (at-of c + n) (omega arith) (λ s H.
+      (moved (at-of c + n) (omega arith) (omega arith) (λ s H.
       let k : at-of c ≡ s .at = H .count-at in
       let le : n ≤ length input - s .at = omega arith in
       let b : at-of (set c 0 (at-of c + n)) - n ≡ s .at = omega (arith, is 0 (at-of c + n) c z (omega arith), k) in
@@ -380,15 +400,15 @@ module _ {input : List ℕ} {room : Room} {limit : ℕ} {c : List ℕ} {T : List
 
   -- an integer whose bytes are all there, in dump form or in another; one of one byte; one whose bytes are not
   pub integer-whole : (v : ℕ) → at-of c + size-of (form (getD input (at-of c) 0)) ≤ length input → v ≡ word-of (drop (at-of c + 1) input) (form (getD input (at-of c) 0)) → true ≡ dumped-at input (at-of c) → v < 4294967296 → Meets input room limit (read-integer input) T c v T (set c 0 (at-of c + size-of (form (getD input (at-of c) 0))))
-  integer-whole v h e q f = given (λ s H. f) (moved (at-of c + size-of (form (getD input (at-of c) 0))) h (integer-there true v h e q))
+  integer-whole v h e q f = given (λ s H. f) (moved (at-of c + size-of (form (getD input (at-of c) 0))) (omega arith) h (integer-there true v h e q))
 
   pub integer-other : (v : ℕ) → at-of c + size-of (form (getD input (at-of c) 0)) ≤ length input → v ≡ word-of (drop (at-of c + 1) input) (form (getD input (at-of c) 0)) → false ≡ dumped-at input (at-of c) → v < 4294967296 → Meets input room limit (read-integer input) T c v T (set (set c 0 (at-of c + size-of (form (getD input (at-of c) 0)))) 6 1)
-  integer-other v h e q f = given (λ s H. f) (moved-lost (at-of c + size-of (form (getD input (at-of c) 0))) h (integer-there false v h e q))
+  integer-other v h e q f = given (λ s H. f) (moved-lost (at-of c + size-of (form (getD input (at-of c) 0))) (omega arith) h (integer-there false v h e q))
 
   pub integer-one : (v : ℕ) → at-of c < length input → form (getD input (at-of c) 0) ≡ value v → integer-bytes v ≡ getD input (at-of c) 0 ∷ [] → v < 4294967296 → Meets input room limit (read-integer input) T c v T (set c 0 (at-of c + 1))
   integer-one v h e b f =
       given (λ s H. f)
-      (moved (at-of c + 1) (omega arith) (λ s H. let k = H .count-at in rw k (integer-small input s v (rw k at e) (rw k at b) (omega arith))))
+      (moved (at-of c + 1) (omega arith) (omega arith) (λ s H. let k = H .count-at in rw k (integer-small input s v (rw k at e) (rw k at b) (omega arith))))
 
   pub integer-cut : {T' : Lists} {c' : List ℕ} {m' : Reader ℕ} → at-of c < length input → length input - at-of c < size-of (form (getD input (at-of c) 0)) → Leads input room limit (read-integer input) m' T c (coded 4 0) T' c'
   integer-cut h l = denied ShortInput (omega arith) (at-short limit) (record { refuses = λ s H. let k = H .count-at in let g : length input < at-of c + size-of (form (getD input (at-of c) 0)) = omega arith in integer-short input s (rw k at g) (omega arith) })
@@ -411,27 +431,43 @@ module _ {input : List ℕ} {room : Room} {s : State} {c : List ℕ} {no re by s
   pub node-inside : i * 7 + 7 ≤ length no
   node-inside = omega (arith, is-there, H .count-nodes, H .room-nodes, H .nodes .sized)
 
-  symbol-row : (name : List ℕ) → (named (s .bytes) name (getD (s .nodes) i nil) ≡ equal name (take (getD no (i * 7 + 2) 0) (drop (getD no (i * 7 + 1) 0) (s .bytes)))) × (getD no (i * 7 + 1) 0 + getD no (i * 7 + 2) 0 ≤ length (s .bytes))
-  symbol-row name = rw (word H i is-there 1 (omega arith), word H i is-there 2 (omega arith)) (symbol-named (length (s .bytes)) (s .bytes) name (getD (s .nodes) i nil) y (H .fit i (there H i is-there)))
+  abbrev row : Row
+  row = getD (s .nodes) i nil
 
-  pub symbol-inside : (n : ℕ) → getD no (i * 7 + 2) 0 ≡ n → getD no (i * 7 + 1) 0 + n ≤ length by
-  symbol-inside n f = omega (arith, symbol-row [] .1, f, H .bytes .fits, H .bytes .sized)
+  -- where its name starts
+  abbrev to : ℕ
+  to = getD no (i * 7 + 1) 0
 
-  pub other-length : (name : List ℕ) (n : ℕ) → length name ≡ n → (getD no (i * 7 + 2) 0 ≡ n → ⊥) → false ≡ named (s .bytes) name (getD (s .nodes) i nil)
+  symbol-row : (name-of (s .bytes) row ≡ take (getD no (i * 7 + 2) 0) (drop to (s .bytes))) × (to + getD no (i * 7 + 2) 0 ≤ length (s .bytes))
+  symbol-row = rw (word H i is-there 1 (omega arith), word H i is-there 2 (omega arith)) (symbol-name (length (s .bytes)) (s .bytes) row y (H .fit i (there H i is-there)))
+
+  pub symbol-inside : (n : ℕ) → getD no (i * 7 + 2) 0 ≡ n → to + n ≤ length by
+  symbol-inside n f = omega (arith, symbol-row .1, f, H .bytes .fits, H .bytes .sized)
+
+  -- a name of another length
+  pub other-length : (name : List ℕ) (n : ℕ) → length name ≡ n → (getD no (i * 7 + 2) 0 ≡ n → ⊥) → (false ≡ named (s .bytes) name row) × (compared-with (s .bytes) name row ≡ 0)
+  unfolding named compared-with pick
   other-length name n z f =
-      let g = symbol-row name in
-      let k : length (take (getD no (i * 7 + 2) 0) (drop (getD no (i * 7 + 1) 0) (s .bytes))) ≡ getD no (i * 7 + 2) 0 = simp (length-take, length-drop) (omega (arith, g .1)) in
-      sym (g .0 ∙ same-length name _ (λ q. f (sym k ∙ sym q ∙ z)))
+      let e = symbolic-kind row y in
+      let (g, h) = symbol-row in
+      let k : length (name-of (s .bytes) row) ≡ getD no (i * 7 + 2) 0 = ap length g ∙ simp (length-take, length-drop) (omega (arith, h)) in
+      let d : length name ≡ length (name-of (s .bytes) row) → ⊥ = λ q. f (sym k ∙ sym q ∙ z) in
+      (sym (rw e (same-length name _ d)), rw (e, ne-eqb _ _ d) refl)
 
-  pub by-bytes : (name : List ℕ) (n : ℕ) → getD no (i * 7 + 2) 0 ≡ n → equal name (take n (drop (getD no (i * 7 + 1) 0) by)) ≡ named (s .bytes) name (getD (s .nodes) i nil)
-  by-bytes name n f =
-      let g = symbol-row name in
-      let w = getD no (i * 7 + 1) 0 in
-      let a : w + n ≤ length (s .bytes) = omega (arith, g .1, f) in
-      ap (λ (x : List ℕ). equal name (take n (drop w x))) (split (H .bytes))
-      ∙ ap (λ (x : List ℕ). equal name x) (range-more (s .bytes) _ w n a)
-      ∙ ap (λ (k : ℕ). equal name (take k (drop w (s .bytes)))) (sym f)
-      ∙ sym (g .0)
+  -- a name of its length, by the bytes lent
+  pub by-bytes : (name : List ℕ) (n : ℕ) → length name ≡ n → getD no (i * 7 + 2) 0 ≡ n → (equal name (take n (drop to by)) ≡ named (s .bytes) name row) × (bytes-compared name (take n (drop to by)) ≡ compared-with (s .bytes) name row)
+  unfolding named compared-with pick
+  by-bytes name n z f =
+      let e = symbolic-kind row y in
+      let (g, h) = symbol-row in
+      let a : to + n ≤ length (s .bytes) = omega (arith, h, f) in
+      let q : take n (drop to by) ≡ name-of (s .bytes) row =
+      ap (λ (x : List ℕ). take n (drop to x)) (split (H .bytes))
+      ∙ range-more (s .bytes) _ to n a
+      ∙ ap (λ (k : ℕ). take k (drop to (s .bytes))) (sym f)
+      ∙ sym g in
+      let k : length (name-of (s .bytes) row) ≡ n = ap length g ∙ simp (length-take, length-drop) (omega (arith, h, f)) in
+      (ap (λ (x : List ℕ). equal name x) q ∙ sym (rw e refl), ap (λ (x : List ℕ). bytes-compared name x) q ∙ sym (rw (e, eq-eqb (length name) (length (name-of (s .bytes) row)) (z ∙ sym k)) refl))
 
 -- a node stored is no symbol, if its kind is none
 pub stored-free : {no' : List ℕ} (no : List ℕ) (i x : ℕ) (xs : List ℕ) → no' ≡ sets no (i * 7) (x ∷ xs) → i * 7 + suc (length xs) ≤ length no → (x ≡ 3 → ⊥) → Free no' i
@@ -509,6 +545,7 @@ module _ {input : List ℕ} {room : Room} {limit : ℕ} {c : List ℕ} {no re by
         let e = words-same start n w0 (word H h l 1 (omega arith)) (word H h l 2 (omega arith)) (word H h l 5 (omega arith)) in
         let x = row-went h (varied start n r) _ (v .0 ∙ sym e) (varied-plain start n r) l f s H (v .2) in
         record { state = x .state; holds = x .holds; same = ap (λ (m : Reader ℕ). m s) (v .1) ∙ x .same; grown = x .grown };
+    counts = λ n. n;
   })
 
   pub variables-refused : {T' : Lists} {c' : List ℕ} → (getD no (h * 7) 0 ≡ 7 → ⊥) → (getD no (h * 7) 0 ≡ 8 → ⊥) → Meets input room limit (settle h start n) (lists no re by sy ob) c (coded 10 0) T' c'

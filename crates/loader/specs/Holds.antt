@@ -1,7 +1,7 @@
 -- When lists lent and counts hold a state of the definition, and what the number that a reader in code answers has to mean.
 use Prim.Native.Nat.{ℕ, zero, suc, _+_, _-_, _*_, _/_, _%_, _≤_, _<_}
 use mathlib.Core.Path.{_≡_}
-use mathlib.Core.Bool.{true}
+use mathlib.Core.Bool.{true, false}
 use mathlib.Core.List.{List, [], _∷_}
 use mathlib.Core.Option.{Option, none, some}
 use mathlib.Core.Logic.{_⊎_}
@@ -10,16 +10,16 @@ use lib.ListN.{length, getD, take, drop}
 use Rattle.definition.specs.Run.{Outcome, refused, pure, pick, look, _>>=_}
 use Rattle.definition.specs.Integer.{form, value, integer-bytes}
 use Rattle.definition.specs.Kind.{FIXNUM, SYMBOL-LINK, INSTANCE-VARIABLES, ARRAY, HASH, HASH-DEFAULT, OBJECT}
-use Rattle.definition.specs.Node.{Row, nil, bool, fixnum, symbol, array, hash, object, string, user, float, flat}
-use Rattle.definition.specs.Arena.{named, find-symbol, lowest, bad-nodes, too-long}
-use Rattle.definition.specs.Load.{Room, State, Reader, Lists, note, takes-variables, add-node, add-symbol, put-reference, set-variables}
+use Rattle.definition.specs.Node.{Row, nil, bool, fixnum, symbol, array, hash, object, string, user, float, kind, equal, flat}
+use Rattle.definition.specs.Arena.{named, find-symbol, bytes-compared, compared-with, lowest, bad-nodes, too-long}
+use Rattle.definition.specs.Load.{Room, Notes, State, Reader, Lists, note, takes-variables, read-bytes, intern, intern-as, add-node, add-symbol, put-reference, set-variables}
 use Rattle.definition.specs.declared.Refusal.{Refusal}
 use Rattle.reader.specs.Answers.{refusal-at}
 use Rattle.reader.specs.Integers.{dumped-at}
 
 -- ---- what is held
 
--- the seven counts, in the order of the code's named places
+-- the eight counts, in the order of the code's named places
 abbrev pub at-of : List ℕ → ℕ
 at-of c = getD c 0 0
 
@@ -41,6 +41,13 @@ objects-of c = getD c 5 0
 -- 0 while all that was read is in dump form
 abbrev pub form-of : List ℕ → ℕ
 form-of c = getD c 6 0
+
+-- one more than the bytes compared, or 0 where they are not counted
+abbrev pub compared-of : List ℕ → ℕ
+compared-of c = getD c 7 0
+
+abbrev pub Counting : List ℕ → Type 0
+Counting c = compared-of c ≡ 0 → ⊥
 
 -- the table t of the size given begins with the list l
 pub record Begins (size : ℕ) (l t : List ℕ) : Type 0 where
@@ -114,9 +121,31 @@ find-listed bytes name rows (h ∷ l) = pick (named bytes name (getD rows h nil)
 abbrev pub Names : List ℕ → List Row → List ℕ → Type 0
 Names bytes rows l = (name : List ℕ) → find-symbol bytes name rows 0 ≡ find-listed bytes name rows l
 
+-- the numbers of the symbols among rows that are numbered from i on
+unfoldable pub symbols-in : ℕ → List Row → List ℕ
+symbols-in i [] = []
+symbols-in i (r ∷ rows) = pick (eqb (kind r) 3) (i ∷ symbols-in (suc i) rows) (symbols-in (suc i) rows)
+
+-- the entries from t on that are above all before them
+unfoldable pub risen : ℕ → List ℕ → List ℕ
+risen t [] = []
+risen t (h ∷ l) = pick (ltb h t) (risen t l) (h ∷ risen (suc h) l)
+
+-- each entry of the symbol list is a symbol, the list names what the nodes name, and its entries that are above all before them are the symbols in the order of their numbers
+pub record Interned (bytes : List ℕ) (rows : List Row) (l : List ℕ) : Type 0 where
+  pub symbolic : AllSymbolic rows l
+  pub names : Names bytes rows l
+  pub ascending : risen 0 l ≡ symbols-in 0 rows
+
+-- the counts of what is noted
+pub record Noted (n : Notes) (c : List ℕ) : Type 0 where
+  pub form : eqb (form-of c) 0 ≡ n .form
+  pub compared : Counting c → compared-of c ≡ suc (n .compared)
+
 pub record Holds (input : List ℕ) (room : Room) (s : State) (T : Lists) (c : List ℕ) : Type 0 where
   pub small : Small room
-  pub counts : length c ≡ 7
+  pub short : length input ≤ 2147483647
+  pub counts : length c ≡ 8
   pub nodes : Begins (room .nodes * 7) (flat (s .nodes)) (T .nodes)
   pub references : Begins (room .references) (s .references) (T .references)
   pub bytes : Begins (room .bytes) (s .bytes) (T .bytes)
@@ -130,11 +159,12 @@ pub record Holds (input : List ℕ) (room : Room) (s : State) (T : Lists) (c : L
   pub count-bytes : bytes-of c ≡ length (s .bytes)
   pub count-symbols : symbols-of c ≡ length (s .symbols)
   pub count-objects : objects-of c ≡ length (s .objects)
-  pub form : eqb (form-of c) 0 ≡ s .notes .form
+  pub notes : Noted (s .notes) c
+  pub copied : s .notes .copied ≡ length (s .bytes)
+  pub compared : s .notes .compared ≤ s .at * length (s .nodes)
   pub below : AllBelow (length (s .nodes)) (s .objects)
   pub fit : AllFit (length (s .bytes)) (s .nodes)
-  pub symbolic : AllSymbolic (s .nodes) (s .symbols)
-  pub names : Names (s .bytes) (s .nodes) (s .symbols)
+  pub interned : Interned (s .bytes) (s .nodes) (s .symbols)
 
 -- some state is held
 pub record Held (input : List ℕ) (T : Lists) (c : List ℕ) : Type 0 where
@@ -162,9 +192,10 @@ pub record Went {A : Type 0} (input : List ℕ) (room : Room) (s : State) (o : O
   pub same : o ≡ m' state
   pub grown : Grown s state
 
--- where m begins at a state that is held first, it is at m' at a state that is held after
+-- where m begins at a state that is held first, it is at m' at a state that is held after; where the bytes compared are counted, they still are
 pub record Goes {A : Type 0} (input : List ℕ) (room : Room) (m : Reader A) (T : Lists) (c : List ℕ) (m' : Reader A) (T' : Lists) (c' : List ℕ) : Type 0 where
   pub goes : (s : State) → Holds input room s T c → Went input room s (m s) m' T' c'
+  pub counts : Counting c → Counting c'
 
 -- m is refused with q
 pub record Refuses {A : Type 0} (input : List ℕ) (room : Room) (m : Reader A) (T : Lists) (c : List ℕ) (q : Refusal) : Type 0 where
@@ -195,6 +226,26 @@ Spans input room limit m T c r T' c' = Leads input room limit m (pure (span-of i
 abbrev pub Free : List ℕ → ℕ → Type 0
 Free nodes h = getD nodes (h * 7) 0 ≡ 3 → ⊥
 
+-- the name's symbol by the number r: below 2^32 the lowest, from there on there is none
+pub record Found (s : State) (name : List ℕ) (r : ℕ) : Type 0 where
+  pub there : r < 4294967296 → find-symbol (s .bytes) name (s .nodes) 0 ≡ some r
+  pub symbol : r < 4294967296 → Symbolic (getD (s .nodes) r nil)
+  pub none : 4294967296 ≤ r → find-symbol (s .bytes) name (s .nodes) 0 ≡ none
+
+abbrev pub answered : ℕ → Option ℕ
+answered r = pick (ltb r 4294967296) (some r) none
+
+-- the first r of n bytes are alike, and no more
+pub record Alike (xs ys : List ℕ) (n r : ℕ) : Type 0 where
+  pub most : r ≤ n
+  pub whole : r ≡ n → (equal xs ys ≡ true) × (bytes-compared xs ys ≡ n)
+  pub part : (r ≡ n → ⊥) → (equal xs ys ≡ false) × (bytes-compared xs ys ≡ r + 1)
+
+-- a name against a symbol's, by the number r: below 2^32 it is its name, from there on 2^32 and the bytes compared
+pub record Compared (s : State) (name : List ℕ) (row : Row) (r : ℕ) : Type 0 where
+  pub same : r < 4294967296 → (named (s .bytes) name row ≡ true) × (compared-with (s .bytes) name row ≡ r)
+  pub other : 4294967296 ≤ r → (named (s .bytes) name row ≡ false) × (4294967296 + compared-with (s .bytes) name row ≡ r)
+
 -- entry n of a list of which the first `known` are used, by the number r: handed on where n is a refusal, else missing or there
 pub record Entry (l : List ℕ) (known n missing r : ℕ) : Type 0 where
   pub handed : 4294967296 ≤ n → r ≡ n
@@ -214,6 +265,13 @@ pub record Leaf (k : ℕ) : Type 0 where
 -- a symbol's node, put on the symbol list
 abbrev pub new-symbol : Room → ℕ → ℕ → Reader ℕ
 new-symbol room start n = add-node room (symbol start n) >>= add-symbol room
+
+-- a name of n bytes, put on the symbol list; the same after its search, which answered r
+abbrev pub read-name : List ℕ → Room → ℕ → Reader ℕ
+read-name input room n = read-bytes input n >>= λ name. intern room name >>= add-symbol room
+
+abbrev pub add-name : Room → List ℕ → ℕ → Reader ℕ
+add-name room name r = intern-as room name (answered r) >>= add-symbol room
 
 -- variables are set, or 10
 abbrev pub settle : ℕ → ℕ → ℕ → Reader ℕ
@@ -269,7 +327,7 @@ abbrev pub wrong : ℕ → ℕ → ℕ → ℕ → ℕ → ℕ → ℕ → ℕ
 wrong nodes references bytes symbols objects limit input = lowest ((1, bad-nodes nodes) ∷ (2, too-long references) ∷ (3, too-long bytes) ∷ (4, too-long symbols) ∷ (5, too-long objects) ∷ (7, ltb 128 limit) ∷ (8, too-long input) ∷ [])
 
 -- lengths that a load takes: whole nodes, at least one, and none too large
-pub record Allowed (nodes references bytes symbols objects : ℕ) : Type 0 where
+pub record Allowed (nodes references bytes symbols objects input : ℕ) : Type 0 where
   pub whole : nodes / 7 * 7 ≡ nodes
   pub one : 1 ≤ nodes / 7
   pub nodes-small : nodes ≤ 2147483647
@@ -277,3 +335,4 @@ pub record Allowed (nodes references bytes symbols objects : ℕ) : Type 0 where
   pub bytes-small : bytes ≤ 2147483647
   pub symbols-small : symbols ≤ 2147483647
   pub objects-small : objects ≤ 2147483647
+  pub input-small : input ≤ 2147483647

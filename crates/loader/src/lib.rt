@@ -27,7 +27,6 @@ use store::put_node;
 use store::zero_range;
 ghost use mathlib.Core.Path.{_≡_};
 ghost use mathlib.Core.List.{List, [], _∷_};
-ghost use mathlib.Core.Option.{none, some};
 ghost use Prim.Native.Nat.{ℕ, _+_, _-_, _*_, _%_, _<_, _≤_};
 ghost use mathlib.Core.Bool.{true, false};
 ghost use lib.ListN.{length, getD, set, take, drop};
@@ -35,14 +34,14 @@ ghost use lib.Seq.{sets};
 ghost use Rattle.definition.specs.Integer.{form, value, integer-bytes};
 ghost use Rattle.definition.specs.Kind.{FIXNUM, STRING};
 ghost use Rattle.definition.specs.Node.{Row, words, nil, equal, width};
-ghost use Rattle.definition.specs.Arena.{named, find-symbol};
-ghost use Rattle.definition.specs.Load.{Room, State, Reader, Lists, lists, read-header, read-integer, read-count, read-byte-string, read-fixnum, read-symbol, read-symbol-link, read-object-link, read-symbol-like, read-text, read-user-defined, read-value, value-of, head, add-node, add-bytes, add-symbol, add-object, add-object-node, counted, fill, takes-variables};
+ghost use Rattle.definition.specs.Arena.{named, compared-among};
+ghost use Rattle.definition.specs.Load.{Room, State, Reader, Lists, lists, read-header, read-integer, read-count, read-bytes, read-byte-string, read-fixnum, read-symbol, read-symbol-link, read-object-link, read-symbol-like, read-text, read-user-defined, read-value, value-of, head, add-node, add-bytes, add-symbol, add-object, add-object-node, counted, fill, takes-variables};
 ghost use Rattle.reader.specs.Answers.{coded};
 ghost use Rattle.reader.specs.Integers.{size-of, word-of, dumped-at};
-ghost use Rattle.loader.specs.Holds.{Held, Holds, Somewhere, Goes, Leads, Meets, Does, Spans, Plain, Symbolic, Free, Leaf, Entry, Link, Next, Coming, span, span-of, at-of, nodes-of, references-of, bytes-of, symbols-of, new-symbol, settle, after-i, slots, wrong, Allowed};
+ghost use Rattle.loader.specs.Holds.{Held, Holds, Somewhere, Goes, Leads, Meets, Does, Spans, Plain, Symbolic, Found, Alike, Compared, Free, Leaf, Entry, Link, Next, Coming, span, span-of, at-of, nodes-of, references-of, bytes-of, symbols-of, compared-of, new-symbol, read-name, add-name, settle, after-i, slots, wrong, Allowed};
 
-// The places of the seven counts: the offset, then how much of each table and list is used, then whether what was read is
-// in dump form: 0 while all of it is, else 1.
+// The places of the eight counts: the offset, then how much of each table and list is used, then whether what was read is
+// in dump form: 0 while all of it is, else 1; last, one more than the bytes compared, or 0 where they are not counted.
 pub const AT: usize = 0;
 
 pub const NODES: usize = 1;
@@ -57,11 +56,13 @@ pub const OBJECTS: usize = 5;
 
 pub const FORM: usize = 6;
 
+pub const COMPARED: usize = 7;
+
 // ---- the input
 
 // An integer's 32 bits; another form than dump's is noted.
-fn read_integer(input: &[u8], c: &mut [usize; 7]) -> u64
-    requires { ⌜ (at-of (now c) ≤ length (now input)) × (length (now c) ≡ 7) ⌝ }
+fn read_integer(input: &[u8], c: &mut [usize; 8]) -> u64
+    requires { ⌜ (at-of (now c) ≤ length (now input)) × (length (now c) ≡ 8) ⌝ }
     ensures { λ r. ⌜ ((room : Room) (limit : ℕ) (T : Lists) → Meets (now (input .entry)) room limit (read-integer (now (input .entry))) T (now (c .entry)) r T (now (c .exit))) ⌝ }
 {
     let at = c[AT];
@@ -83,8 +84,8 @@ fn read_integer(input: &[u8], c: &mut [usize; 7]) -> u64
 }
 
 // A length, count or index; small ones come first.
-fn read_count(input: &[u8], c: &mut [usize; 7]) -> u64
-    requires { ⌜ (at-of (now c) ≤ length (now input)) × (length (now c) ≡ 7) ⌝ }
+fn read_count(input: &[u8], c: &mut [usize; 8]) -> u64
+    requires { ⌜ (at-of (now c) ≤ length (now input)) × (length (now c) ≡ 8) ⌝ }
     ensures { λ r. ⌜ ((room : Room) (limit : ℕ) (T : Lists) → Meets (now (input .entry)) room limit (read-count (now (input .entry))) T (now (c .entry)) r T (now (c .exit))) ⌝ }
     ensures { λ r. ⌜ (r < 4294967296 → r < 2147483648) ⌝ }
 {
@@ -106,27 +107,38 @@ fn read_count(input: &[u8], c: &mut [usize; 7]) -> u64
     n
 }
 
-// The length of a byte string, which is passed.
-fn read_byte_string(input: &[u8], c: &mut [usize; 7]) -> u64
+// The length of a byte string, whose bytes are there and are left.
+fn read_length(input: &[u8], c: &mut [usize; 8]) -> u64
     requires { ⌜ Somewhere (now input) (now c) ⌝ }
-    ensures { λ r. ⌜ ((room : Room) (limit : ℕ) (T : Lists) → Spans (now (input .entry)) room limit (read-byte-string (now (input .entry))) T (now (c .entry)) r T (now (c .exit))) ⌝ }
-    ensures { λ r. ⌜ (r < 4294967296 → (r ≤ at-of (now (c .exit))) × (at-of (now (c .exit)) ≤ length (now (input .entry)))) ⌝ }
+    ensures { λ r. ⌜ ((room : Room) (limit : ℕ) (T : Lists) → Leads (now (input .entry)) room limit (read-byte-string (now (input .entry))) (read-bytes (now (input .entry)) r) T (now (c .entry)) r T (now (c .exit))) ⌝ }
+    ensures { λ r. ⌜ (r < 4294967296 → at-of (now (c .exit)) + r ≤ length (now (input .entry))) ⌝ }
 {
     let n = read_count(&input[..], c);
     if REFUSED <= n {
         return n;
     }
-    let at = c[AT];
-    let k = n as usize;
-    if input.len() - at < k {
+    if input.len() - c[AT] < n as usize {
         return SHORT_INPUT;
     }
-    c[AT] = at + k;
+    n
+}
+
+// The length of a byte string, which is passed.
+fn read_byte_string(input: &[u8], c: &mut [usize; 8]) -> u64
+    requires { ⌜ Somewhere (now input) (now c) ⌝ }
+    ensures { λ r. ⌜ ((room : Room) (limit : ℕ) (T : Lists) → Spans (now (input .entry)) room limit (read-byte-string (now (input .entry))) T (now (c .entry)) r T (now (c .exit))) ⌝ }
+    ensures { λ r. ⌜ (r < 4294967296 → (r ≤ at-of (now (c .exit))) × (at-of (now (c .exit)) ≤ length (now (input .entry)))) ⌝ }
+{
+    let n = read_length(&input[..], c);
+    if REFUSED <= n {
+        return n;
+    }
+    c[AT] = c[AT] + n as usize;
     n
 }
 
 // The header; an older version than dump's is noted.
-pub fn read_header(input: &[u8], c: &mut [usize; 7]) -> u64
+pub fn read_header(input: &[u8], c: &mut [usize; 8]) -> u64
     requires { ⌜ Somewhere (now input) (now c) ⌝ }
     ensures { λ r. ⌜ ((room : Room) (limit : ℕ) (T : Lists) → Does (now (input .entry)) room limit (read-header (now (input .entry))) T (now (c .entry)) r T (now (c .exit))) ⌝ }
 {
@@ -146,8 +158,8 @@ pub fn read_header(input: &[u8], c: &mut [usize; 7]) -> u64
 // ---- the tables and lists
 
 // A node of these words, the others zero: its number.
-fn add_node(nodes: &mut [u32], c: &mut [usize; 7], kind: u32, a: u32, b: u32, name: u32) -> u64
-    requires { ⌜ (length (now nodes) ≤ 2147483647) × (length (now c) ≡ 7) ⌝ }
+fn add_node(nodes: &mut [u32], c: &mut [usize; 8], kind: u32, a: u32, b: u32, name: u32) -> u64
+    requires { ⌜ (length (now nodes) ≤ 2147483647) × (length (now c) ≡ 8) ⌝ }
     ensures { λ r. ⌜ ((input : List ℕ) (room : Room) (limit : ℕ) (row : Row) (re by sy ob : List ℕ) → words row ≡ kind ∷ a ∷ b ∷ 0 ∷ 0 ∷ name ∷ 0 ∷ [] → Plain row → Meets input room limit (add-node room row) (lists (now (nodes .entry)) re by sy ob) (now (c .entry)) r (lists (now (nodes .exit)) re by sy ob) (now (c .exit))) ⌝ }
     ensures { λ r. ⌜ (r < 4294967296 → (r < nodes-of (now (c .exit))) × ((kind ≡ 3 → ⊥) → Free (now (nodes .exit)) r)) ⌝ }
 {
@@ -161,7 +173,7 @@ fn add_node(nodes: &mut [u32], c: &mut [usize; 7], kind: u32, a: u32, b: u32, na
 }
 
 // Node h is put on the object list: h.
-fn add_object(objects: &mut [u32], c: &mut [usize; 7], h: u64) -> u64
+fn add_object(objects: &mut [u32], c: &mut [usize; 8], h: u64) -> u64
     requires { ⌜ (h < nodes-of (now c)) × (h < 4294967296) ⌝ }
     ensures { λ r. ⌜ ((input : List ℕ) (room : Room) (limit : ℕ) (no re by sy : List ℕ) → Meets input room limit (add-object room h) (lists no re by sy (now (objects .entry))) (now (c .entry)) r (lists no re by sy (now (objects .exit))) (now (c .exit))) ⌝ }
     ensures { λ r. ⌜ (r < 4294967296 → (r ≡ h) × (nodes-of (now (c .exit)) ≡ nodes-of (now (c .entry)))) ⌝ }
@@ -179,13 +191,13 @@ fn add_object(objects: &mut [u32], c: &mut [usize; 7], h: u64) -> u64
 fn add_object_node(
     nodes: &mut [u32],
     objects: &mut [u32],
-    c: &mut [usize; 7],
+    c: &mut [usize; 8],
     kind: u32,
     a: u32,
     b: u32,
     name: u32,
 ) -> u64
-    requires { ⌜ (length (now nodes) ≤ 2147483647) × (length (now c) ≡ 7) ⌝ }
+    requires { ⌜ (length (now nodes) ≤ 2147483647) × (length (now c) ≡ 8) ⌝ }
     ensures { λ r. ⌜ ((input : List ℕ) (room : Room) (limit : ℕ) (row : Row) (re by sy : List ℕ) → words row ≡ kind ∷ a ∷ b ∷ 0 ∷ 0 ∷ name ∷ 0 ∷ [] → Plain row → Meets input room limit (add-object-node room row) (lists (now (nodes .entry)) re by sy (now (objects .entry))) (now (c .entry)) r (lists (now (nodes .exit)) re by sy (now (objects .exit))) (now (c .exit))) ⌝ }
     ensures { λ r. ⌜ (r < 4294967296 → (r < nodes-of (now (c .exit))) × ((kind ≡ 3 → ⊥) → Free (now (nodes .exit)) r)) ⌝ }
 {
@@ -197,8 +209,8 @@ fn add_object_node(
 }
 
 // The n bytes before the offset: where they start.
-fn add_bytes(input: &[u8], bytes: &mut [u8], c: &mut [usize; 7], n: u64) -> u64
-    requires { ⌜ (n ≤ at-of (now c)) × (at-of (now c) ≤ length (now input)) × (bytes-of (now c) ≤ length (now bytes)) × (length (now bytes) ≤ 2147483647) × (length (now c) ≡ 7) ⌝ }
+fn add_bytes(input: &[u8], bytes: &mut [u8], c: &mut [usize; 8], n: u64) -> u64
+    requires { ⌜ (n ≤ at-of (now c)) × (at-of (now c) ≤ length (now input)) × (bytes-of (now c) ≤ length (now bytes)) × (length (now bytes) ≤ 2147483647) × (length (now c) ≡ 8) ⌝ }
     ensures { λ r. ⌜ ((room : Room) (limit : ℕ) (no re sy ob : List ℕ) → Meets (now (input .entry)) room limit (add-bytes room (span-of (now (input .entry)) (now (c .entry)) n)) (lists no re (now (bytes .entry)) sy ob) (now (c .entry)) r (lists no re (now (bytes .exit)) sy ob) (now (c .exit))) ⌝ }
     ensures { λ r. ⌜ (r < 4294967296 → r + n ≤ bytes-of (now (c .exit))) ⌝ }
 {
@@ -214,7 +226,7 @@ fn add_bytes(input: &[u8], bytes: &mut [u8], c: &mut [usize; 7], n: u64) -> u64
 }
 
 // Symbol h is put on the symbol list: h.
-fn add_symbol(symbols: &mut [u32], c: &mut [usize; 7], h: u64) -> u64
+fn add_symbol(symbols: &mut [u32], c: &mut [usize; 8], h: u64) -> u64
     requires { ⌜ h < 4294967296 ⌝ }
     ensures { λ r. ⌜ ((input : List ℕ) (room : Room) (limit : ℕ) (no re by ob : List ℕ) → ((s : State) → Holds input room s (lists no re by (now (symbols .entry)) ob) (now (c .entry)) → Symbolic (getD (s .nodes) h nil)) → Meets input room limit (add-symbol room h) (lists no re by (now (symbols .entry)) ob) (now (c .entry)) r (lists no re by (now (symbols .exit)) ob) (now (c .exit))) ⌝ }
     ensures { λ r. ⌜ (r < 4294967296 → (r ≡ h) × (nodes-of (now (c .exit)) ≡ nodes-of (now (c .entry)))) ⌝ }
@@ -232,11 +244,11 @@ fn add_symbol(symbols: &mut [u32], c: &mut [usize; 7], h: u64) -> u64
 fn add_symbol_node(
     nodes: &mut [u32],
     symbols: &mut [u32],
-    c: &mut [usize; 7],
+    c: &mut [usize; 8],
     start: u32,
     n: u32,
 ) -> u64
-    requires { ⌜ (length (now nodes) ≤ 2147483647) × (start + n ≤ bytes-of (now c)) × (length (now c) ≡ 7) ⌝ }
+    requires { ⌜ (length (now nodes) ≤ 2147483647) × (start + n ≤ bytes-of (now c)) × (length (now c) ≡ 8) ⌝ }
     ensures { λ r. ⌜ ((input : List ℕ) (room : Room) (limit l : ℕ) (re by ob : List ℕ) → l ≡ n → Meets input room limit (new-symbol room start l) (lists (now (nodes .entry)) re by (now (symbols .entry)) ob) (now (c .entry)) r (lists (now (nodes .exit)) re by (now (symbols .exit)) ob) (now (c .exit))) ⌝ }
     ensures { λ r. ⌜ (r < 4294967296 → r < nodes-of (now (c .exit))) ⌝ }
 {
@@ -272,7 +284,7 @@ fn entry_at(list: &[u32], known: usize, n: u64, missing: u64) -> u64
 }
 
 // The entry of the object list that the index read names.
-fn read_object_link(input: &[u8], objects: &[u32], c: &mut [usize; 7]) -> u64
+fn read_object_link(input: &[u8], objects: &[u32], c: &mut [usize; 8]) -> u64
     requires { ⌜ ((no : List ℕ) × (re : List ℕ) × (by : List ℕ) × (sy : List ℕ) × Held (now input) (lists no re by sy (now objects)) (now c)) ⌝ }
     ensures { λ r. ⌜ ((room : Room) (limit : ℕ) (no re by sy : List ℕ) → Meets (now (input .entry)) room limit (read-object-link (now (input .entry))) (lists no re by sy (now (objects .entry))) (now (c .entry)) r (lists no re by sy (now (objects .entry))) (now (c .exit))) ⌝ }
     ensures { λ r. ⌜ (r < 4294967296 → r < nodes-of (now (c .exit))) ⌝ }
@@ -282,7 +294,7 @@ fn read_object_link(input: &[u8], objects: &[u32], c: &mut [usize; 7]) -> u64
 }
 
 // The entry of the symbol list that the index read names.
-fn read_symbol_link(input: &[u8], symbols: &[u32], c: &mut [usize; 7]) -> u64
+fn read_symbol_link(input: &[u8], symbols: &[u32], c: &mut [usize; 8]) -> u64
     requires { ⌜ ((no : List ℕ) × (re : List ℕ) × (by : List ℕ) × (ob : List ℕ) × Held (now input) (lists no re by (now symbols) ob) (now c)) ⌝ }
     ensures { λ r. ⌜ ((room : Room) (limit : ℕ) (no re by ob : List ℕ) → Meets (now (input .entry)) room limit (read-symbol-link (now (input .entry))) (lists no re by (now (symbols .entry)) ob) (now (c .entry)) r (lists no re by (now (symbols .entry)) ob) (now (c .exit))) ⌝ }
     ensures { λ r. ⌜ (r < 4294967296 → r < nodes-of (now (c .exit))) ⌝ }
@@ -292,7 +304,7 @@ fn read_symbol_link(input: &[u8], symbols: &[u32], c: &mut [usize; 7]) -> u64
 }
 
 // A node of the integer read.
-fn read_fixnum(input: &[u8], nodes: &mut [u32], c: &mut [usize; 7]) -> u64
+fn read_fixnum(input: &[u8], nodes: &mut [u32], c: &mut [usize; 8]) -> u64
     requires { ⌜ ((re : List ℕ) × (by : List ℕ) × (sy : List ℕ) × (ob : List ℕ) × Held (now input) (lists (now nodes) re by sy ob) (now c)) ⌝ }
     ensures { λ r. ⌜ ((room : Room) (limit : ℕ) (re by sy ob : List ℕ) → Meets (now (input .entry)) room limit (read-fixnum (now (input .entry)) room) (lists (now (nodes .entry)) re by sy ob) (now (c .entry)) r (lists (now (nodes .exit)) re by sy ob) (now (c .exit))) ⌝ }
     ensures { λ r. ⌜ (r < 4294967296 → r < nodes-of (now (c .exit))) ⌝ }
@@ -310,7 +322,7 @@ fn read_text(
     nodes: &mut [u32],
     bytes: &mut [u8],
     objects: &mut [u32],
-    c: &mut [usize; 7],
+    c: &mut [usize; 8],
     kind: u32,
     name: u32,
 ) -> u64
@@ -357,7 +369,7 @@ fn last_byte(input: &[u8], at: usize, n: u32) -> u8
 
 // Do the n bytes before `at`, of which `last` is the last, name the symbol h? Names of one length mostly differ there.
 fn is_named(input: &[u8], nodes: &[u32], bytes: &[u8], at: usize, h: u32, n: u32, last: u8) -> bool
-    requires { ⌜ (n ≤ at) × (last ≡ getD (span (now input) at n) (n - 1) 0) × ((room : Room) × (s : State) × (re : List ℕ) × (sy : List ℕ) × (ob : List ℕ) × (c : List ℕ) × (at-of c ≡ at) × Symbolic (getD (s .nodes) h nil) × Holds (now input) room s (lists (now nodes) re (now bytes) sy ob) c) ⌝ }
+    requires { ⌜ (n ≤ at) × (at ≤ length (now input)) × (last ≡ getD (span (now input) at n) (n - 1) 0) × ((room : Room) × (s : State) × (re : List ℕ) × (sy : List ℕ) × (ob : List ℕ) × (c : List ℕ) × Symbolic (getD (s .nodes) h nil) × Holds (now input) room s (lists (now nodes) re (now bytes) sy ob) c) ⌝ }
     ensures { λ r. ⌜ ((room : Room) (s : State) (re sy ob c : List ℕ) → Symbolic (getD (s .nodes) h nil) → Holds (now (input .entry)) room s (lists (now (nodes .entry)) re (now (bytes .entry)) sy ob) c → r ≡ named (s .bytes) (span (now (input .entry)) at n) (getD (s .nodes) h nil)) ⌝ }
 {
     let base = (h as usize) * Node::WIDTH;
@@ -385,8 +397,8 @@ fn find_symbol(
     count: usize,
     n: u32,
 ) -> u64
-    requires { ⌜ (n ≤ at) × ((room : Room) × (s : State) × (re : List ℕ) × (ob : List ℕ) × (c : List ℕ) × (at-of c ≡ at) × (symbols-of c ≡ count) × Holds (now input) room s (lists (now nodes) re (now bytes) (now symbols) ob) c) ⌝ }
-    ensures { λ r. ⌜ ((room : Room) (s : State) (re ob c : List ℕ) → symbols-of c ≡ count → Holds (now (input .entry)) room s (lists (now (nodes .entry)) re (now (bytes .entry)) (now (symbols .entry)) ob) c → (r < 4294967296 → (find-symbol (s .bytes) (span (now (input .entry)) at n) (s .nodes) 0 ≡ some r) × Symbolic (getD (s .nodes) r nil)) × (4294967296 ≤ r → find-symbol (s .bytes) (span (now (input .entry)) at n) (s .nodes) 0 ≡ none)) ⌝ }
+    requires { ⌜ (n ≤ at) × (at ≤ length (now input)) × ((room : Room) × (s : State) × (re : List ℕ) × (ob : List ℕ) × (c : List ℕ) × (symbols-of c ≡ count) × Holds (now input) room s (lists (now nodes) re (now bytes) (now symbols) ob) c) ⌝ }
+    ensures { λ r. ⌜ ((room : Room) (s : State) (re ob c : List ℕ) → symbols-of c ≡ count → Holds (now (input .entry)) room s (lists (now (nodes .entry)) re (now (bytes .entry)) (now (symbols .entry)) ob) c → Found s (span (now (input .entry)) at n) r) ⌝ }
 {
     let last = last_byte(&input[..], at, n);
     let mut i: usize = 0;
@@ -400,31 +412,133 @@ fn find_symbol(
     REFUSED
 }
 
+// How many of the n bytes from `from` on are those from `to` on, before the first that differs.
+fn alike(input: &[u8], from: usize, bytes: &[u8], to: usize, n: usize) -> usize
+    requires { ⌜ (from + n ≤ length (now input)) × (to + n ≤ length (now bytes)) ⌝ }
+    ensures { λ r. ⌜ Alike (take n (drop from (now (input .entry)))) (take n (drop to (now (bytes .entry)))) n r ⌝ }
+{
+    let mut i: usize = 0;
+    while i < n {
+        if input[from + i] != bytes[to + i] {
+            return i;
+        }
+        i = i + 1;
+    }
+    n
+}
+
+// What compare_name answers for names of n bytes of which the first `alike` are the same: n where that is all of them, else
+// REFUSED and one more, the first that differs.
+fn compared(alike: usize, n: u32) -> u64
+    requires { ⌜ alike ≤ n ⌝ }
+    ensures { λ r. ⌜ (alike ≡ n → r ≡ n) × ((alike ≡ n → ⊥) → r ≡ 4294967296 + (alike + 1)) ⌝ }
+{
+    if alike < n as usize {
+        return REFUSED + (alike as u64 + 1);
+    }
+    n as u64
+}
+
+// The n bytes before `at` are compared with the name of the symbol h, if that has so many: n where they name it, else REFUSED
+// and how many were compared, the first that differs included.
+fn compare_name(input: &[u8], nodes: &[u32], bytes: &[u8], at: usize, h: u32, n: u32) -> u64
+    requires { ⌜ (n ≤ at) × (at ≤ length (now input)) × ((room : Room) × (s : State) × (re : List ℕ) × (sy : List ℕ) × (ob : List ℕ) × (c : List ℕ) × Symbolic (getD (s .nodes) h nil) × Holds (now input) room s (lists (now nodes) re (now bytes) sy ob) c) ⌝ }
+    ensures { λ r. ⌜ ((room : Room) (s : State) (re sy ob c : List ℕ) → Symbolic (getD (s .nodes) h nil) → Holds (now (input .entry)) room s (lists (now (nodes .entry)) re (now (bytes .entry)) sy ob) c → Compared s (span (now (input .entry)) at n) (getD (s .nodes) h nil) r) ⌝ }
+{
+    let base = (h as usize) * Node::WIDTH;
+    if nodes[base + Node::LENGTH] != n {
+        return REFUSED;
+    }
+    let k = n as usize;
+    let to = nodes[base + Node::START] as usize;
+    compared(alike(&input[..], at - k, &bytes[..], to, k), n)
+}
+
+// find_symbol, comparing from the first byte on, and the bytes compared are counted. Symbols come on the list in the order of
+// their numbers, and again: an entry below `next` was met already.
+fn measure_symbol(
+    input: &[u8],
+    nodes: &[u32],
+    bytes: &[u8],
+    symbols: &[u32],
+    c: &mut [usize; 8],
+    at: usize,
+    n: u32,
+) -> u64
+    requires { ⌜ (n ≤ at) × (at ≤ length (now input)) × (compared-of (now c) ≡ 0 → ⊥) × ((re : List ℕ) × (ob : List ℕ) × Held (now input) (lists (now nodes) re (now bytes) (now symbols) ob) (now c)) ⌝ }
+    ensures { λ r. ⌜ ((room : Room) (s : State) (re ob k : List ℕ) → symbols-of k ≡ symbols-of (now (c .entry)) → Holds (now (input .entry)) room s (lists (now (nodes .entry)) re (now (bytes .entry)) (now (symbols .entry)) ob) k → Found s (span (now (input .entry)) at n) r × (now (c .exit) ≡ set (now (c .entry)) 7 (compared-of (now (c .entry)) + compared-among (s .bytes) (span (now (input .entry)) at n) (s .nodes)))) ⌝ }
+{
+    let count = c[SYMBOLS];
+    let mut total = c[COMPARED];
+    let mut next: u32 = 0;
+    let mut i: usize = 0;
+    while i < count {
+        let h = symbols[i];
+        i = i + 1;
+        if h < next {
+            continue;
+        }
+        let k = compare_name(&input[..], &nodes[..], &bytes[..], at, h, n);
+        if k < REFUSED {
+            c[COMPARED] = total + k as usize;
+            return wide(h);
+        }
+        total = total + (k - REFUSED) as usize;
+        next = h + 1;
+    }
+    c[COMPARED] = total;
+    REFUSED
+}
+
+// The first symbol that the n bytes at the offset name, which are passed, else REFUSED.
+fn search_symbol(
+    input: &[u8],
+    nodes: &[u32],
+    bytes: &[u8],
+    symbols: &[u32],
+    c: &mut [usize; 8],
+    n: u32,
+) -> u64
+    requires { ⌜ (at-of (now c) + n ≤ length (now input)) × ((re : List ℕ) × (ob : List ℕ) × Held (now input) (lists (now nodes) re (now bytes) (now symbols) ob) (now c)) ⌝ }
+    ensures { λ r. ⌜ ((room : Room) (re ob : List ℕ) → Goes (now (input .entry)) room (read-name (now (input .entry)) room n) (lists (now (nodes .entry)) re (now (bytes .entry)) (now (symbols .entry)) ob) (now (c .entry)) (add-name room (span-of (now (input .entry)) (now (c .exit)) n) r) (lists (now (nodes .entry)) re (now (bytes .entry)) (now (symbols .entry)) ob) (now (c .exit))) ⌝ }
+    ensures { λ r. ⌜ ((room : Room) (s : State) (re ob k : List ℕ) → symbols-of k ≡ symbols-of (now (c .exit)) → r < 4294967296 → Holds (now (input .entry)) room s (lists (now (nodes .entry)) re (now (bytes .entry)) (now (symbols .entry)) ob) k → Symbolic (getD (s .nodes) r nil)) ⌝ }
+    ensures { λ r. ⌜ (n ≤ at-of (now (c .exit))) × (at-of (now (c .exit)) ≤ length (now (input .entry))) ⌝ }
+{
+    let at = c[AT] + n as usize;
+    if c[COMPARED] == 0 {
+        c[AT] = at;
+        return find_symbol(
+            &input[..],
+            &nodes[..],
+            &bytes[..],
+            &symbols[..],
+            at,
+            c[SYMBOLS],
+            n,
+        );
+    }
+    let r = measure_symbol(&input[..], &nodes[..], &bytes[..], &symbols[..], c, at, n);
+    c[AT] = at;
+    r
+}
+
 // The symbol of the name read, added where it is new, and put on the symbol list. That it is not new is noted.
 fn read_symbol(
     input: &[u8],
     nodes: &mut [u32],
     bytes: &mut [u8],
     symbols: &mut [u32],
-    c: &mut [usize; 7],
+    c: &mut [usize; 8],
 ) -> u64
     requires { ⌜ ((re : List ℕ) × (ob : List ℕ) × Held (now input) (lists (now nodes) re (now bytes) (now symbols) ob) (now c)) ⌝ }
     ensures { λ r. ⌜ ((room : Room) (limit : ℕ) (re ob : List ℕ) → Meets (now (input .entry)) room limit (read-symbol (now (input .entry)) room) (lists (now (nodes .entry)) re (now (bytes .entry)) (now (symbols .entry)) ob) (now (c .entry)) r (lists (now (nodes .exit)) re (now (bytes .exit)) (now (symbols .exit)) ob) (now (c .exit))) ⌝ }
     ensures { λ r. ⌜ (r < 4294967296 → r < nodes-of (now (c .exit))) ⌝ }
 {
-    let n = read_byte_string(&input[..], c);
+    let n = read_length(&input[..], c);
     if REFUSED <= n {
         return n;
     }
-    let known = find_symbol(
-        &input[..],
-        nodes,
-        bytes,
-        symbols,
-        c[AT],
-        c[SYMBOLS],
-        n as u32,
-    );
+    let known = search_symbol(&input[..], nodes, bytes, symbols, c, n as u32);
     if known < REFUSED {
         c[FORM] = 1;
         return add_symbol(symbols, c, known);
@@ -442,7 +556,7 @@ pub fn read_symbol_like(
     nodes: &mut [u32],
     bytes: &mut [u8],
     symbols: &mut [u32],
-    c: &mut [usize; 7],
+    c: &mut [usize; 8],
 ) -> u64
     requires { ⌜ ((re : List ℕ) × (ob : List ℕ) × Held (now input) (lists (now nodes) re (now bytes) (now symbols) ob) (now c)) ⌝ }
     ensures { λ r. ⌜ ((room : Room) (limit : ℕ) (re ob : List ℕ) → Meets (now (input .entry)) room limit (read-symbol-like (now (input .entry)) room) (lists (now (nodes .entry)) re (now (bytes .entry)) (now (symbols .entry)) ob) (now (c .entry)) r (lists (now (nodes .exit)) re (now (bytes .exit)) (now (symbols .exit)) ob) (now (c .exit))) ⌝ }
@@ -468,7 +582,7 @@ fn read_user_defined(
     bytes: &mut [u8],
     symbols: &mut [u32],
     objects: &mut [u32],
-    c: &mut [usize; 7],
+    c: &mut [usize; 8],
 ) -> u64
     requires { ⌜ ((re : List ℕ) × Held (now input) (lists (now nodes) re (now bytes) (now symbols) (now objects)) (now c)) ⌝ }
     ensures { λ r. ⌜ ((room : Room) (limit : ℕ) (re : List ℕ) → Meets (now (input .entry)) room limit (read-user-defined (now (input .entry)) room) (lists (now (nodes .entry)) re (now (bytes .entry)) (now (symbols .entry)) (now (objects .entry))) (now (c .entry)) r (lists (now (nodes .exit)) re (now (bytes .exit)) (now (symbols .exit)) (now (objects .exit))) (now (c .exit))) ⌝ }
@@ -507,7 +621,7 @@ pub fn read_leaf(
     bytes: &mut [u8],
     symbols: &mut [u32],
     objects: &mut [u32],
-    c: &mut [usize; 7],
+    c: &mut [usize; 8],
     k: u8,
 ) -> u64
     requires { ⌜ ((re : List ℕ) × Held (now input) (lists (now nodes) re (now bytes) (now symbols) (now objects)) (now c)) ⌝ }
@@ -596,7 +710,7 @@ fn small_next(input: &[u8], at: usize, levels: u32) -> bool
 }
 
 // The offset is what the run has come to: `to`.
-fn end_run(c: &mut [usize; 7], at: usize, to: usize) -> usize
+fn end_run(c: &mut [usize; 8], at: usize, to: usize) -> usize
     ensures { λ r. ⌜ (r ≡ to) × (now (c .exit) ≡ set (now (c .entry)) 0 at) ⌝ }
 {
     c[AT] = at;
@@ -611,7 +725,7 @@ pub fn read_run(
     nodes: &mut [u32],
     references: &mut [u32],
     symbols: &[u32],
-    c: &mut [usize; 7],
+    c: &mut [usize; 8],
     start: usize,
     end: usize,
     names: usize,
@@ -662,8 +776,8 @@ pub fn read_run(
 // ---- values with members
 
 // A nil node for what has members, put on the object list: its number.
-pub fn open_node(nodes: &mut [u32], objects: &mut [u32], c: &mut [usize; 7]) -> u64
-    requires { ⌜ (length (now nodes) ≤ 2147483647) × (length (now c) ≡ 7) ⌝ }
+pub fn open_node(nodes: &mut [u32], objects: &mut [u32], c: &mut [usize; 8]) -> u64
+    requires { ⌜ (length (now nodes) ≤ 2147483647) × (length (now c) ≡ 8) ⌝ }
     ensures { λ r. ⌜ ((input : List ℕ) (room : Room) (limit : ℕ) (re by sy : List ℕ) → Meets input room limit (add-object-node room nil) (lists (now (nodes .entry)) re by sy (now (objects .entry))) (now (c .entry)) r (lists (now (nodes .exit)) re by sy (now (objects .exit))) (now (c .exit))) ⌝ }
     ensures { λ r. ⌜ (r < 4294967296 → (r < nodes-of (now (c .exit))) × Free (now (nodes .exit)) r) ⌝ }
 {
@@ -671,7 +785,7 @@ pub fn open_node(nodes: &mut [u32], objects: &mut [u32], c: &mut [usize; 7]) -> 
 }
 
 // A count, and so many times `each` reference words more, which are zero: the count.
-pub fn read_words(input: &[u8], references: &mut [u32], c: &mut [usize; 7], each: usize) -> u64
+pub fn read_words(input: &[u8], references: &mut [u32], c: &mut [usize; 8], each: usize) -> u64
     requires { ⌜ (each ≤ 2) × ((no : List ℕ) × (by : List ℕ) × (sy : List ℕ) × (ob : List ℕ) × Held (now input) (lists no (now references) by sy ob) (now c)) ⌝ }
     ensures { λ r. ⌜ ((room : Room) (limit : ℕ) (no by sy ob : List ℕ) (k : ℕ → ℕ → Reader ℕ) → Leads (now (input .entry)) room limit (counted (now (input .entry)) room each k) (k (references-of (now (c .exit)) - r * each) r) (lists no (now (references .entry)) by sy ob) (now (c .entry)) r (lists no (now (references .exit)) by sy ob) (now (c .exit))) ⌝ }
     ensures { λ r. ⌜ (r < 4294967296 → (r < 2147483648) × (r * each ≤ references-of (now (c .exit)))) ⌝ }
@@ -733,7 +847,7 @@ fn takes_next(input: &[u8], at: usize) -> bool
 }
 
 // After `I`: that something else comes directly is noted.
-pub fn note_inner(input: &[u8], c: &mut [usize; 7])
+pub fn note_inner(input: &[u8], c: &mut [usize; 8])
     requires { ⌜ Somewhere (now input) (now c) ⌝ }
     ensures { λ _. ⌜ ((room : Room) (T : Lists) (inner : Reader ℕ) → Goes (now (input .entry)) room (after-i (now (input .entry)) inner) T (now (c .entry)) inner T (now (c .exit))) ⌝ }
 {
@@ -777,7 +891,7 @@ pub fn wrong_slice(
     input: usize,
 ) -> u32
     ensures { λ r. ⌜ r ≡ wrong nodes references bytes symbols objects limit input ⌝ }
-    ensures { λ r. ⌜ (r ≡ 0 → Allowed nodes references bytes symbols objects) ⌝ }
+    ensures { λ r. ⌜ (r ≡ 0 → Allowed nodes references bytes symbols objects input) ⌝ }
 {
     wrong_table(
         nodes,

@@ -1,16 +1,16 @@
 -- Details as words, words written one after the other, and a call's reply where the answer words are enough and where they are too few.
 use Prim.Native.Nat.{ℕ, _-_, _<_, _≤_}
-use mathlib.Core.Path.{_≡_, refl, sym, ap, _∙_}
+use mathlib.Core.Path.{_≡_, refl, ap, _∙_}
 use mathlib.Core.Bool.{Bool, true, false}
-use mathlib.Core.List.{List, [], _∷_, _++_}
-use lib.IntN.{ℤ, pos, negsuc}
+use mathlib.Core.List.{List, _++_}
+use lib.IntN.{ℤ}
 use lib.ListN.{length, set}
 use lib.Seq.{sets}
 use borrow.Author.Tests.{le-leb, lt-leb}
 use Rattle.definition.specs.Run.{pick}
 use Rattle.definition.specs.Refused.{answer-numbers}
 use Rattle.definition.specs.Arena.{Tables}
-use Rattle.definition.specs.Load.{Lists, LoadCall}
+use Rattle.definition.specs.Load.{Lists, LoadCall, MeasuredCall}
 use Rattle.definition.specs.Dump.{DumpCall, dump-call-of}
 use Rattle.definition.specs.Build.{BuildCall, NewCall}
 use Rattle.definition.specs.declared.Answer.{Answer}
@@ -19,12 +19,13 @@ use Rattle.definition.specs.declared.Counts.{Counts}
 use Rattle.definition.specs.declared.Created.{Created}
 use Rattle.definition.specs.declared.Dumped.{Dumped}
 use Rattle.definition.specs.declared.Loaded.{Loaded}
+use Rattle.definition.specs.declared.Measured.{Measured}
 use Rattle.definition.specs.declared.Name.{Name}
 use Rattle.definition.specs.declared.Number.{Number}
 use Rattle.definition.specs.declared.Words.{Words}
 use Rattle.refusal.specs.Shown.{integer, shown}
 use Rattle.refusal.specs.declared.Numbers.{Numbers}
-use Rattle.marshal_c.specs.Reply.{word, details, count-words, loaded-words, dumped-words, begun-words, number-words, node-words, name-words, created-words, Reply, reply, tell, tell-load, tell-dump, tell-new, tell-build, tell-number, tell-words, tell-name}
+use Rattle.marshal_c.specs.Reply.{word, details, count-words, loaded-words, measured-words, dumped-words, begun-words, number-words, node-words, name-words, created-words, reply, tell, tell-load, tell-measured, tell-dump, tell-new, tell-build, tell-number, tell-words, tell-name}
 
 -- ---- details
 
@@ -54,6 +55,11 @@ pub last : (a : Answer) (c : Counts) (words : List ℕ) {t u : List ℕ} (vs : L
 unfolding details count-words
 last a c words vs e f = ap (λ (l : List ℕ). sets l 6 vs) (f ∙ ap (λ (l : List ℕ). sets l 2 (count-words c)) e)
 
+-- after load's words
+pub after-load : (r : Loaded) (words : List ℕ) {t : List ℕ} (vs : List ℕ) → t ≡ sets words 0 (loaded-words r) → sets t 8 vs ≡ sets words 0 (loaded-words r ++ vs)
+unfolding loaded-words details count-words
+after-load r words vs e = ap (λ (l : List ℕ). sets l 8 vs) e
+
 -- ---- replies
 
 module _ {L : Type 0} (a : Answer) (ws words : List ℕ) (before after : L) where
@@ -73,6 +79,14 @@ module _ (T : Lists) (words : List ℕ) where
   pub load-told : {r : Loaded} {T′ : Lists} {k : LoadCall} {n : ℕ} {w : List ℕ} → 8 ≤ length words → (n ≡ answer-numbers (r .answer) .0) × (w ≡ sets words 0 (loaded-words r)) → record { answer = r; lent = T′ } ≡ k → reply n w T′ ≡ tell-load k T words
   unfolding tell-load loaded-words details count-words
   load-told {r = r} {T′ = T′} h e g = enough (r .answer) (loaded-words r) words T T′ h e ∙ ap (λ (k : LoadCall). tell-load k T words) g
+
+  pub measured-few : (k : MeasuredCall) → length words < 10 → reply 1 words T ≡ tell-measured k T words
+  unfolding tell-measured measured-words loaded-words details count-words
+  measured-few k h = too-few (k .answer .load .answer) (measured-words (k .answer)) words T (k .lent) h
+
+  pub measured-told : {r : Measured} {T′ : Lists} {k : MeasuredCall} {n : ℕ} {w : List ℕ} → 10 ≤ length words → (n ≡ answer-numbers (r .load .answer) .0) × (w ≡ sets words 0 (measured-words r)) → record { answer = r; lent = T′ } ≡ k → reply n w T′ ≡ tell-measured k T words
+  unfolding tell-measured measured-words loaded-words details count-words
+  measured-told {r = r} {T′ = T′} h e g = enough (r .load .answer) (measured-words r) words T T′ h e ∙ ap (λ (k : MeasuredCall). tell-measured k T words) g
 
 module _ (T : Tables) (words : List ℕ) where
   pub new-few : (k : NewCall) → length words < 6 → reply 1 words T ≡ tell-new k T words

@@ -9,7 +9,7 @@ use lib.Seq.{sets}
 use Rattle.definition.specs.Run.{pick}
 use Rattle.definition.specs.Refused.{answer-numbers}
 use Rattle.definition.specs.Arena.{Tables}
-use Rattle.definition.specs.Load.{Lists, LoadCall}
+use Rattle.definition.specs.Load.{Lists, LoadCall, MeasuredCall}
 use Rattle.definition.specs.Dump.{DumpCall}
 use Rattle.definition.specs.Build.{BuildCall, NewCall}
 use Rattle.definition.specs.declared.Answer.{Answer}
@@ -18,6 +18,7 @@ use Rattle.definition.specs.declared.Counts.{Counts}
 use Rattle.definition.specs.declared.Created.{Created}
 use Rattle.definition.specs.declared.Dumped.{Dumped}
 use Rattle.definition.specs.declared.Loaded.{Loaded}
+use Rattle.definition.specs.declared.Measured.{Measured}
 use Rattle.definition.specs.declared.Name.{Name}
 use Rattle.definition.specs.declared.Number.{Number}
 use Rattle.definition.specs.declared.Words.{Words}
@@ -45,6 +46,10 @@ flag false = 0
 -- load: then the bytes used, and whether dump writes just these
 unfoldable pub loaded-words : Loaded → List ℕ
 loaded-words r = details (r .answer) ++ count-words (r .counts) ++ (r .used ∷ flag (r .form) ∷ [])
+
+-- load_measured: load's words, then the bytes copied and the bytes compared
+unfoldable pub measured-words : Measured → List ℕ
+measured-words r = loaded-words (r .load) ++ (r .copied ∷ r .compared ∷ [])
 
 -- dump: the bytes written
 unfoldable pub dumped-words : Dumped → List ℕ
@@ -93,6 +98,10 @@ tell a ws words before after = pick (leb (length ws) (length words)) (reply (ans
 -- load's call over the answer words; T is what was lent
 unfoldable pub tell-load : LoadCall → Lists → List ℕ → Reply Lists
 tell-load k T words = tell (k .answer .answer) (loaded-words (k .answer)) words T (k .lent)
+
+-- load_measured's
+unfoldable pub tell-measured : MeasuredCall → Lists → List ℕ → Reply Lists
+tell-measured k T words = tell (k .answer .load .answer) (measured-words (k .answer)) words T (k .lent)
 
 -- dump's; lent are scratch and output
 unfoldable pub tell-dump : DumpCall → List ℕ → List ℕ → List ℕ → Reply (List ℕ × List ℕ)

@@ -9,11 +9,13 @@ use definition::Counts;
 use definition::Created;
 use definition::Dumped;
 use definition::Loaded;
+use definition::Measured;
 use definition::Name;
 use definition::Number;
 use definition::Words;
 use dump::dump;
 use load::load;
+use load::load_measured;
 use refusal::answer_numbers;
 use value_arena::create_array;
 use value_arena::create_bool;
@@ -32,23 +34,24 @@ use value_arena::kind;
 use value_arena::new;
 use value_arena::replace_root;
 ghost use mathlib.Core.Path.{_≡_};
-ghost use mathlib.Core.List.{List, [], _∷_};
-ghost use Prim.Native.Nat.{ℕ, _≤_};
+ghost use mathlib.Core.List.{[], _∷_};
+ghost use Prim.Native.Nat.{_≤_};
 ghost use lib.ListN.{length};
 ghost use lib.Seq.{sets};
 ghost use Rattle.definition.specs.Refused.{answer-numbers};
-ghost use Rattle.definition.specs.Arena.{Tables};
-ghost use Rattle.definition.specs.Load.{Lists, lists, counts, load-call};
+ghost use Rattle.definition.specs.Load.{lists, counts, load-call, measured-call};
 ghost use Rattle.definition.specs.Dump.{dump-call};
 ghost use Rattle.definition.specs.Build.{lent, build-call, new-call, number-done, words-done, name-done, get-words, get-kind, get-name, get-root, exchange-root, create-nil, create-bool, create-fixnum, create-new-symbol, create-symbol, create-array, create-hash, create-object, create-string, create-user-defined, create-float};
 ghost use Rattle.refusal.specs.Shown.{integer};
-ghost use Rattle.marshal_c.specs.Reply.{word, details, flag, count-words, loaded-words, dumped-words, begun-words, number-words, node-words, name-words, created-words, tables, reply, tell-load, tell-dump, tell-new, tell-build, tell-number, tell-words, tell-name};
+ghost use Rattle.marshal_c.specs.Reply.{word, details, flag, count-words, loaded-words, measured-words, dumped-words, begun-words, number-words, node-words, name-words, created-words, tables, reply, tell-load, tell-measured, tell-dump, tell-new, tell-build, tell-number, tell-words, tell-name};
 
 // Too few answer words: BAD-TABLES.
 const BAD_TABLES: u32 = 1;
 
 // How many answer words each kind of answer takes.
 const LOADED: usize = 8;
+
+const MEASURED: usize = 10;
 
 const DUMPED: usize = 3;
 
@@ -133,6 +136,17 @@ fn tell_loaded(answer: &mut [u64], r: Loaded) -> u32
     tell_counts(answer, c);
     answer[6] = r.used as u64;
     answer[7] = flag_of(r.form);
+    n
+}
+
+fn tell_measured(answer: &mut [u64], r: Measured) -> u32
+    requires { ⌜ 10 ≤ length (now answer) ⌝ }
+    ensures { λ n. ⌜ (n ≡ answer-numbers (r .load .answer) .0) × (now (answer .exit) ≡ sets (now (answer .entry)) 0 (measured-words r)) ⌝ }
+{
+    let l = r.load;
+    let n = tell_loaded(answer, l);
+    answer[8] = r.copied;
+    answer[9] = r.compared;
     n
 }
 
@@ -229,6 +243,34 @@ pub extern "C" fn ruby_marshal_load(
         limit,
     );
     tell_loaded(answer, r)
+}
+
+#[no_mangle]
+pub extern "C" fn ruby_marshal_load_measured(
+    input: &[u8],
+    nodes: &mut [u32],
+    references: &mut [u32],
+    bytes: &mut [u8],
+    symbols: &mut [u32],
+    objects: &mut [u32],
+    limit: u32,
+    answer: &mut [u64],
+) -> u32
+    ensures { λ r. ⌜ reply r (now (answer .exit)) (lists (now (nodes .exit)) (now (references .exit)) (now (bytes .exit)) (now (symbols .exit)) (now (objects .exit))) ≡ tell-measured (measured-call (now (input .entry)) (lists (now (nodes .entry)) (now (references .entry)) (now (bytes .entry)) (now (symbols .entry)) (now (objects .entry))) limit) (lists (now (nodes .entry)) (now (references .entry)) (now (bytes .entry)) (now (symbols .entry)) (now (objects .entry))) (now (answer .entry)) ⌝ }
+{
+    if answer.len() < MEASURED {
+        return BAD_TABLES;
+    }
+    let r = load_measured(
+        &input[..],
+        nodes,
+        references,
+        bytes,
+        symbols,
+        objects,
+        limit,
+    );
+    tell_measured(answer, r)
 }
 
 #[no_mangle]

@@ -30,6 +30,13 @@ pub fn word(data: &[u8], at: usize) -> u32 {
     }
 }
 
+// The number of 64 bits at `at`: its low word, then its high one.
+pub fn long(data: &[u8], at: usize) -> u64 {
+    let low = word(&data[..], at) as u64;
+    let high = word(&data[..], plus(at, 1)) as u64;
+    high * 4294967296 + low
+}
+
 // A sum that stays small.
 pub fn plus(a: usize, b: usize) -> usize {
     if a < 100000000 {

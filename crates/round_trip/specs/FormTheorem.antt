@@ -1,5 +1,5 @@
 -- Dump form, proved.
-use Prim.Native.Nat.{ℕ, suc, zero, _+_, _/_, _≤_}
+use Prim.Native.Nat.{ℕ, suc, zero, _/_, _≤_}
 use mathlib.Core.Path.{_≡_, refl, ap, subst}
 use mathlib.Core.Path.{sym as psym, _∙_}
 use mathlib.Core.Bool.{false}

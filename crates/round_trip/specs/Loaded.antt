@@ -14,7 +14,7 @@ use Rattle.definition.specs.Graph.{Header, header, links}
 use Rattle.definition.specs.Load.{State, Lists, room-of, load}
 use Rattle.lists.specs.Lists.{At, apart}
 use Rattle.graph.specs.Sums.{weight, total-one, total-two}
-use Rattle.graph.specs.Forest.{Node, leaf, sym, box}
+use Rattle.graph.specs.Forest.{Node, sym, box}
 use Rattle.graph.specs.Build.{Names, node-leaf, lf, w, Φ}
 use Rattle.graph.specs.View.{see, seen, arena-of, see-at}
 use Rattle.load_forest.specs.Names.{load-arena-names}

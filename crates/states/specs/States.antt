@@ -8,8 +8,8 @@ use mathlib.Core.List.{List, [], _∷_, _++_, map, map-append, append-assoc, app
 use lib.ListN.{length, set, length-set, length-append, length-map, replicate}
 use native.Mathlib.Omega.{arith}
 use Rattle.definition.specs.Node.{Row, nil, bool, fixnum, symbol, hash, object, user, absent}
-use Rattle.definition.specs.Arena.{range}
-use Rattle.definition.specs.Load.{State, Notes, at-set, nodes-set, references-set, bytes-set, symbols-set, objects-set, notes-set, begin}
+use Rattle.definition.specs.Arena.{range, compared-among}
+use Rattle.definition.specs.Load.{State, at-set, nodes-set, references-set, bytes-set, symbols-set, objects-set, notes-set, copied-more, compared-more, begin}
 use Rattle.lists.specs.Lists.{At, at-app, at-snoc-inv, at-set-same, at-set-other, at-set-inv, apart, map-set, map-ext, map-at, map-at-inv, len-snoc, at-lt}
 use Rattle.lists.specs.Ranges.{range-next, range-same, range-more, range-last}
 use Rattle.graph.specs.Forest.{Node, sym, leaf, Texted, text-string, text-float}
@@ -36,9 +36,13 @@ Apart p n r = (list-start r + list-length r ≤ p) ⊎ (p + n ≤ list-start r)
 abbrev pub Free : ℕ → ℕ → State → Type 0
 Free p n s = (i : ℕ) (r : Row) → At (s .nodes) i r → Apart p n r
 
--- the states that the steps lead to; reading moves the offset and may note something
-abbrev pub read-to : ℕ → Notes → State → State
-read-to k n s = notes-set n (at-set k s)
+-- the states that the steps lead to; reading moves the offset and may leave dump form, and both counts stand
+abbrev pub read-to : ℕ → Bool → State → State
+read-to k f s = notes-set (record { form = f; copied = s .notes .copied; compared = s .notes .compared }) (at-set k s)
+
+-- a search for the name b was counted
+abbrev pub sought : List ℕ → State → State
+sought b s = compared-more (compared-among (s .bytes) b (s .nodes)) s
 
 abbrev pub with-node : Row → State → State
 with-node r s = nodes-set (s .nodes ++ (r ∷ [])) s
@@ -52,8 +56,9 @@ with-symbol h s = symbols-set (s .symbols ++ (h ∷ [])) s
 abbrev pub with-object-node : Row → State → State
 with-object-node r s = with-object (length (s .nodes)) (with-node r s)
 
+-- bytes at the end, which are copied there
 abbrev pub with-bytes : List ℕ → State → State
-with-bytes bs s = bytes-set (s .bytes ++ bs) s
+with-bytes bs s = copied-more (length bs) (bytes-set (s .bytes ++ bs) s)
 
 abbrev pub with-words : List ℕ → State → State
 with-words ws s = references-set (s .references ++ ws) s
@@ -118,11 +123,14 @@ pub seen-root : (s : State) (h : ℕ) → seen (arena-of s h) ≡ state-seen s .
 unfolding seen state-seen
 seen-root s h = map-ext (see (arena-of s h)) (see (arena-of s 0)) (s .nodes) (λ i r e. see-same (arena-of s 0) (arena-of s h) r refl refl)
 
-pub seen-read-to : (k : ℕ) (n : Notes) (s : State) → state-seen (read-to k n s) ≡ state-seen s
-seen-read-to k n s = seen-alike s (read-to k n s) refl refl refl (λ i r e. refl)
+pub seen-read-to : (k : ℕ) (f : Bool) (s : State) → state-seen (read-to k f s) ≡ state-seen s
+seen-read-to k f s = seen-alike s (read-to k f s) refl refl refl (λ i r e. refl)
+
+pub seen-sought : (b : List ℕ) (s : State) → state-seen (sought b s) ≡ state-seen s
+seen-sought b s = seen-alike s (sought b s) refl refl refl (λ i r e. refl)
 
 pub seen-at-set : (k : ℕ) (s : State) → state-seen (at-set k s) ≡ state-seen s
-seen-at-set k s = seen-read-to k (s .notes) s
+seen-at-set k s = seen-read-to k (s .notes .form) s
 
 pub seen-symbol : (h : ℕ) (s : State) → state-seen (with-symbol h s) ≡ addSym h (state-seen s)
 unfolding state-seen
@@ -331,11 +339,14 @@ frame-below q h f = record {
   stays-free = λ a n l e. f .stays-free a n (omega arith) e;
 }
 
-pub frame-read-to : (p k : ℕ) (n : Notes) (s : State) → Frame p s (read-to k n s)
-frame-read-to p k n s = frame-same p s (read-to k n s) refl refl refl
+pub frame-read-to : (p k : ℕ) (f : Bool) (s : State) → Frame p s (read-to k f s)
+frame-read-to p k f s = frame-same p s (read-to k f s) refl refl refl
+
+pub frame-sought : (p : ℕ) (b : List ℕ) (s : State) → Frame p s (sought b s)
+frame-sought p b s = frame-same p s (sought b s) refl refl refl
 
 pub frame-at-set : (p k : ℕ) (s : State) → Frame p s (at-set k s)
-frame-at-set p k s = frame-read-to p k (s .notes) s
+frame-at-set p k s = frame-read-to p k (s .notes .form) s
 
 pub frame-object : (p h : ℕ) (s : State) → Frame p s (with-object h s)
 frame-object p h s = frame-same p s (with-object h s) refl refl refl

@@ -111,6 +111,10 @@ module _ {n : ℕ} where
   unfolding L.note
   note b = record { alike = λ s. same _ _ (le-refl (s .at)) }
 
+  compare : (k : ℕ) → Blind n (L.compare k)
+  unfolding L.compare
+  compare k = record { alike = λ s. same _ _ (le-refl (s .at)) }
+
   tell : (bs : List ℕ) (w : ℕ) → Blind n (L.tell bs w)
   unfolding L.tell
   tell bs w = record { alike = λ s. same _ _ (le-refl (s .at)) }
@@ -149,7 +153,7 @@ module _ {n : ℕ} (room : Room) where
 
   intern : (name : List ℕ) → Blind n (L.intern room name)
   unfolding L.intern
-  intern name = looking λ s. intern-as name (find-symbol (s .bytes) name (s .nodes) 0)
+  intern name = looking λ s. then (compare _) λ _. intern-as name (find-symbol (s .bytes) name (s .nodes) 0)
 
 module _ {n : ℕ} where
   fill : (i : ℕ) (r : Row) → Blind n (L.fill i r)

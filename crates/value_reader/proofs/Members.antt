@@ -10,12 +10,12 @@ use lib.ListN.{length, set}
 use borrow.Author.Tests.{eq-eqb, ne-eqb, ltb-true, ltb-false}
 use mir.Syntax.{w32}
 use mir.Val.{Fits}
-use Rattle.definition.specs.Run.{Outcome, pure, pick, look, next, _>>=_}
+use Rattle.definition.specs.Run.{pure, pick, look, next, _>>=_}
 use Rattle.definition.specs.Kind.{HASH, HASH-DEFAULT, STRING}
-use Rattle.definition.specs.Node.{nil, array, hash, object}
-use Rattle.definition.specs.Load.{Room, State, Reader, Lists, lists, Hash, HashDefault, note, head, value-of, read-hash, read-variables, read-instance-variables, read-elements, read-pairs, read-default, read-value, read-symbol-like, put-reference, fill, counted, add-object-node}
+use Rattle.definition.specs.Node.{array, hash, object}
+use Rattle.definition.specs.Load.{Room, Reader, Lists, lists, Hash, HashDefault, note, head, value-of, read-hash, read-variables, read-instance-variables, read-elements, read-pairs, read-default, read-value, read-symbol-like, put-reference, fill, counted}
 use Rattle.loader.specs.Holds.{Held, Goes, Leads, Meets, Free, Leaf, slot, slots, more-of, members, settle, after-i, nodes-of, references-of}
-use Rattle.loader.proofs.Laws.{then, still, held, held-goes, goes-to, grew-there, still-below, lead-first, lead-after, lead-stop, lead-as, gives, bind-assoc}
+use Rattle.loader.proofs.Laws.{then, still, held, held-goes, goes-to, goes-part, grew-there, still-below, lead-first, lead-after, lead-stop, lead-as, gives, bind-assoc}
 use Rattle.loader.proofs.Readers.{headed}
 use Rattle.loader.proofs.Run.{slot-put, slot-value}
 
@@ -215,11 +215,6 @@ pub record Turning (input no₀ re₀ by₀ sy₀ ob₀ c₀ : List ℕ) (start 
 pub turning-start : {input no re by sy ob c : List ℕ} {start end names levels : ℕ} → start ≤ end → end ≤ references-of c → Held input (lists no re by sy ob) c → Turning input no re by sy ob c start end names levels no re by sy ob c start
 turning-start l h H = record { within = l; inside = h; nodes = refl; references = refl; bytes = refl; symbols = refl; objects = refl; held = H; goes = λ room limit. still (λ s G. refl) }
 
--- what goes on inside a longer reader
-through : {input : List ℕ} {room : Room} {m m' : Reader (Unit {0})} {T T' : Lists} {c c' : List ℕ} (f : Unit {0} → Reader ℕ) → Goes input room m T c m' T' c' → Goes input room (m >>= f) T c (m' >>= f) T' c'
-unfolding _>>=_
-through f g = record { goes = λ s H. let w = g .goes s H in record { state = w .state; holds = w .holds; same = ap (λ (o : Outcome State (Unit {0})). next o f) (w .same); grown = w .grown } }
-
 -- the same word by another name
 pub come-to : {input no₀ re₀ by₀ sy₀ ob₀ c₀ : List ℕ} {start end names levels : ℕ} {no re by sy ob c : List ℕ} {to to' : ℕ} → Turning input no₀ re₀ by₀ sy₀ ob₀ c₀ start end names levels no re by sy ob c to' → to' ≡ to → Turning input no₀ re₀ by₀ sy₀ ob₀ c₀ start end names levels no re by sy ob c to
 come-to {input} {no₀} {re₀} {by₀} {sy₀} {ob₀} {c₀} {start} {end} {names} {levels} {no} {re} {by} {sy} {ob} {c} R e = subst (λ x. Turning input no₀ re₀ by₀ sy₀ ob₀ c₀ start end names levels no re by sy ob c x) e R
@@ -246,7 +241,7 @@ module _ {input no₀ re₀ by₀ sy₀ ob₀ c₀ : List ℕ} {start end names 
 
   -- all that is left to do
   come : (more : ℕ) (room : Room) (limit : ℕ) → Goes input room (left input room limit levels names more end start) (lists no₀ re₀ by₀ sy₀ ob₀) c₀ (left input room limit levels names more end to) (lists no re by sy ob) c
-  come more room limit = through (λ _. more-of (read-value input room limit levels) more) (R .goes room limit)
+  come more room limit = goes-part (λ _. more-of (read-value input room limit levels) more) (R .goes room limit)
 
   -- nothing is left
   pub all-turned : (more : ℕ) → end + more ≤ to → (room : Room) (limit : ℕ) → Meets input room limit (left input room limit levels names more end start) (lists no₀ re₀ by₀ sy₀ ob₀) c₀ 0 (lists no re by sy ob) c

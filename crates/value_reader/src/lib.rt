@@ -40,7 +40,7 @@ fn read_members(
     bytes: &mut [u8],
     symbols: &mut [u32],
     objects: &mut [u32],
-    c: &mut [usize; 7],
+    c: &mut [usize; 8],
     start: usize,
     end: usize,
     more: usize,
@@ -106,7 +106,7 @@ fn read_array(
     bytes: &mut [u8],
     symbols: &mut [u32],
     objects: &mut [u32],
-    c: &mut [usize; 7],
+    c: &mut [usize; 8],
     levels: u32,
 ) -> u64
     requires { ⌜ Held (now input) (lists (now nodes) (now references) (now bytes) (now symbols) (now objects)) (now c) ⌝ }
@@ -158,7 +158,7 @@ fn read_hash(
     bytes: &mut [u8],
     symbols: &mut [u32],
     objects: &mut [u32],
-    c: &mut [usize; 7],
+    c: &mut [usize; 8],
     more: usize,
     levels: u32,
 ) -> u64
@@ -211,7 +211,7 @@ fn read_object(
     bytes: &mut [u8],
     symbols: &mut [u32],
     objects: &mut [u32],
-    c: &mut [usize; 7],
+    c: &mut [usize; 8],
     levels: u32,
 ) -> u64
     requires { ⌜ Held (now input) (lists (now nodes) (now references) (now bytes) (now symbols) (now objects)) (now c) ⌝ }
@@ -269,7 +269,7 @@ fn read_inner(
     bytes: &mut [u8],
     symbols: &mut [u32],
     objects: &mut [u32],
-    c: &mut [usize; 7],
+    c: &mut [usize; 8],
     levels: u32,
 ) -> u64
     requires { ⌜ Held (now input) (lists (now nodes) (now references) (now bytes) (now symbols) (now objects)) (now c) ⌝ }
@@ -318,7 +318,7 @@ fn read_variables(
     bytes: &mut [u8],
     symbols: &mut [u32],
     objects: &mut [u32],
-    c: &mut [usize; 7],
+    c: &mut [usize; 8],
     levels: u32,
 ) -> u64
     requires { ⌜ Held (now input) (lists (now nodes) (now references) (now bytes) (now symbols) (now objects)) (now c) ⌝ }
@@ -372,7 +372,7 @@ fn read_value(
     bytes: &mut [u8],
     symbols: &mut [u32],
     objects: &mut [u32],
-    c: &mut [usize; 7],
+    c: &mut [usize; 8],
     levels: u32,
 ) -> u64
     requires { ⌜ Held (now input) (lists (now nodes) (now references) (now bytes) (now symbols) (now objects)) (now c) ⌝ }
@@ -442,7 +442,7 @@ pub fn read_root(
     bytes: &mut [u8],
     symbols: &mut [u32],
     objects: &mut [u32],
-    c: &mut [usize; 7],
+    c: &mut [usize; 8],
     limit: u32,
 ) -> u64
     requires { ⌜ Held (now input) (lists (now nodes) (now references) (now bytes) (now symbols) (now objects)) (now c) ⌝ }

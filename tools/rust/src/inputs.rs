@@ -135,6 +135,38 @@ pub fn names(n: i32) -> Vec<u8> {
     out
 }
 
+/// Two hashes of the names, the second with each name written out again, or by link.
+pub fn repeated(names: &[String], linked: bool) -> Vec<u8> {
+    let mut out = vec![4, 8, b'['];
+    integer(2, &mut out);
+    for again in [false, true] {
+        out.push(b'{');
+        integer(names.len() as i32, &mut out);
+        for (i, name) in names.iter().enumerate() {
+            named(name, i, (again && linked) as i32, &mut out);
+            out.push(b'i');
+            integer(i as i32, &mut out);
+        }
+    }
+    out
+}
+
+/// A kind of n names, and what it is called.
+pub type Naming = (&'static str, fn(usize) -> String);
+
+/// Names that are alike, and names that are not.
+pub const NAMINGS: [Naming; 4] = [
+    ("alike, of one length", |i| format!("ingredient_{i:04}")),
+    ("unlike, of one length", |i| digits_first(i) + "_ingredient"),
+    ("unlike, of 16 lengths", |i| digits_first(i) + &"_".repeat(4 + i % 16)),
+    ("each of another length", |i| "n".repeat(i + 1)),
+];
+
+// The number's four digits, the last one first.
+fn digits_first(i: usize) -> String {
+    format!("{i:04}").chars().rev().collect()
+}
+
 /// Values of one kind, each in the one before, 128 levels in all; nil alone for another word.
 pub fn nested(kind: &str) -> Vec<u8> {
     let open: &[u8] = match kind {

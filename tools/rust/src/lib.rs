@@ -1,10 +1,11 @@
 // Our load and dump, over tables of their own, for the programs that run them beside the Rust crate.
 pub mod inputs;
+pub mod measure;
 pub mod random;
 pub mod room;
 pub mod walk;
 
-use ruby_marshal_tables::{calls, Arena, Counts, Refusal};
+use ruby_marshal_tables::{calls, Arena, Counts, Measures, Refusal};
 
 /// An answer: 0 or the refusal's number, and its details.
 #[derive(Clone, Copy, Debug, PartialEq, Eq)]
@@ -39,6 +40,8 @@ pub struct Tables {
     pub counts: [usize; 4],
     pub used: usize,
     pub dump_form: bool,
+    /// of the last measuring load
+    pub measures: Measures,
     pub written: usize,
 }
 
@@ -55,6 +58,7 @@ impl Tables {
             counts: [0; 4],
             used: 0,
             dump_form: false,
+            measures: Measures::default(),
             written: 0,
         }
     }
@@ -67,6 +71,17 @@ impl Tables {
     pub fn load(&mut self, input: &[u8], limit: u32) -> Answer {
         let Tables { nodes, references, bytes, symbols, objects, .. } = self;
         let loaded = calls::load(input, nodes, references, bytes, symbols, objects, limit);
+        self.keep(loaded)
+    }
+
+    pub fn load_measured(&mut self, input: &[u8], limit: u32) -> Answer {
+        let Tables { nodes, references, bytes, symbols, objects, .. } = self;
+        let measured = calls::load_measured(input, nodes, references, bytes, symbols, objects, limit);
+        self.measures = measured.measures;
+        self.keep(measured.load)
+    }
+
+    fn keep(&mut self, loaded: calls::Loaded) -> Answer {
         let Counts { nodes, references, bytes, root } = loaded.counts;
         self.counts = [nodes, references, bytes, root as usize];
         self.used = loaded.used;
@@ -95,6 +110,13 @@ impl Tables {
     fn arena_counts(&self) -> Counts {
         let [nodes, references, bytes, root] = self.counts;
         Counts { nodes, references, bytes, root: root as u32 }
+    }
+
+    /// Whether a load left the same in both.
+    pub fn filled_alike(&self, other: &Tables) -> bool {
+        (self.counts, self.used, self.dump_form) == (other.counts, other.used, other.dump_form)
+            && (&self.nodes, &self.references, &self.bytes) == (&other.nodes, &other.references, &other.bytes)
+            && (&self.symbols, &self.objects) == (&other.symbols, &other.objects)
     }
 
     /// The least that a load could do: tables and lists set to zero once, the input copied once.

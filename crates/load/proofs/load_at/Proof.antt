@@ -40,12 +40,12 @@ same-length-5 c = search needs
 
 returns : tie.Need-returns
 returns c =
-    let c10 = c .before .before .before .before .before .before .before .before .before .before in
-    let c17 = c10 .before .before .before .before .before .before .before in
-    let c24 = c17 .before .before .before .before .before .before .before in
-    let a = c24 .args in
-    let i = c17 .inside .ensures in
-    c10 .load-whole .ensures ∙ ap (λ (l : List ℕ). load-call l (lists (a .nodes .now) (a .references .now) (a .bytes .now) (a .symbols .now) (a .objects .now)) (a .limit)) (rest-at (a .input .now) (a .at) _ i)
+    let c11 = c .before .before .before .before .before .before .before .before .before .before .before in
+    let c18 = c11 .before .before .before .before .before .before .before in
+    let c25 = c18 .before .before .before .before .before .before .before in
+    let a = c25 .args in
+    let i = c18 .inside .ensures in
+    c11 .load-whole .ensures .0 ∙ ap (λ (l : List ℕ). load-call l (lists (a .nodes .now) (a .references .now) (a .bytes .now) (a .symbols .now) (a .objects .now)) (a .limit)) (rest-at (a .input .now) (a .at) _ i)
 
 pub load-at-spec : {M : Type 1} → statement M
 load-at-spec =

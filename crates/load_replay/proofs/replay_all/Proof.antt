@@ -1,8 +1,8 @@
 -- The proof of replay_all.
 use borrow.Author.Needs.{needs}
 use native.Mathlib.Omega.{arith}
-use Prim.Native.Nat.{ℕ, _+_, _-_, _≤_}
-use mathlib.Core.Path.{_≡_, refl, _∙_}
+use Prim.Native.Nat.{_-_, _≤_}
+use mathlib.Core.Path.{_≡_, refl}
 use lib.ListN.{length}
 use Rattle.load_replay.proofs.replay_all.Statement.{statement}
 use Rattle.load_replay.proofs.replay_all.Tie as tie

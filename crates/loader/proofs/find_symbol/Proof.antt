@@ -28,8 +28,7 @@ last-byte-requires : tie.Need-last-byte-requires Inv-loop μ-loop
 last-byte-requires c κs =
     let c4 = c .before .before .before .before in
     let p = c4 .pre in
-    let H = p .1 .7 in
-    (p .0, omega (arith, p .1 .5, H .inside, H .count-at))
+    (p .0, p .1)
 
 loop-holds : tie.Need-loop-holds Inv-loop μ-loop
 loop-holds c = (omega arith, λ room s re ob k e H. refl)
@@ -41,16 +40,16 @@ shared-slice-read-h : tie.Need-shared-slice-read-h Inv-loop μ-loop
 shared-slice-read-h c =
     let c8 = c .before .before .before .before .before .before .before .before in
     let p = c8 .pre in
-    let H = p .1 .7 in
-    omega (arith, c .before .loop-test .taken, p .1 .6, H .count-symbols, H .symbols .fits, H .symbols .sized)
+    let H = p .2 .6 in
+    omega (arith, c .before .loop-test .taken, p .2 .5, H .count-symbols, H .symbols .fits, H .symbols .sized)
 
 is-named-requires : tie.Need-is-named-requires Inv-loop μ-loop
 is-named-requires c κs =
     let c3 = c .before .before .before in
     let c8 = c3 .before .before .before .before .before in
     let p = c8 .pre in
-    let H = p .1 .7 in
-    (p .0, c3 .last-byte .ensures, (p .1 .0, p .1 .1, p .1 .2, _, p .1 .3, p .1 .4, p .1 .5, entry-symbolic (c .before .before .loop .i) H (omega (arith, p .1 .6, c .before .loop-test .taken)), H))
+    let H = p .2 .6 in
+    (p .0, p .1, c3 .last-byte .ensures, (p .2 .0, p .2 .1, p .2 .2, _, p .2 .3, p .2 .4, entry-symbolic (c .before .before .loop .i) H (omega (arith, p .2 .5, c .before .loop-test .taken)), H))
 
 wide-requires : tie.Need-wide-requires Inv-loop μ-loop
 wide-requires c κs = search needs
@@ -66,8 +65,8 @@ returns c =
     λ room s re ob k e H.
     let lt : turn .i < symbols-of k = omega (arith, e, c4 .loop-test .taken) in
     let y = entry-symbolic (turn .i) H lt in
-    let found = H .names _ ∙ turn .inv .1 room s re ob k e H ∙ found-at H (turn .i) lt _ (c .before .if1 .taken) (c .before .before .is-named .ensures room s re _ ob k y H) in
-    (λ l. (found ∙ ap some (sym w), subst (λ (h : ℕ). Symbolic (getD (s .nodes) h nil)) (sym w) y), λ l. absurd (omega (arith, w, l, is-there H (getD symbols (turn .i) 0) y)))
+    let found = H .interned .names _ ∙ turn .inv .1 room s re ob k e H ∙ found-at H (turn .i) lt _ (c .before .if1 .taken) (c .before .before .is-named .ensures room s re _ ob k y H) in
+    record { there = λ l. found ∙ ap some (sym w); symbol = λ l. subst (λ (h : ℕ). Symbolic (getD (s .nodes) h nil)) (sym w) y; none = λ l. absurd (omega (arith, w, l, is-there H (getD symbols (turn .i) 0) y)) }
 
 add-i : tie.Need-add-i Inv-loop μ-loop
 add-i c = search needs
@@ -90,7 +89,7 @@ returns-2 : tie.Need-returns-2 Inv-loop μ-loop
 returns-2 c =
     let turn = c .before .loop in
     λ room s re ob k e H.
-    (λ l. absurd (omega (arith, l)), λ l. H .names _ ∙ turn .inv .1 room s re ob k e H ∙ found-none H (turn .i) _ (omega (arith, e)))
+    record { there = λ l. absurd (omega (arith, l)); symbol = λ l. absurd (omega (arith, l)); none = λ l. H .interned .names _ ∙ turn .inv .1 room s re ob k e H ∙ found-none H (turn .i) _ (omega (arith, e)) }
 
 pub find-symbol-spec : {M : Type 1} → statement M
 find-symbol-spec =

@@ -1,7 +1,5 @@
 -- The proof of last_byte.
 use borrow.Author.Needs.{needs}
-use native.Mathlib.Omega.{arith}
-use mathlib.Core.Path.{refl}
 use Rattle.loader.proofs.Names.{span-none, span-last}
 use Rattle.loader.proofs.last_byte.Statement.{statement}
 use Rattle.loader.proofs.last_byte.Tie as tie

@@ -7,12 +7,14 @@ use Rattle.loader.specs.Holds.{wrong, Allowed}
 use Rattle.loader.proofs.wrong_slice.Statement.{statement}
 use Rattle.loader.proofs.wrong_slice.Tie as tie
 
-allowed : (n r b y o l i : ℕ) → wrong n r b y o l i ≡ 0 → Allowed n r b y o
+allowed : (n r b y o l i : ℕ) → wrong n r b y o l i ≡ 0 → Allowed n r b y o i
 allowed n r b y o l i e =
     let (t, e₃) = tables-right n r b _ e in
     let (b₄, e₄) = lowest-none 3 _ _ e₃ in
     let (b₅, e₅) = lowest-none 4 _ _ e₄ in
-    record { whole = t .whole; one = t .one; nodes-small = t .nodes-small; references-small = t .references-small; bytes-small = t .bytes-small; symbols-small = short y b₄; objects-small = short o b₅ }
+    let (_, e₇) = lowest-none 6 _ _ e₅ in
+    let (b₈, _) = lowest-none 7 _ _ e₇ in
+    record { whole = t .whole; one = t .one; nodes-small = t .nodes-small; references-small = t .references-small; bytes-small = t .bytes-small; symbols-small = short y b₄; objects-small = short o b₅; input-small = short i b₈ }
 
 returns : tie.Need-returns
 returns c =

@@ -1,6 +1,7 @@
 // Runs load and dump of the Rattle crates and of the Rust crate on the same inputs and compares what they answer: the refusal
 // and its details, the bytes used, the arena node by node, the bytes dumped, and that these load and dump to themselves; and
-// that ours says yes to dump form exactly where the Rust dumps the bytes used.
+// that ours says yes to dump form exactly where the Rust dumps the bytes used. The measuring load must answer and leave what
+// load does, and count what a walk over the input finds.
 //
 // usage: differential [CORPUS ..]    after tools/rust/build; a CORPUS is a folder with saved, load-list or load .jsonl
 //
@@ -9,10 +10,12 @@
 // and counted apart: inputs in which load comes to a Float, which the Rust refuses as an unknown kind. What can be asked of
 // them: with strings for its Floats such an input is compared, and ours must answer to both alike but for the kind and for `I`;
 // with empty arrays for them, on which `I` is refused as on a Float, the Rust must give our answer.
+use beside_rust::measure::{integer, measures};
 use beside_rust::random::{damaged, value, Random, ALPHABET};
 use beside_rust::room::Room;
 use beside_rust::{inputs, Answer, Tables};
 use ruby_marshal::{Error, SymbolValue, TypedValueHandle, Value, ValueArena, ValueHandle};
+use ruby_marshal_tables::Measures;
 use std::collections::HashSet;
 use std::panic::{catch_unwind, AssertUnwindSafe};
 
@@ -140,13 +143,17 @@ impl Lent {
         Lent { length: 0, references, tables: Tables::new(0, 0, 0, 0) }
     }
 
-    fn load(&mut self, input: &[u8]) -> Answer {
-        let n = input.len();
+    // Tables for inputs of that length.
+    fn fit(&mut self, n: usize) -> &mut Tables {
         if self.length != n || self.tables.nodes.is_empty() {
             self.length = n;
             self.tables = Tables::new(n + 1, n * 2 + self.references, n, n * 4 + 2);
         }
-        self.tables.load(input, LIMIT)
+        &mut self.tables
+    }
+
+    fn load(&mut self, input: &[u8]) -> Answer {
+        self.fit(input.len()).load(input, LIMIT)
     }
 }
 
@@ -212,19 +219,8 @@ fn with_arrays(input: &[u8]) -> Vec<u8> {
 
 // Where the byte string at a place ends, if it is whole.
 fn byte_string_end(input: &[u8], place: usize) -> Option<usize> {
-    let size = *input.get(place)? as i8;
-    let data = match size {
-        -4..=4 => input.get(place + 1..place + 1 + size.unsigned_abs() as usize)?,
-        _ => &[],
-    };
-    let mut bytes = if size < 0 { [0xFF; 4] } else { [0; 4] };
-    bytes[..data.len()].copy_from_slice(data);
-    let length = match size {
-        5.. => size as i32 - 5,
-        ..=-5 => size as i32 + 5,
-        _ => i32::from_le_bytes(bytes),
-    };
-    let end = place + 1 + data.len() + usize::try_from(length).ok()?;
+    let (length, start) = integer(input, place)?;
+    let end = start + usize::try_from(length).ok()?;
     (end <= input.len()).then_some(end)
 }
 
@@ -239,7 +235,11 @@ const NO_REFERENCES: Answer = Answer { number: 12, first: 2, second: 0 };
 
 struct Run {
     lent: [Lent; 2],
+    /// the measuring load's
+    measured: [Lent; 2],
     again: Lent,
+    /// accepted inputs in which names are compared, and their bytes compared
+    compared: [u64; 2],
     /// nodes compared, by kind
     kinds: [usize; 9],
     /// Floats in accepted inputs
@@ -264,6 +264,7 @@ impl Run {
         if ours.number != 0 && self.lent[room].tables.dump_form {
             return Err(format!("load: {ours:?}, and in dump form"));
         }
+        self.compare_measured(input, room, ours)?;
         let loaded = catch_unwind(|| {
             let mut rest = input;
             let loaded = ruby_marshal::load(&mut rest);
@@ -281,6 +282,22 @@ impl Run {
             Ok((Ok(_), used)) => Err(format!("load: {ours:?} with {} used, the Rust accepts with {used}", self.lent[room].tables.used)),
             Ok((Err(e), _)) => Err(format!("load: {ours:?}, the Rust {e:?}")),
         }
+    }
+
+    // The measuring load's answer and tables are load's; its counts are what the walk finds, and 0 where it is refused.
+    fn compare_measured(&mut self, input: &[u8], room: usize, ours: Answer) -> Result<(), String> {
+        let tables = self.measured[room].fit(input.len());
+        let answer = tables.load_measured(input, LIMIT);
+        if answer != ours || !tables.filled_alike(&self.lent[room].tables) {
+            return Err(format!("load_measured: {answer:?}, load {ours:?}; or the tables differ"));
+        }
+        let expected = if ours.number == 0 { measures(input) } else { Some((Measures::default(), 0)) };
+        if expected != Some((tables.measures, tables.used)) {
+            return Err(format!("load_measured: {:?}, walked {expected:?}", tables.measures));
+        }
+        self.compared[0] += (tables.measures.compared > 0) as u64;
+        self.compared[1] += tables.measures.compared;
+        Ok(())
     }
 
     // What ours answers to an input with Floats, beside the same input with strings and with empty arrays for them.
@@ -526,9 +543,10 @@ fn made() -> Vec<Vec<u8>> {
 }
 
 fn run(corpora: Vec<String>) -> usize {
-    let lent = REFERENCES.map(Lent::new);
+    let [lent, measured] = [REFERENCES, REFERENCES].map(|sizes| sizes.map(Lent::new));
     let again = Lent::new(REFERENCES[0]);
-    let mut run = Run { lent, again, kinds: [0; 9], floats: 0, refused: [0; 11], inputs: 0, disagree: 0, row: [0; 9] };
+    let (compared, kinds, floats, refused, row) = ([0; 2], [0; 9], 0, [0; 11], [0; 9]);
+    let mut run = Run { lent, measured, again, compared, kinds, floats, refused, inputs: 0, disagree: 0, row };
     let mut random = Random(48);
     println!(
         "{:<34}{:>9}{:>9}{:>9}{:>9}{:>9}{:>9}{:>7}{:>9}{:>10}",
@@ -550,6 +568,8 @@ fn run(corpora: Vec<String>) -> usize {
     }
     println!("nodes compared, kinds 0 to 8: {:?}; Floats as strings: {}", run.kinds, run.floats);
     println!("refusals 3 to 10 that agree: {:?}", &run.refused[3..]);
+    let [inputs, bytes] = run.compared;
+    println!("bytes compared in searches for names: {bytes}, in {inputs} loads");
     println!("{} inputs, {} disagree", run.inputs, run.disagree);
     run.disagree
 }

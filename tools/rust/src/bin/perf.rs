@@ -1,11 +1,14 @@
 // Times load and dump of the Rattle crates and of the Rust crate on the same inputs, and a walk over what they filled, in one
 // run; rounds of the two alternate. Beside load stands what it does at least: tables and lists set to zero and the input copied.
+// The measuring load stands beside load.
 // Floats, which the Rust refuses, are run by ours alone, and beside them the same recipes with strings in their place.
 //
 // usage: perf                    the tables of times
+//        perf names              the bytes that a load copies and compares for recipes of 10, 100 and 1,000 names
 //        perf deep CALL KIND     one load, and one dump where CALL is dump, at limit 128 of 128 levels of arrays, hashes,
 //                                defaults, objects or variables, or of nil alone (for trials of the stack)
 use beside_rust::inputs::*;
+use beside_rust::measure::measures;
 use beside_rust::walk;
 use beside_rust::Tables;
 use std::hint::black_box;
@@ -67,6 +70,40 @@ fn load_row(name: &str, input: &[u8]) {
         "{:<24}{:>9}{:>9}{:>11.2}{:>15.2}{:>11.2}{:>8.2}",
         name, input.len(), nodes, ours / 1000.0, least / 1000.0, theirs / 1000.0, theirs / ours
     );
+}
+
+// The measuring load beside load.
+fn measured_row(name: &str, input: &[u8]) {
+    let (mut plain, mut measuring) = (tables(input), tables(input));
+    let mut load = || {
+        black_box(plain.load(black_box(input), LIMIT));
+    };
+    let [load, measured] = times([&mut load, &mut || {
+        black_box(measuring.load_measured(black_box(input), LIMIT));
+    }]);
+    println!(
+        "{:<24}{:>9}{:>11.2}{:>11.2}{:>8.2}{:>16}",
+        name, input.len(), load / 1000.0, measured / 1000.0, measured / load, measuring.measures.compared
+    );
+}
+
+// The bytes copied and compared where each name stands in two recipes, in the second written out again or by link.
+fn names_table() {
+    println!("{:<24}{:>7}{:>12}{:>18}{:>18}", "names", "number", "copied", "compared, by :", "compared, by ;");
+    for (kind, name) in NAMINGS {
+        for n in [10, 100, 1000] {
+            let names: Vec<String> = (0..n).map(name).collect();
+            let [again, linked] = [false, true].map(|linked| {
+                let input = repeated(&names, linked);
+                let mut tables = Tables::ample(input.len());
+                assert_eq!(tables.load_measured(&input, LIMIT).number, 0);
+                assert_eq!(Some((tables.measures, tables.used)), measures(&input));
+                tables.measures
+            });
+            assert_eq!(again.copied, linked.copied);
+            println!("{:<24}{:>7}{:>12}{:>18}{:>18}", kind, n, again.copied, again.compared, linked.compared);
+        }
+    }
 }
 
 // The inputs are in dump form, so the output just holds what is written. The Rust writes into a vector that has the room.
@@ -143,6 +180,9 @@ fn main() {
         println!("used {} nodes {} written {}", tables.used, tables.counts[0], tables.written);
         return;
     }
+    if words.len() == 2 && words[1] == "names" {
+        return names_table();
+    }
     let inputs = [
         ("small recipe", batches(900)),
         ("100 KB, few names", batches(100_000)),
@@ -157,6 +197,10 @@ fn main() {
     println!("{:<24}{:>9}{:>9}{:>11}{:>15}{:>11}{:>8}", "load", "bytes", "nodes", "ours µs", "zero and copy", "Rust µs", "faster");
     for (name, input) in &inputs {
         load_row(name, input);
+    }
+    println!("{:<24}{:>9}{:>11}{:>11}{:>8}{:>16}", "load_measured", "bytes", "load µs", "µs", "times", "bytes compared");
+    for (name, input) in &inputs {
+        measured_row(name, input);
     }
     println!("{:<24}{:>9}{:>9}{:>11}{:>11}{:>11}{:>8}{:>8}", "dump", "bytes", "nodes", "ours µs", "its check", "Rust µs", "faster", "less it");
     for (name, input) in &inputs {

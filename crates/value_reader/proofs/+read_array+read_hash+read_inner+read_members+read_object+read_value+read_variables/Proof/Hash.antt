@@ -8,7 +8,7 @@ use Rattle.definition.specs.Node.{hash, words}
 use Rattle.definition.specs.Load.{lists, read-symbol-like}
 use Rattle.definition.specs.Load as D
 use Rattle.loader.proofs.Laws.{lead-first, lead-after, lead-stop}
-use Rattle.loader.proofs.Readers.{seven, nodes-small, slot-room}
+use Rattle.loader.proofs.Readers.{eight, nodes-small, slot-room}
 use Rattle.value_reader.proofs.Members.{Open, opened, open-on, hash-of, hash-rest, contained, contained-stops, inside, default-fits, nodes-few, down-3}
 use Rattle.value_reader.proofs.read_hash.Reads as read-hash
 use Rattle.value_reader.proofs.+read_array+read_hash+read_inner+read_members+read_object+read_value+read_variables.Lts-read_hash as read-hash-lts
@@ -58,7 +58,7 @@ pub open-node-requires : (t : ℕ) → read-hash-lts.Need-open-node-requires (re
 open-node-requires t c κs =
     let c9 = c .before .before .before .before .before .before .before .before .before in
     let c-pre = c9 .pre in
-    (nodes-small (c-pre .1 .1), seven (c-pre .1 .1))
+    (nodes-small (c-pre .1 .1), eight (c-pre .1 .1))
 
 pub same-length : (t : ℕ) → read-hash-lts.Need-same-length (read-hash-calls t) (read-hash-at t) read-hash.Post
 same-length t c =

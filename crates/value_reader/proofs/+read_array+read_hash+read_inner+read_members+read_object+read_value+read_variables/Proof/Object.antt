@@ -8,7 +8,7 @@ use Rattle.definition.specs.Node.{object, words}
 use Rattle.definition.specs.Load.{lists, read-symbol-like, read-instance-variables}
 use Rattle.definition.specs.Load as D
 use Rattle.loader.proofs.Laws.{lead-first, lead-after, lead-stop}
-use Rattle.loader.proofs.Readers.{seven, nodes-small, slot-room}
+use Rattle.loader.proofs.Readers.{eight, nodes-small, slot-room}
 use Rattle.value_reader.proofs.Members.{Open, opened, open-on, object-of, object-rest, contained, contained-stops, inside, no-more, names-any, list-parity, down-3}
 use Rattle.value_reader.proofs.read_object.Reads as read-object
 use Rattle.value_reader.proofs.+read_array+read_hash+read_inner+read_members+read_object+read_value+read_variables.Lts-read_object as read-object-lts
@@ -74,7 +74,7 @@ pub open-node-requires : (t : ℕ) → read-object-lts.Need-open-node-requires (
 open-node-requires t c κs =
     let c9 = c .before .before .before .before .before .before .before .before .before in
     let c-pre = c9 .pre in
-    (nodes-small (c-pre .1), seven (c-pre .1))
+    (nodes-small (c-pre .1), eight (c-pre .1))
 
 pub same-length : (t : ℕ) → read-object-lts.Need-same-length (read-object-calls t) (read-object-at t) read-object.Post
 same-length t c =
