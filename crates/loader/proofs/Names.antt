@@ -389,11 +389,7 @@ span-last input at n z l h =
     let e : at - n + (n - 1) ≡ at - 1 = omega arith in
     sym (getD-take n (drop (at - n) input) (n - 1) 0 (omega arith) ∙ getD-drop (at - n) input (n - 1) 0 ∙ ap (λ (i : ℕ). getD input i 0) e)
 
--- none are the same; a last byte differs
-pub same-empty : (n : ℕ) (X Y : List ℕ) → n ≡ 0 → true ≡ equal (take n X) (take n Y)
-unfolding equal
-same-empty n X Y e = rw e refl
-
+-- a last byte differs
 pub last-apart : (bytes : List ℕ) (to n : ℕ) (X : List ℕ) → (n ≡ 0 → ⊥) → length X ≡ n → to + n ≤ length bytes → (getD bytes (to + (n - 1)) 0 ≡ getD X (n - 1) 0 → ⊥) → false ≡ equal X (take n (drop to bytes))
 last-apart bytes to n X z k l e =
     let y : n - 1 < length (take n (drop to bytes)) = simp (length-take, length-drop) (omega arith) in

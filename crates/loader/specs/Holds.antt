@@ -235,6 +235,10 @@ pub record Found (s : State) (name : List ℕ) (r : ℕ) : Type 0 where
 abbrev pub answered : ℕ → Option ℕ
 answered r = pick (ltb r 4294967296) (some r) none
 
+-- a name of n bytes, of which, if it has any, `last` is the last
+abbrev pub Ends : List ℕ → ℕ → ℕ → Type 0
+Ends name n last = (length name ≡ n) × (last ≡ getD name (n - 1) 0)
+
 -- the first r of n bytes are alike, and no more
 pub record Alike (xs ys : List ℕ) (n r : ℕ) : Type 0 where
   pub most : r ≤ n

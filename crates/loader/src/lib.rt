@@ -38,7 +38,7 @@ ghost use Rattle.definition.specs.Arena.{named, compared-among};
 ghost use Rattle.definition.specs.Load.{Room, State, Reader, Lists, lists, read-header, read-integer, read-count, read-bytes, read-byte-string, read-fixnum, read-symbol, read-symbol-link, read-object-link, read-symbol-like, read-text, read-user-defined, read-value, value-of, head, add-node, add-bytes, add-symbol, add-object, add-object-node, counted, fill, takes-variables};
 ghost use Rattle.reader.specs.Answers.{coded};
 ghost use Rattle.reader.specs.Integers.{size-of, word-of, dumped-at};
-ghost use Rattle.loader.specs.Holds.{Held, Holds, Somewhere, Goes, Leads, Meets, Does, Spans, Plain, Symbolic, Found, Alike, Compared, Free, Leaf, Entry, Link, Next, Coming, span, span-of, at-of, nodes-of, references-of, bytes-of, symbols-of, compared-of, new-symbol, read-name, add-name, settle, after-i, slots, wrong, Allowed};
+ghost use Rattle.loader.specs.Holds.{Held, Holds, Somewhere, Goes, Leads, Meets, Does, Spans, Plain, Symbolic, Found, Alike, Compared, Ends, find-listed, Free, Leaf, Entry, Link, Next, Coming, span, span-of, at-of, nodes-of, references-of, bytes-of, symbols-of, compared-of, new-symbol, read-name, add-name, settle, after-i, slots, wrong, Allowed};
 
 // The places of the eight counts: the offset, then how much of each table and list is used, then whether what was read is
 // in dump form: 0 while all of it is, else 1; last, one more than the bytes compared, or 0 where they are not counted.
@@ -367,23 +367,58 @@ fn last_byte(input: &[u8], at: usize, n: u32) -> u8
     input[at - 1]
 }
 
-// Do the n bytes before `at`, of which `last` is the last, name the symbol h? Names of one length mostly differ there.
-fn is_named(input: &[u8], nodes: &[u32], bytes: &[u8], at: usize, h: u32, n: u32, last: u8) -> bool
-    requires { ⌜ (n ≤ at) × (at ≤ length (now input)) × (last ≡ getD (span (now input) at n) (n - 1) 0) × ((room : Room) × (s : State) × (re : List ℕ) × (sy : List ℕ) × (ob : List ℕ) × (c : List ℕ) × Symbolic (getD (s .nodes) h nil) × Holds (now input) room s (lists (now nodes) re (now bytes) sy ob) c) ⌝ }
-    ensures { λ r. ⌜ ((room : Room) (s : State) (re sy ob c : List ℕ) → Symbolic (getD (s .nodes) h nil) → Holds (now (input .entry)) room s (lists (now (nodes .entry)) re (now (bytes .entry)) sy ob) c → r ≡ named (s .bytes) (span (now (input .entry)) at n) (getD (s .nodes) h nil)) ⌝ }
+// Has the symbol h a name of n bytes, of which `last` is the last? Names of one length mostly differ there.
+fn is_like(nodes: &[u32], bytes: &[u8], h: u32, n: u32, last: u8) -> bool
+    requires { ⌜ ((room : Room) × (s : State) × (input : List ℕ) × (re : List ℕ) × (sy : List ℕ) × (ob : List ℕ) × (c : List ℕ) × Symbolic (getD (s .nodes) h nil) × Holds input room s (lists (now nodes) re (now bytes) sy ob) c) ⌝ }
+    ensures { λ r. ⌜ (r ≡ true → getD (now (nodes .entry)) (h * width + 2) 0 ≡ n) ⌝ }
+    ensures { λ r. ⌜ ((room : Room) (s : State) (input re sy ob c name : List ℕ) → r ≡ false → Symbolic (getD (s .nodes) h nil) → Holds input room s (lists (now (nodes .entry)) re (now (bytes .entry)) sy ob) c → Ends name n last → false ≡ named (s .bytes) name (getD (s .nodes) h nil)) ⌝ }
 {
     let base = (h as usize) * Node::WIDTH;
     if nodes[base + Node::LENGTH] != n {
         return false;
     }
-    let k = n as usize;
-    let to = nodes[base + Node::START] as usize;
-    if k == 0 {
+    if n == 0 {
         return true;
     }
-    if bytes[to + (k - 1)] != last {
+    let to = nodes[base + Node::START] as usize;
+    if bytes[to + (n as usize - 1)] != last {
         return false;
     }
+    true
+}
+
+// The first entry of the symbol list, from entry `from` to `count`, that may have a name of n bytes, of which `last` is the
+// last; `count` where there is none. Most of a search is here, so it is a loop of its own over little.
+fn next_like(
+    nodes: &[u32],
+    bytes: &[u8],
+    symbols: &[u32],
+    from: usize,
+    count: usize,
+    n: u32,
+    last: u8,
+) -> usize
+    requires { ⌜ (from ≤ count) × ((room : Room) × (s : State) × (input : List ℕ) × (re : List ℕ) × (ob : List ℕ) × (c : List ℕ) × (symbols-of c ≡ count) × Holds input room s (lists (now nodes) re (now bytes) (now symbols) ob) c) ⌝ }
+    ensures { λ r. ⌜ (from ≤ r) × (r ≤ count) × (r < count → getD (now (nodes .entry)) (getD (now (symbols .entry)) r 0 * width + 2) 0 ≡ n) ⌝ }
+    ensures { λ r. ⌜ ((room : Room) (s : State) (input re ob c name : List ℕ) → symbols-of c ≡ count → Holds input room s (lists (now (nodes .entry)) re (now (bytes .entry)) (now (symbols .entry)) ob) c → Ends name n last → find-listed (s .bytes) name (s .nodes) (drop from (s .symbols)) ≡ find-listed (s .bytes) name (s .nodes) (drop r (s .symbols))) ⌝ }
+{
+    let mut i = from;
+    while i < count {
+        if is_like(&nodes[..], &bytes[..], symbols[i], n, last) {
+            return i;
+        }
+        i = i + 1;
+    }
+    count
+}
+
+// Do the n bytes before `at` name the symbol h, whose name has so many?
+fn is_named(input: &[u8], nodes: &[u32], bytes: &[u8], at: usize, h: u32, n: u32) -> bool
+    requires { ⌜ (n ≤ at) × (at ≤ length (now input)) × (getD (now nodes) (h * width + 2) 0 ≡ n) × ((room : Room) × (s : State) × (re : List ℕ) × (sy : List ℕ) × (ob : List ℕ) × (c : List ℕ) × Symbolic (getD (s .nodes) h nil) × Holds (now input) room s (lists (now nodes) re (now bytes) sy ob) c) ⌝ }
+    ensures { λ r. ⌜ ((room : Room) (s : State) (re sy ob c : List ℕ) → Symbolic (getD (s .nodes) h nil) → Holds (now (input .entry)) room s (lists (now (nodes .entry)) re (now (bytes .entry)) sy ob) c → r ≡ named (s .bytes) (span (now (input .entry)) at n) (getD (s .nodes) h nil)) ⌝ }
+{
+    let k = n as usize;
+    let to = nodes[(h as usize) * Node::WIDTH + Node::START] as usize;
     same_bytes(&input[..], at - k, &bytes[..], to, k)
 }
 
@@ -403,11 +438,15 @@ fn find_symbol(
     let last = last_byte(&input[..], at, n);
     let mut i: usize = 0;
     while i < count {
-        let h = symbols[i];
-        if is_named(&input[..], &nodes[..], &bytes[..], at, h, n, last) {
+        let j = next_like(&nodes[..], &bytes[..], &symbols[..], i, count, n, last);
+        if count <= j {
+            return REFUSED;
+        }
+        let h = symbols[j];
+        if is_named(&input[..], &nodes[..], &bytes[..], at, h, n) {
             return wide(h);
         }
-        i = i + 1;
+        i = j + 1;
     }
     REFUSED
 }
