@@ -46,7 +46,9 @@ enum ruby_marshal_refusal {
     RUBY_MARSHAL_TOO_DEEP = 11,       /* (limit) level above limit */
     RUBY_MARSHAL_NO_SPACE = 12,       /* (slice) next item doesn't fit */
     RUBY_MARSHAL_BAD_HANDLE = 13,     /* (handle) not below node count */
-    RUBY_MARSHAL_WRONG_KIND = 14      /* (handle) symbol wanted */
+    RUBY_MARSHAL_WRONG_KIND = 14,     /* (handle) symbol wanted */
+    RUBY_MARSHAL_BAD_SIGN = 15,       /* (byte) bignum's sign, neither + nor - */
+    RUBY_MARSHAL_TOO_BIG = 16         /* (units) bignum of more than 4 units of 16 bits, or of 2^63 and more */
 };
 
 /* The slices that BAD_TABLES and NO_SPACE name; the lowest wrong one is named. No slice has more than 2147483647 entries. */
@@ -118,6 +120,9 @@ enum ruby_marshal_word {
     RUBY_MARSHAL_WORD_VALUE = 1,     /* bool: 0 or 1; fixnum: 32 bits in two's complement */
     RUBY_MARSHAL_WORD_START = 1,     /* symbol, string, user-defined, float: where its bytes start, */
     RUBY_MARSHAL_WORD_LENGTH = 2,    /*                                      and how many they are */
+    RUBY_MARSHAL_WORD_LOW = 1,       /* bignum: the low 32 bits of its magnitude, which is at most 2^63 - 1, */
+    RUBY_MARSHAL_WORD_HIGH = 2,      /*         its high 32 bits, */
+    RUBY_MARSHAL_WORD_SIGN = 4,      /*         and 1 for minus, which zero has not: ruby_marshal_bignum */
     RUBY_MARSHAL_WORD_LIST = 3,      /* where its list starts among the references, */
     RUBY_MARSHAL_WORD_COUNT = 4,     /* and its number of elements (array) or pairs (hash, object, variables) */
     RUBY_MARSHAL_WORD_NAME = 5,      /* object, user-defined: the node of its class's name */
@@ -136,7 +141,8 @@ enum ruby_marshal_kind {
     RUBY_MARSHAL_OBJECT = 6,
     RUBY_MARSHAL_STRING = 7,
     RUBY_MARSHAL_USER_DEFINED = 8,
-    RUBY_MARSHAL_FLOAT = 9
+    RUBY_MARSHAL_FLOAT = 9,
+    RUBY_MARSHAL_BIGNUM = 10
 };
 
 /* ---- load and dump ---- */
@@ -153,7 +159,7 @@ enum ruby_marshal_kind {
  * bytes that were used. It does not depend on the tables or the limit.
  * Accepted: the tables hold the arena, zeros past the counts; both lists are zero. Node 0 is nil.
  * Refused with 1 (slices 1 2 3 4 5 7 8): nothing is touched; counts 0, 0, 0, 0.
- * Refused with 3 to 12: tables and lists are zero; counts 1, 0, 0, 0, which with them are an arena that holds nil.
+ * Refused with 3 to 12, 15 or 16: tables and lists are zero; counts 1, 0, 0, 0, which with them are an arena that holds nil.
  */
 uint32_t ruby_marshal_load(
     const uint8_t *input, size_t input_length,
@@ -258,7 +264,7 @@ uint32_t ruby_marshal_new(
 /*
  * The functions from here on answer: details, counts, a handle.
  * Each tests the tables (1, slices 1 2 3, and 8 or 9 where it takes one), the whole arena (2), handles in order (13), names
- * (14), then space for bytes, references and a node (12).
+ * (14), a magnitude (16), then space for bytes, references and a node (12).
  * Accepted: a node is appended, with its bytes and its list, and its handle answered; root and all else stay. The counts
  * answered are those to pass next; the arena is well formed again.
  * Refused: nothing is changed; the counts are those given, the handle is 0.
@@ -371,6 +377,18 @@ uint32_t ruby_marshal_create_float(
     const uint8_t *value, size_t value_length,
     uint64_t *answer, size_t answer_length);
 
+/*
+ * A bignum: its sign, and the low and high 32 bits of its magnitude, at most 2^63 - 1; a greater one is refused with 16, its
+ * detail 4. Zero is plus, whatever minus says. However small, it stays a bignum.
+ */
+uint32_t ruby_marshal_create_bignum(
+    uint32_t *nodes, size_t nodes_length,
+    const uint32_t *references, size_t references_length,
+    const uint8_t *bytes, size_t bytes_length,
+    size_t node_count, size_t reference_count, size_t byte_count, uint32_t root,
+    bool minus, uint32_t low, uint32_t high,
+    uint64_t *answer, size_t answer_length);
+
 /* ---- helps, which the library does not have ---- */
 
 /* The four counts, as the functions take them. */
@@ -405,6 +423,13 @@ static inline int32_t ruby_marshal_fixnum(uint32_t word)
     return word <= INT32_MAX ? (int32_t)word : -(int32_t)~word - 1;
 }
 
+/* A bignum's words 1, 2 and 4 as a number, in a well formed arena. */
+static inline int64_t ruby_marshal_bignum(uint32_t low, uint32_t high, uint32_t sign)
+{
+    int64_t magnitude = (int64_t)high << 32 | low;
+    return sign != 0 ? -magnitude : magnitude;
+}
+
 /* The name of what a function returns. */
 static inline const char *ruby_marshal_name(uint32_t returned)
 {
@@ -424,6 +449,8 @@ static inline const char *ruby_marshal_name(uint32_t returned)
     case RUBY_MARSHAL_NO_SPACE: return "NO-SPACE";
     case RUBY_MARSHAL_BAD_HANDLE: return "BAD-HANDLE";
     case RUBY_MARSHAL_WRONG_KIND: return "WRONG-KIND";
+    case RUBY_MARSHAL_BAD_SIGN: return "BAD-SIGN";
+    case RUBY_MARSHAL_TOO_BIG: return "TOO-BIG";
     default: return "?";
     }
 }

@@ -2,10 +2,13 @@
 
 A corpus is a folder of *.jsonl files, a case a line. Several are read in order: each adds the cases of its files, and its
 changed.jsonl gives cases of the folders before it, named by `file` and `id`, as they are from then on; `gone` takes one out.
+A request's changed.jsonl speaks of the first folder alone. Cases of the folders between that answer otherwise from a request on
+are in tools/changed, in a file of the request's name, by hand from the documents; `file` there is the folder's name and the file's.
 """
 import json, os, struct
 
 TOP = os.path.dirname(os.path.dirname(os.path.abspath(__file__)))
+CHANGED = os.path.join(TOP, "tools", "changed")
 
 # The files of a corpus, by the call that their cases are of.
 FILES = {"load": ["load-tight", "load-list", "saved", "load"], "dump": ["dump"], "build": ["build"], "pairs": ["pairs"]}
@@ -29,7 +32,7 @@ def change(found, changed):
     """The changed case in the place of the one that it names."""
     for label, cases in found.items():
         for i, c in enumerate(cases):
-            if c["id"] == changed["id"] and name_of(label) == changed["file"]:
+            if c["id"] == changed["id"] and changed["file"] in (label, name_of(label)):
                 cases[i:i + 1] = [] if changed.get("gone") else [changed]
                 return
     raise SystemExit("no case %s in %s to be changed" % (changed["id"], changed["file"]))
@@ -116,6 +119,10 @@ class Walk:
             if kind == b"u":
                 self.name(self.take())
             self.string()
+        elif kind == b"l":
+            sign = self.take()
+            units = self.take(2 * self.integer())
+            self.meet(units[-2:] != b"\0\0" and (sign == b"+" or any(units)))
         elif kind == b"[":
             for _ in range(self.integer()):
                 self.value()
@@ -163,9 +170,11 @@ def by_file(folders):
     """The cases of each file: by its name for the first folder, after the folder's name for the others."""
     found = {}
     for place, folder in enumerate(folders):
-        for changed in lines(folder, "changed"):
+        name = os.path.basename(os.path.abspath(folder))
+        own = [changed for changed in lines(CHANGED, name) if changed["file"] in found]
+        for changed in lines(folder, "changed") + own:
             change(found, changed)
-        prefix = os.path.basename(os.path.abspath(folder)) + "/" if place else ""
+        prefix = name + "/" if place else ""
         added = {prefix + name: lines(folder, name) for names in FILES.values() for name in names}
         if not any(added.values()):
             raise SystemExit("no cases in " + folder)
@@ -193,9 +202,10 @@ def of(wanted, folders):
     return [c for label, cases in by_file(folders).items() if call(label) == wanted for c in cases if runs(c)]
 
 
-def listings(folders):
-    """The cases of load that say what the program list prints, or the SHA-256 of it."""
-    return [c for label, cases in by_file(folders).items() if call(label) == "load" for c in cases if "list_sha256" in c]
+def listings(folders, wanted=lambda label, case: True):
+    """The cases of load that say what the program list prints, or the SHA-256 of it: all, or those that are wanted."""
+    return [c for label, cases in by_file(folders).items() if call(label) == "load" for c in cases
+            if "list_sha256" in c and wanted(label, c)]
 
 
 def refusals(folders):

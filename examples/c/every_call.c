@@ -140,7 +140,7 @@ static bool untouched(void)
 enum call {
     LOAD, LOAD_MEASURED, DUMP, ROOT, KIND, GET, GET_SYMBOL, NEW, REPLACE_ROOT, CREATE_NIL, CREATE_BOOL, CREATE_FIXNUM,
     CREATE_SYMBOL, CREATE_NEW_SYMBOL, CREATE_ARRAY, CREATE_HASH, CREATE_OBJECT, CREATE_STRING, CREATE_USER_DEFINED,
-    CREATE_FLOAT, CALLS
+    CREATE_FLOAT, CREATE_BIGNUM, CALLS
 };
 
 static const size_t answer_words[CALLS] = {
@@ -148,13 +148,16 @@ static const size_t answer_words[CALLS] = {
     RUBY_MARSHAL_KIND_WORDS, RUBY_MARSHAL_GET_WORDS, RUBY_MARSHAL_GET_SYMBOL_WORDS, RUBY_MARSHAL_NEW_WORDS,
     RUBY_MARSHAL_CREATE_WORDS, RUBY_MARSHAL_CREATE_WORDS, RUBY_MARSHAL_CREATE_WORDS, RUBY_MARSHAL_CREATE_WORDS,
     RUBY_MARSHAL_CREATE_WORDS, RUBY_MARSHAL_CREATE_WORDS, RUBY_MARSHAL_CREATE_WORDS, RUBY_MARSHAL_CREATE_WORDS,
-    RUBY_MARSHAL_CREATE_WORDS, RUBY_MARSHAL_CREATE_WORDS, RUBY_MARSHAL_CREATE_WORDS, RUBY_MARSHAL_CREATE_WORDS
+    RUBY_MARSHAL_CREATE_WORDS, RUBY_MARSHAL_CREATE_WORDS, RUBY_MARSHAL_CREATE_WORDS, RUBY_MARSHAL_CREATE_WORDS,
+    RUBY_MARSHAL_CREATE_WORDS
 };
 
-/* What the functions take besides: a limit or handle, a number, words, bytes. */
+/* What the functions take besides: a limit or handle, a number, a bignum, words, bytes. */
 struct given {
     uint32_t number;
     int32_t value;
+    bool minus;
+    uint64_t magnitude;
     const uint32_t *list;
     size_t list_length;
     const uint8_t *string;
@@ -193,6 +196,8 @@ static uint32_t call(enum call which, const struct lent *l, struct given g)
     case CREATE_USER_DEFINED:
         return ruby_marshal_create_user_defined(TABLES, COUNTS, g.number, g.string, g.string_length, ANSWER);
     case CREATE_FLOAT: return ruby_marshal_create_float(TABLES, COUNTS, g.string, g.string_length, ANSWER);
+    case CREATE_BIGNUM:
+        return ruby_marshal_create_bignum(TABLES, COUNTS, g.minus, (uint32_t)g.magnitude, (uint32_t)(g.magnitude >> 32), ANSWER);
     case CALLS: break;
     }
     return 99;
@@ -230,6 +235,14 @@ static struct given give_value(int32_t value)
 {
     struct given g = give(0);
     g.value = value;
+    return g;
+}
+
+static struct given give_bignum(bool minus, uint64_t magnitude)
+{
+    struct given g = give(0);
+    g.minus = minus;
+    g.magnitude = magnitude;
     return g;
 }
 
@@ -283,13 +296,23 @@ static bool zero(const void *from, size_t size)
     return true;
 }
 
+/* A bignum's number, by get. */
+static int64_t bignum_at(struct lent *l, uint32_t handle)
+{
+    const uint64_t *w = l->answer + RUBY_MARSHAL_WORDS;
+    accepted(GET, l, give(handle));
+    EXPECT(w[RUBY_MARSHAL_WORD_KIND] == RUBY_MARSHAL_BIGNUM);
+    return ruby_marshal_bignum(
+        (uint32_t)w[RUBY_MARSHAL_WORD_LOW], (uint32_t)w[RUBY_MARSHAL_WORD_HIGH], (uint32_t)w[RUBY_MARSHAL_WORD_SIGN]);
+}
+
 /* ---- the tests ---- */
 
 /* Every kind is built, looked at, dumped, loaded, and dumped again. */
 static void build_dump_load(void)
 {
-    struct lent l = lend(200, 13 * 7, 8, 16, 13, 13, 200);
-    uint32_t nil, yes, number, name, other, list[4], pairs[2], array, hash, object, string, user, real;
+    struct lent l = lend(200, 14 * 7, 9, 16, 14, 14, 200);
+    uint32_t nil, yes, number, name, other, list[5], pairs[2], array, hash, object, string, user, real, big;
     size_t written;
 
     accepted(NEW, &l, give(0));
@@ -303,8 +326,9 @@ static void build_dump_load(void)
     EXPECT(l.answer[RUBY_MARSHAL_HANDLE] == name && l.counts.nodes == name + 1);
     other = made(CREATE_NEW_SYMBOL, &l, give_string(0, "sand"));
     real = made(CREATE_FLOAT, &l, give_string(0, "1.25"));
-    list[0] = nil, list[1] = yes, list[2] = number, list[3] = real;
-    array = made(CREATE_ARRAY, &l, give_list(0, list, 4));
+    big = made(CREATE_BIGNUM, &l, give_bignum(true, INT64_MAX));
+    list[0] = nil, list[1] = yes, list[2] = number, list[3] = real, list[4] = big;
+    array = made(CREATE_ARRAY, &l, give_list(0, list, 5));
     pairs[0] = name, pairs[1] = array;
     hash = made(CREATE_HASH, &l, give_list(nil + 1, pairs, 2));
     string = made(CREATE_STRING, &l, give_string(0, "dry"));
@@ -326,6 +350,9 @@ static void build_dump_load(void)
     EXPECT(l.answer[RUBY_MARSHAL_WORDS + RUBY_MARSHAL_WORD_LENGTH] == 4);
     EXPECT(memcmp(l.bytes.at + l.answer[RUBY_MARSHAL_WORDS + RUBY_MARSHAL_WORD_START], "1.25", 4) == 0);
     EXPECT(zero(l.answer + RUBY_MARSHAL_WORDS + RUBY_MARSHAL_WORD_LIST, 4 * 8));
+    EXPECT(bignum_at(&l, big) == -INT64_MAX);
+    EXPECT(l.answer[RUBY_MARSHAL_WORDS + RUBY_MARSHAL_WORD_LIST] == 0);
+    EXPECT(zero(l.answer + RUBY_MARSHAL_WORDS + RUBY_MARSHAL_WORD_NAME, 2 * 8));
     accepted(GET, &l, give(number));
     EXPECT(l.answer[RUBY_MARSHAL_WORDS + RUBY_MARSHAL_WORD_KIND] == RUBY_MARSHAL_FIXNUM);
     EXPECT(ruby_marshal_fixnum((uint32_t)l.answer[RUBY_MARSHAL_WORDS + RUBY_MARSHAL_WORD_VALUE]) == INT32_MIN);
@@ -335,12 +362,12 @@ static void build_dump_load(void)
     accepted(GET_SYMBOL, &l, give(other));
     EXPECT(l.answer[RUBY_MARSHAL_LENGTH] == 4 && memcmp(l.bytes.at + l.answer[RUBY_MARSHAL_START], "sand", 4) == 0);
 
-    refused(GET, &l, give(13), RUBY_MARSHAL_BAD_HANDLE, 13, 0);
+    refused(GET, &l, give(14), RUBY_MARSHAL_BAD_HANDLE, 14, 0);
     EXPECT(zero(l.answer + RUBY_MARSHAL_WORDS, 7 * 8));
     refused(KIND, &l, give(UINT32_MAX), RUBY_MARSHAL_BAD_HANDLE, UINT32_MAX, 0);
     refused(GET_SYMBOL, &l, give(string), RUBY_MARSHAL_WRONG_KIND, string, 0);
     refused(GET_SYMBOL, &l, give(real), RUBY_MARSHAL_WRONG_KIND, real, 0);
-    refused(REPLACE_ROOT, &l, give(13), RUBY_MARSHAL_BAD_HANDLE, 13, 0);
+    refused(REPLACE_ROOT, &l, give(14), RUBY_MARSHAL_BAD_HANDLE, 14, 0);
     EXPECT(ruby_marshal_counts_of(l.answer).root == object && l.answer[RUBY_MARSHAL_HANDLE] == 0);
     refused(CREATE_OBJECT, &l, give(string), RUBY_MARSHAL_WRONG_KIND, string, 0);
     refused(CREATE_USER_DEFINED, &l, give_string(nil, ""), RUBY_MARSHAL_WRONG_KIND, nil, 0);
@@ -348,10 +375,13 @@ static void build_dump_load(void)
     refused(CREATE_HASH, &l, give(UINT32_MAX), RUBY_MARSHAL_BAD_HANDLE, (int64_t)UINT32_MAX - 1, 0);
     refused(CREATE_STRING, &l, give_string(0, "0123456789abcdef"), RUBY_MARSHAL_NO_SPACE, RUBY_MARSHAL_SLICE_BYTES, 0);
     refused(CREATE_FLOAT, &l, give_string(0, "1"), RUBY_MARSHAL_NO_SPACE, RUBY_MARSHAL_SLICE_BYTES, 0);
+    refused(CREATE_BIGNUM, &l, give_bignum(true, (uint64_t)INT64_MAX + 1), RUBY_MARSHAL_TOO_BIG, 4, 0);
     refused(CREATE_ARRAY, &l, give_list(0, list, 3), RUBY_MARSHAL_NO_SPACE, RUBY_MARSHAL_SLICE_REFERENCES, 0);
     accepted(CREATE_NIL, &l, give(0));
     refused(CREATE_NIL, &l, give(0), RUBY_MARSHAL_NO_SPACE, RUBY_MARSHAL_SLICE_NODES, 0);
     refused(CREATE_FLOAT, &l, give(0), RUBY_MARSHAL_NO_SPACE, RUBY_MARSHAL_SLICE_NODES, 0);
+    refused(CREATE_BIGNUM, &l, give(0), RUBY_MARSHAL_NO_SPACE, RUBY_MARSHAL_SLICE_NODES, 0);
+    refused(CREATE_BIGNUM, &l, give_bignum(false, UINT64_MAX), RUBY_MARSHAL_TOO_BIG, 4, 0);
 
     accepted(DUMP, &l, give(RUBY_MARSHAL_LIMIT));
     written = (size_t)l.answer[RUBY_MARSHAL_WRITTEN];
@@ -365,6 +395,40 @@ static void build_dump_load(void)
     EXPECT(zero(l.symbols.at, l.symbols.length * 4) && zero(l.objects.at, l.objects.length * 4));
     accepted(DUMP, &l, give(RUBY_MARSHAL_LIMIT));
     EXPECT(l.answer[RUBY_MARSHAL_WRITTEN] == written && memcmp(l.input.at, l.output.at, written) == 0);
+}
+
+/* Bignums that are built, loaded and dumped: the fewest units, zero without a sign. */
+static void bignums(void)
+{
+    static const struct {
+        bool minus;
+        uint64_t magnitude;
+        int64_t value;
+        const char *dump;
+        size_t length;
+    } cases[] = {
+        { false, 0, 0, "\x04\x08l+\0", 5 },
+        { true, 0, 0, "\x04\x08l+\0", 5 },
+        { true, 1, -1, "\x04\x08l-\x06\x01\0", 7 },
+        { false, 0xFFFF, 0xFFFF, "\x04\x08l+\x06\xFF\xFF", 7 },
+        { false, 0x10000, 0x10000, "\x04\x08l+\x07\0\0\x01\0", 9 },
+        { true, 0x123456789ABC, -0x123456789ABC, "\x04\x08l-\x08\xBC\x9A\x78\x56\x34\x12", 11 },
+        { true, INT64_MAX, -INT64_MAX, "\x04\x08l-\x09\xFF\xFF\xFF\xFF\xFF\xFF\xFF\x7F", 13 },
+    };
+    size_t i;
+    for (i = 0; i < sizeof cases / sizeof cases[0]; i++) {
+        struct lent l = lend(cases[i].length, 2 * 7, 0, 0, 1, 2, 13);
+        accepted(NEW, &l, give(0));
+        EXPECT(made(CREATE_BIGNUM, &l, give_bignum(cases[i].minus, cases[i].magnitude)) == 1);
+        accepted(REPLACE_ROOT, &l, give(1));
+        EXPECT(bignum_at(&l, 1) == cases[i].value);
+        accepted(DUMP, &l, give(1));
+        EXPECT(l.answer[RUBY_MARSHAL_WRITTEN] == cases[i].length && memcmp(l.output.at, cases[i].dump, cases[i].length) == 0);
+        put(&l, cases[i].dump);
+        accepted(LOAD, &l, give(1));
+        EXPECT(l.answer[RUBY_MARSHAL_USED] == cases[i].length && l.answer[RUBY_MARSHAL_DUMP_FORM] == 1);
+        EXPECT(l.counts.root == 1 && bignum_at(&l, 1) == cases[i].value);
+    }
 }
 
 /* An array that is its own member: a pass over the nodes ends, and so does dump. */
@@ -399,6 +463,9 @@ static void dump_form(void)
         { "\x04\x08II\"\0\0\0", 8, 8, 3, 0 },
         { "\x04\x08[\x07\"\0I@\x06\0", 10, 10, 3, 0 },
         { "\x04\x08[\x07[\x06\"\0I@\x07\0", 12, 12, 3, 0 }, /* dump wants a fourth level */
+        { "\x04\x08l+\x06\x01\0", 7, 7, 1, 1 },
+        { "\x04\x08l+\x07\x01\0\0\0", 9, 9, 1, 0 }, /* a high zero unit */
+        { "\x04\x08l-\0", 5, 5, 1, 0 },
     };
     size_t i;
     for (i = 0; i < sizeof cases / sizeof cases[0]; i++) {
@@ -476,6 +543,9 @@ static void refusals(void)
         { "\x04\x08I0\0", 5, 2, RUBY_MARSHAL_NOT_AN_OBJECT, 0, 0 },
         { "\x04\x08[\x06" "0", 5, 1, RUBY_MARSHAL_TOO_DEEP, 1, 0 },
         { "\x04\x08[\x08", 4, 1, RUBY_MARSHAL_NO_SPACE, RUBY_MARSHAL_SLICE_REFERENCES, 0 },
+        { "\x04\x08l*", 4, 1, RUBY_MARSHAL_BAD_SIGN, '*', 0 },
+        { "\x04\x08l+\x0A", 5, 1, RUBY_MARSHAL_TOO_BIG, 5, 0 },
+        { "\x04\x08l-\x09\0\0\0\0\0\0\0\x80", 13, 1, RUBY_MARSHAL_TOO_BIG, 4, 0 },
     };
     size_t i;
     for (i = 0; i < sizeof cases / sizeof cases[0]; i++) {
@@ -570,6 +640,7 @@ int main(void)
         byte_room[i] = (uint8_t *)slice(ROOM);
     answer_room = (uint64_t *)slice(ROOM * 8);
     build_dump_load();
+    bignums();
     cycle();
     dump_form();
     measured();

@@ -2,7 +2,7 @@
  * Prints the ingredients of a recipe file, or why it is refused: the refusal's number, name and details.
  *
  * An ingredient is a name with an amount: a pair of a symbol and an integer or float in a hash, or an array of the two, as a step
- * has. A float is printed by its text.
+ * has. An integer is a fixnum or a bignum; a float is printed by its text.
  *
  * usage: ingredients FILE
  */
@@ -45,6 +45,10 @@ static void ingredient(uint32_t name, uint32_t amount)
     switch (a[RUBY_MARSHAL_WORD_KIND]) {
     case RUBY_MARSHAL_FIXNUM:
         printf("%11" PRId32, ruby_marshal_fixnum(a[RUBY_MARSHAL_WORD_VALUE]));
+        break;
+    case RUBY_MARSHAL_BIGNUM:
+        printf("%11" PRId64,
+            ruby_marshal_bignum(a[RUBY_MARSHAL_WORD_LOW], a[RUBY_MARSHAL_WORD_HIGH], a[RUBY_MARSHAL_WORD_SIGN]));
         break;
     case RUBY_MARSHAL_FLOAT:
         for (i = a[RUBY_MARSHAL_WORD_LENGTH]; i < 11; i++)

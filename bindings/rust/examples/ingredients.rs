@@ -1,7 +1,7 @@
 //! Prints the ingredients of a recipe file, or why it is refused: the refusal's number, name and details.
 //!
 //! An ingredient is a name with an amount: a pair of a symbol and an integer or float in a hash, or an array of the two, as a step
-//! has. A float is printed by its text.
+//! has. An integer is a fixnum or a bignum; a float is printed by its text.
 //!
 //! usage: cargo run --example ingredients --features alloc -- FILE
 use ruby_marshal_tables::{Node, OwnedTables, Value};
@@ -14,6 +14,7 @@ fn ingredient(name: Node, amount: Node, out: &mut impl Write) -> std::io::Result
     let Value::Symbol(name) = name.value() else { return Ok(()) };
     match amount.value() {
         Value::Fixnum(amount) => write!(out, "{amount:>11} ")?,
+        Value::Bignum(amount) => write!(out, "{amount:>11} ")?,
         Value::Float(amount) => {
             let text = amount.bytes();
             write!(out, "{:1$}", "", 11_usize.saturating_sub(text.len()))?;
@@ -49,7 +50,7 @@ fn print<'a>(node: Node<'a>, seen: &mut [bool], out: &mut impl Write) -> std::io
         Value::Object(object) => held.extend(object.variables().map(|(_, value)| value)),
         Value::String(text) => held.extend(text.variables().into_iter().flatten().map(|(_, value)| value)),
         Value::UserDefined(value) => held.extend(value.variables().into_iter().flatten().map(|(_, value)| value)),
-        Value::Nil | Value::Bool(_) | Value::Fixnum(_) | Value::Symbol(_) | Value::Float(_) => {}
+        Value::Nil | Value::Bool(_) | Value::Fixnum(_) | Value::Symbol(_) | Value::Float(_) | Value::Bignum(_) => {}
     }
     held.into_iter().try_for_each(|node| print(node, seen, out))
 }

@@ -20,8 +20,8 @@ impl Tables<'_> {
     }
 }
 
-/// Two lists that a load works with: an entry for each symbol, and for each array, hash, object, string, user-defined value and
-/// float.
+/// Two lists that a load works with: an entry for each symbol, and for each array, hash, object, string, user-defined value,
+/// float and bignum.
 pub struct Lists<'l> {
     /// Symbols, repeated ones too.
     pub symbols: &'l mut [u32],

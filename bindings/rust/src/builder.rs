@@ -75,7 +75,7 @@ impl<'t> Builder<'t> {
         self.created(created)
     }
 
-    /// An integer.
+    /// An integer of 32 bits.
     pub fn create_fixnum(&mut self, value: i32) -> Result<Handle, Refusal> {
         let t = &mut self.tables;
         let created = calls::create_fixnum(t.nodes, t.references, t.bytes, self.counts, value);
@@ -142,6 +142,15 @@ impl<'t> Builder<'t> {
     pub fn create_float(&mut self, value: &[u8]) -> Result<Handle, Refusal> {
         let t = &mut self.tables;
         let created = calls::create_float(t.nodes, t.references, t.bytes, self.counts, value);
+        self.created(created)
+    }
+
+    /// A bignum, however small. [`i64::MIN`] is [`Refusal::TooBig`]: magnitudes go to 2^63 − 1.
+    pub fn create_bignum(&mut self, value: i64) -> Result<Handle, Refusal> {
+        let t = &mut self.tables;
+        let (minus, magnitude) = (value < 0, value.unsigned_abs());
+        let (low, high) = (magnitude as u32, (magnitude >> 32) as u32);
+        let created = calls::create_bignum(t.nodes, t.references, t.bytes, self.counts, minus, low, high);
         self.created(created)
     }
 }

@@ -224,3 +224,17 @@ pub fn create_user_defined(
 pub fn create_float(nodes: &mut [u32], references: &[u32], bytes: &mut [u8], counts: Counts, value: &[u8]) -> Created {
     created(sys::create_float(nodes, references, bytes, counts, value))
 }
+
+/// A bignum: minus or not, and the low and high 32 bits of its magnitude. Zero is plus.
+#[allow(clippy::too_many_arguments)]
+pub fn create_bignum(
+    nodes: &mut [u32],
+    references: &[u32],
+    bytes: &[u8],
+    counts: Counts,
+    minus: bool,
+    low: u32,
+    high: u32,
+) -> Created {
+    created(sys::create_bignum(nodes, references, bytes, counts, minus, low, high))
+}

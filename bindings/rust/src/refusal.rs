@@ -91,7 +91,7 @@ pub enum Fault {
     Node(u32),
 }
 
-/// Why a call is refused: document 01's fourteen numbers with their details.
+/// Why a call is refused: the sixteen numbers of documents 01 and 02 with their details.
 #[derive(Clone, Copy, Debug, PartialEq, Eq, Hash)]
 #[non_exhaustive]
 pub enum Refusal {
@@ -128,6 +128,10 @@ pub enum Refusal {
     BadHandle(u32),
     /// A node that is no symbol where one is wanted.
     WrongKind(u32),
+    /// A bignum's sign byte that is neither `+` nor `-`.
+    BadSign(u8),
+    /// A bignum of this many units: more than 4, or a magnitude above 2^63 − 1, which takes 4.
+    TooBig(u32),
     /// A number that this crate doesn't know: the archive is of another version.
     Other {
         /// What was returned.
@@ -160,11 +164,13 @@ impl Refusal {
             12 => Refusal::NoSpace(Slice::of(first)),
             13 => Refusal::BadHandle(first as u32),
             14 => Refusal::WrongKind(first as u32),
+            15 => Refusal::BadSign(first as u8),
+            16 => Refusal::TooBig(first as u32),
             _ => Refusal::Other { number, first: first as i64, second },
         })
     }
 
-    /// The number in document 01, 1 to 14.
+    /// The number in documents 01 and 02, 1 to 16.
     pub fn number(self) -> u32 {
         match self {
             Refusal::BadTables(_) => 1,
@@ -181,6 +187,8 @@ impl Refusal {
             Refusal::NoSpace(_) => 12,
             Refusal::BadHandle(_) => 13,
             Refusal::WrongKind(_) => 14,
+            Refusal::BadSign(_) => 15,
+            Refusal::TooBig(_) => 16,
             Refusal::Other { number, .. } => number,
         }
     }
@@ -192,19 +200,20 @@ impl Refusal {
             Refusal::BadArena(Fault::Counts) => (-1, 0),
             Refusal::InvalidVersion { major, minor } => (major.into(), minor.into()),
             Refusal::ShortInput | Refusal::NotAnObject => (0, 0),
-            Refusal::InvalidKind(byte) | Refusal::NotASymbol(byte) => (byte.into(), 0),
+            Refusal::InvalidKind(byte) | Refusal::NotASymbol(byte) | Refusal::BadSign(byte) => (byte.into(), 0),
             Refusal::NegativeCount(value) => (value.into(), 0),
             Refusal::BadArena(Fault::Node(n))
             | Refusal::MissingSymbol(n)
             | Refusal::MissingObject(n)
             | Refusal::TooDeep(n)
             | Refusal::BadHandle(n)
-            | Refusal::WrongKind(n) => (n.into(), 0),
+            | Refusal::WrongKind(n)
+            | Refusal::TooBig(n) => (n.into(), 0),
             Refusal::Other { first, second, .. } => (first, second),
         }
     }
 
-    /// The name in document 01.
+    /// The name in the documents.
     pub fn name(self) -> &'static str {
         match self {
             Refusal::BadTables(_) => "BAD-TABLES",
@@ -221,6 +230,8 @@ impl Refusal {
             Refusal::NoSpace(_) => "NO-SPACE",
             Refusal::BadHandle(_) => "BAD-HANDLE",
             Refusal::WrongKind(_) => "WRONG-KIND",
+            Refusal::BadSign(_) => "BAD-SIGN",
+            Refusal::TooBig(_) => "TOO-BIG",
             Refusal::Other { .. } => "?",
         }
     }
@@ -244,6 +255,8 @@ impl fmt::Display for Refusal {
             Refusal::NoSpace(slice) => write!(f, "no space: {slice}"),
             Refusal::BadHandle(handle) => write!(f, "no node {handle}"),
             Refusal::WrongKind(handle) => write!(f, "node {handle} is no symbol"),
+            Refusal::BadSign(byte) => write!(f, "sign byte {byte:02X}, neither + nor -"),
+            Refusal::TooBig(units) => write!(f, "a bignum of {units} units is too big"),
             Refusal::Other { number, first, second } => write!(f, "refusal {number}, {first}, {second}"),
         }
     }

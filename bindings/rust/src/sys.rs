@@ -196,6 +196,15 @@ mod archive {
             value: *const u8, value_length: usize,
             answer: *mut u64, answer_length: usize,
         ) -> u32;
+
+        pub fn ruby_marshal_create_bignum(
+            nodes: *mut u32, nodes_length: usize,
+            references: *const u32, references_length: usize,
+            bytes: *const u8, bytes_length: usize,
+            node_count: usize, reference_count: usize, byte_count: usize, root: u32,
+            minus: bool, low: u32, high: u32,
+            answer: *mut u64, answer_length: usize,
+        ) -> u32;
     }
 }
 
@@ -575,6 +584,30 @@ pub fn create_float(nodes: &mut [u32], references: &[u32], bytes: &mut [u8], cou
             bytes.as_mut_ptr(), bytes.len(),
             counts.nodes, counts.references, counts.bytes, counts.root,
             value.as_ptr(), value.len(),
+            words.as_mut_ptr(), words.len(),
+        )
+    };
+    Told { number, words }
+}
+
+pub fn create_bignum(
+    nodes: &mut [u32],
+    references: &[u32],
+    bytes: &[u8],
+    counts: Counts,
+    minus: bool,
+    low: u32,
+    high: u32,
+) -> Told<7> {
+    let mut words = [0; 7];
+    // SAFETY: each pointer and length are those of one live reference; `nodes` is `&mut`, `words` is a local.
+    let number = unsafe {
+        archive::ruby_marshal_create_bignum(
+            nodes.as_mut_ptr(), nodes.len(),
+            references.as_ptr(), references.len(),
+            bytes.as_ptr(), bytes.len(),
+            counts.nodes, counts.references, counts.bytes, counts.root,
+            minus, low, high,
             words.as_mut_ptr(), words.len(),
         )
     };

@@ -8,6 +8,9 @@ mod word {
     pub const VALUE: usize = 1;
     pub const START: usize = 1;
     pub const LENGTH: usize = 2;
+    pub const LOW: usize = 1;
+    pub const HIGH: usize = 2;
+    pub const SIGN: usize = 4;
     pub const LIST: usize = 3;
     pub const COUNT: usize = 4;
     pub const NAME: usize = 5;
@@ -38,6 +41,8 @@ pub enum Kind {
     UserDefined,
     /// A float: its text.
     Float,
+    /// An integer of 63 bits and a sign.
+    Bignum,
 }
 
 /// A node's value.
@@ -47,7 +52,7 @@ pub enum Value<'a> {
     Nil,
     /// `true` or `false`
     Bool(bool),
-    /// An integer.
+    /// An integer of 32 bits.
     Fixnum(i32),
     /// A symbol's name.
     Symbol(&'a [u8]),
@@ -63,6 +68,8 @@ pub enum Value<'a> {
     UserDefined(UserDefined<'a>),
     /// A float.
     Float(Float<'a>),
+    /// An integer that was written as a bignum, however small; never [`i64::MIN`].
+    Bignum(i64),
 }
 
 /// A node of an arena.
@@ -116,6 +123,7 @@ impl<'a> Node<'a> {
             7 => Kind::String,
             8 => Kind::UserDefined,
             9 => Kind::Float,
+            10 => Kind::Bignum,
             kind => unreachable!("kind {kind} in a well formed arena"),
         }
     }
@@ -135,6 +143,7 @@ impl<'a> Node<'a> {
             Kind::String => Value::String(Text(row)),
             Kind::UserDefined => Value::UserDefined(UserDefined(row)),
             Kind::Float => Value::Float(Float(row)),
+            Kind::Bignum => Value::Bignum(row.bignum()),
         }
     }
 
@@ -163,7 +172,7 @@ macro_rules! as_kind {
 as_kind! {
     /// The bool, if it is one.
     as_bool Bool bool;
-    /// The integer, if it is one.
+    /// The fixnum, if it is one.
     as_fixnum Fixnum i32;
     /// The symbol's name, if it is one.
     as_symbol Symbol &'a [u8];
@@ -179,6 +188,8 @@ as_kind! {
     as_user_defined UserDefined UserDefined<'a>;
     /// The float, if it is one.
     as_float Float Float<'a>;
+    /// The bignum, if it is one.
+    as_bignum Bignum i64;
 }
 
 impl fmt::Debug for Node<'_> {
@@ -188,6 +199,17 @@ impl fmt::Debug for Node<'_> {
 }
 
 impl<'a> Row<'a> {
+    // The magnitude is below 2^63 in a well formed arena.
+    #[inline]
+    fn bignum(self) -> i64 {
+        let magnitude = i64::from(self.words[word::HIGH]) << 32 | i64::from(self.words[word::LOW]);
+        if self.words[word::SIGN] == 1 {
+            -magnitude
+        } else {
+            magnitude
+        }
+    }
+
     #[inline]
     fn bytes(self) -> &'a [u8] {
         let start = self.words[word::START] as usize;

@@ -114,7 +114,7 @@ fn views_agree(arena: &Arena, case: &Case) {
 }
 
 // A node's kind, number, bytes, list of handles, name and default; absent lists and bytes are None.
-type Said = (u32, u32, Option<Vec<u8>>, Option<Vec<u32>>, u32, u32);
+type Said = (u32, i64, Option<Vec<u8>>, Option<Vec<u32>>, u32, u32);
 
 fn said(node: Node) -> Said {
     let number = |n: Node| n.handle().number();
@@ -122,7 +122,7 @@ fn said(node: Node) -> Said {
     match node.value() {
         Value::Nil => (0, 0, None, None, 0, 0),
         Value::Bool(value) => (1, value.into(), None, None, 0, 0),
-        Value::Fixnum(value) => (2, value as u32, None, None, 0, 0),
+        Value::Fixnum(value) => (2, value.into(), None, None, 0, 0),
         Value::Symbol(name) => (3, 0, Some(name.into()), None, 0, 0),
         Value::Array(array) => (4, 0, None, Some(array.members().map(number).collect()), 0, 0),
         Value::Hash(hash) => {
@@ -147,6 +147,7 @@ fn said(node: Node) -> Said {
             (8, 0, Some(user.bytes().into()), variables, number(user.name_node()), 0)
         }
         Value::Float(float) => (9, 0, Some(float.bytes().into()), None, 0, 0),
+        Value::Bignum(value) => (10, value, None, None, 0, 0),
     }
 }
 
@@ -156,14 +157,20 @@ fn words_say(words: &[u32], references: &[u32], bytes: &[u8]) -> Said {
     let list = |each: usize| Some(references[range(words[3], words[4] as usize * each)].to_vec());
     let variables = || if words[6] == 1 { list(2) } else { None };
     match words[0] {
-        0..=2 => (words[0], words[1], None, None, 0, 0),
+        0..=1 => (words[0], words[1].into(), None, None, 0, 0),
+        2 => (2, (words[1] as i32).into(), None, None, 0, 0),
         3 => (3, 0, bytes(), None, 0, 0),
         4 => (4, 0, None, list(1), 0, 0),
         5 => (5, 0, None, list(2), 0, words[6]),
         6 => (6, 0, None, list(2), words[5], 0),
         7 => (7, 0, bytes(), variables(), 0, 0),
         8 => (8, 0, bytes(), variables(), words[5], 0),
-        _ => (9, 0, bytes(), None, 0, 0),
+        9 => (9, 0, bytes(), None, 0, 0),
+        _ => {
+            let magnitude = i128::from(words[2]) * (1 << 32) + i128::from(words[1]);
+            let value = if words[4] == 0 { magnitude } else { -magnitude };
+            (10, value.try_into().expect("64 bits"), None, None, 0, 0)
+        }
     }
 }
 
@@ -342,6 +349,7 @@ fn call(case: &Case, n: &mut [u32], r: &mut [u32], b: &mut [u8]) -> Told {
         "create_string" => created(calls::create_string(n, r, b, c, &args[0].bytes())),
         "create_user_defined" => created(calls::create_user_defined(n, r, b, c, word(0), &args[1].bytes())),
         "create_float" => created(calls::create_float(n, r, b, c, &args[0].bytes())),
+        "create_bignum" => created(calls::create_bignum(n, r, b, c, word(0) == 1, word(1), word(2))),
         other => panic!("function {other}"),
     }
 }
@@ -388,6 +396,12 @@ fn build(case: &Case, builder: &mut Builder) -> Option<Result<Vec<u32>, Refusal>
         "create_string" => builder.create_string(&args[0].bytes()),
         "create_user_defined" => builder.create_user_defined(handle(0), &args[1].bytes()),
         "create_float" => builder.create_float(&args[0].bytes()),
+        "create_bignum" => {
+            // A builder's is a number of 64 bits: not a greater magnitude, nor i64::MIN's with a plus.
+            let magnitude = i128::from(args[2].number()) * (1 << 32) + i128::from(args[1].number());
+            let value = if args[0].number() == 1 { -magnitude } else { magnitude };
+            builder.create_bignum(value.try_into().ok()?)
+        }
         other => panic!("function {other}"),
     };
     Some(made.map(|handle| vec![handle.number()]))

@@ -156,6 +156,9 @@ fn getters_and_builders_over_every_length() {
         assert_eq!(calls::create_new_symbol(&mut n.clone(), &r, &mut b, c, b"").answer, room);
         assert_eq!(calls::create_string(&mut n.clone(), &r, &mut b, c, b"ab").answer, room);
         assert_eq!(calls::create_float(&mut n.clone(), &r, &mut b, c, b"1.").answer, room);
+        assert_eq!(calls::create_bignum(&mut n.clone(), &r, &b, c, true, 0, 1 << 30).answer, room);
+        let big = if wrong { room } else { Err(Refusal::TooBig(4)) };
+        assert_eq!(calls::create_bignum(&mut n.clone(), &r, &b, c, false, 0, 1 << 31).answer, big);
         assert_eq!(calls::create_array(&mut n.clone(), &mut r, &b, c, &[0, 0]).answer, room);
         for pairs in 0..=3 {
             let list = vec![0; pairs];
@@ -187,7 +190,7 @@ fn getters_and_builders_over_every_length() {
         }
         let begun = Builder::new(Tables { nodes: &mut n, references: &mut r, bytes: &mut b }).map(|_| ());
         assert_eq!(begun, if wrong { Err(Refusal::BadTables(Slice::Nodes)) } else { Ok(()) });
-        calls_made += 15;
+        calls_made += 17;
     }
     println!("getters and builders: {calls_made} calls");
 }

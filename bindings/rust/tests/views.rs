@@ -10,10 +10,10 @@ use ruby_marshal_tables::{
 use std::error::Error;
 
 // One node of each kind in an array, with a shared string, a default, and variables on a string and a user-defined value.
-const EVERY_KIND: &[u8] = b"\x04\x08[\x12\
+const EVERY_KIND: &[u8] = b"\x04\x08[\x13\
     0TFi\x02\x6c\x02i\xfa:\x09sand[\x07i\x06i\x07{\x06:\x08key\"\x08abc}\x06;\x06i\x08T\
     o:\x0bRecipe\x07:\x0c@number;\x06:\x0a@done0I\"\x08xyz\x06:\x06ETIu:\x0aStamp\x07\x01\x02\x06;\x0aF\
-    f\x091.25";
+    f\x091.25l-\x08\xbc\x9a\x78\x56\x34\x12";
 
 fn value_text(node: Node) -> String {
     let bytes = |b: &[u8]| String::from_utf8_lossy(b).into_owned();
@@ -42,6 +42,7 @@ fn value_text(node: Node) -> String {
             format!("{} {:?} {variables:?}", bytes(user.name()), user.bytes())
         }
         Value::Float(float) => bytes(float.bytes()),
+        Value::Bignum(value) => value.to_string(),
     }
 }
 
@@ -67,15 +68,16 @@ fn views_of_every_kind() {
         r#""xyz" Some(["E=true"])"#,
         r#"Stamp [1, 2] Some(["E=false"])"#,
         "1.25",
+        "-20015998343868",
     ];
     assert_eq!(texts, expected);
 
     let kinds: Vec<Kind> = root.members().map(Node::kind).collect();
     assert_eq!(kinds[..6], [Kind::Nil, Kind::Bool, Kind::Bool, Kind::Fixnum, Kind::Fixnum, Kind::Symbol]);
     assert_eq!(kinds[6..12], [Kind::Array, Kind::Hash, Kind::Hash, Kind::Object, Kind::String, Kind::UserDefined]);
-    assert_eq!(kinds[12..], [Kind::Float]);
+    assert_eq!(kinds[12..], [Kind::Float, Kind::Bignum]);
     let at = |i: usize| root.get(i).unwrap();
-    assert!(at(0).is_nil() && !at(1).is_nil() && root.get(13).is_none());
+    assert!(at(0).is_nil() && !at(1).is_nil() && root.get(14).is_none());
     assert_eq!((at(1).as_bool(), at(2).as_bool(), at(3).as_bool()), (Some(true), Some(false), None));
     assert_eq!((at(3).as_fixnum(), at(5).as_fixnum()), (Some(620), None));
     assert_eq!((at(5).as_symbol(), at(3).as_symbol()), (Some(&b"sand"[..]), None));
@@ -86,6 +88,7 @@ fn views_of_every_kind() {
     assert!(at(11).as_user_defined().is_some() && at(10).as_user_defined().is_none());
     assert!(at(12).as_float().is_some_and(|f| f.bytes() == b"1.25" && f.handle() == at(12).handle()));
     assert!(at(10).as_float().is_none() && at(12).as_string().is_none());
+    assert_eq!((at(13).as_bignum(), at(3).as_bignum(), at(13).as_fixnum()), (Some(-0x1234_5678_9abc), None, None));
     assert_eq!(at(9).as_object().unwrap().get(b"@done").map(|v| v.is_nil()), Some(true));
     assert!(at(9).as_object().unwrap().get(b"@none").is_none());
     let key = at(8).as_hash().unwrap().get(b"key").unwrap();
@@ -93,7 +96,7 @@ fn views_of_every_kind() {
     assert!(at(8).as_hash().unwrap().get(b"other").is_none());
 
     // From both ends, and sizes.
-    assert_eq!(root.members().len(), 13);
+    assert_eq!(root.members().len(), 14);
     assert_eq!(root.members().rev().map(|n| n.handle()).collect::<Vec<_>>(), {
         let mut handles: Vec<Handle> = root.members().map(|n| n.handle()).collect();
         handles.reverse();
@@ -121,6 +124,9 @@ fn dump_form() {
         (b"\x04\x08[\x07:\x06a:\x06a", false),
         (b"\x04\x08II\"\x00\x00\x00", false),
         (b"\x04\x08[\x07\"\x00I@\x06\x00", false),
+        (b"\x04\x08l+\x06\x01\x00", true),
+        (b"\x04\x08l+\x07\x01\x00\x00\x00", false),
+        (b"\x04\x08l-\x00", false),
     ];
     for &(input, expected) in cases {
         let mut tables = OwnedTables::for_input(input.len());
@@ -207,7 +213,8 @@ fn a_recipe_that_is_built() {
     assert_ne!(name, other);
     let text = builder.create_string(b"dry").unwrap();
     let float = builder.create_float(b"1.25").unwrap();
-    let list = builder.create_array(&[nil, yes, number, float]).unwrap();
+    let bignum = builder.create_bignum(-2_000_000_000_000).unwrap();
+    let list = builder.create_array(&[nil, yes, number, float, bignum]).unwrap();
     let hash = builder.create_hash(&[[name, list], [other, text]], Some(nil)).unwrap();
     let user = builder.create_user_defined(name, b"\x01").unwrap();
     let object = builder.create_object(name, &[[other, hash], [name, user]]).unwrap();
@@ -221,6 +228,7 @@ fn a_recipe_that_is_built() {
     assert_eq!(builder.create_object(text, &[]), Err(Refusal::WrongKind(text.number())));
     assert_eq!(builder.create_string(&[7; 65]), Err(Refusal::NoSpace(Slice::Bytes)));
     assert_eq!(builder.create_float(&[7; 65]), Err(Refusal::NoSpace(Slice::Bytes)));
+    assert_eq!(builder.create_bignum(i64::MIN), Err(Refusal::TooBig(4)));
     assert_eq!(builder.create_array(&[nil; 21]), Err(Refusal::NoSpace(Slice::References)));
     assert_eq!(builder.replace_root(Handle::new(counts.nodes as u32)), Err(Refusal::BadHandle(counts.nodes as u32)));
     assert_eq!(builder.counts(), counts);
@@ -234,6 +242,8 @@ fn a_recipe_that_is_built() {
     assert_eq!(calls::root(n, r, b, counts), Ok(object.number()));
     assert_eq!(calls::kind(n, r, b, counts, hash.number()), Ok(5));
     assert_eq!(calls::kind(n, r, b, counts, float.number()), Ok(9));
+    assert_eq!(calls::kind(n, r, b, counts, bignum.number()), Ok(10));
+    assert_eq!(arena.node(bignum).and_then(Node::as_bignum), Some(-2_000_000_000_000));
     assert_eq!(calls::get(n, r, b, counts, number.number()), Ok([2, (-2_000_000_000_i32) as u32, 0, 0, 0, 0, 0]));
     let (start, length) = calls::get_symbol(n, r, b, counts, other.number()).unwrap();
     assert_eq!(&b[start as usize..][..length as usize], b"sand");
@@ -258,7 +268,7 @@ fn a_recipe_that_is_built() {
 // The functions of `calls` that make nodes.
 #[test]
 fn the_calls_that_create() {
-    let (mut n, mut r, mut b) = ([9; 7 * 13], [9; 8], [9; 16]);
+    let (mut n, mut r, mut b) = ([9; 7 * 14], [9; 8], [9; 16]);
     let begun = calls::new(&mut n, &mut r, &mut b);
     assert_eq!((begun.answer, begun.counts), (Ok(()), Counts { nodes: 1, ..Counts::default() }));
     assert!(n.iter().chain(&r).all(|&word| word == 0) && b == [0; 16]);
@@ -278,15 +288,18 @@ fn the_calls_that_create() {
     c = made(calls::create_string(&mut n, &r, &mut b, c, b"xyz")).counts;
     let user = made(calls::create_user_defined(&mut n, &r, &mut b, c, symbol.handle, b""));
     let float = made(calls::create_float(&mut n, &r, &mut b, user.counts, b"-0.5"));
-    c = made(calls::replace_root(&n, &r, &b, float.counts, 7)).counts;
-    assert_eq!((c.nodes, c.references, c.bytes, c.root), (12, 7, 11, 7));
+    let bignum = made(calls::create_bignum(&mut n, &r, &b, float.counts, true, 5, 6));
+    c = made(calls::replace_root(&n, &r, &b, bignum.counts, 7)).counts;
+    assert_eq!((c.nodes, c.references, c.bytes, c.root), (13, 7, 11, 7));
     assert_eq!(calls::get(&n, &r, &b, c, float.handle), Ok([9, 7, 4, 0, 0, 0, 0]));
+    assert_eq!(calls::get(&n, &r, &b, c, bignum.handle), Ok([10, 5, 6, 0, 1, 0, 0]));
     let refused = calls::create_object(&mut n, &mut r, &b, c, 0, &[0]);
     assert_eq!((numbers(&refused.answer), refused.handle, refused.counts), ((1, 9, 0), 0, c));
     let arena = Arena::check(&n, &r, &b, c).unwrap();
     assert_eq!(arena.root().as_hash().unwrap().default_value().unwrap().as_fixnum(), Some(i32::MIN));
-    assert_eq!(arena.nodes().nth_back(1).unwrap().as_user_defined().map(|user| user.name()), Some(&b"ab"[..]));
-    assert_eq!(arena.nodes().next_back().unwrap().as_float().map(|float| float.bytes()), Some(&b"-0.5"[..]));
+    assert_eq!(arena.nodes().nth_back(2).unwrap().as_user_defined().map(|user| user.name()), Some(&b"ab"[..]));
+    assert_eq!(arena.nodes().nth_back(1).unwrap().as_float().map(|float| float.bytes()), Some(&b"-0.5"[..]));
+    assert_eq!(arena.nodes().next_back().unwrap().as_bignum(), Some(-((6 << 32) + 5)));
 }
 
 #[test]
@@ -324,6 +337,9 @@ fn refusals() {
         (b"\x04\x08[\x08", 1, Refusal::NoSpace(Slice::References), "no space: references"),
         (b"\x04\x08:\x08abc", 1, Refusal::NoSpace(Slice::Bytes), "no space: bytes"),
         (b"\x04\x08[\x0700", 2, Refusal::NoSpace(Slice::Nodes), "no space: nodes"),
+        (b"\x04\x08l*", 1, Refusal::BadSign(b'*'), "sign byte 2A, neither + nor -"),
+        (b"\x04\x08l+\x0a", 1, Refusal::TooBig(5), "a bignum of 5 units is too big"),
+        (b"\x04\x08l-\x09\0\0\0\0\0\0\0\x80", 1, Refusal::TooBig(4), "a bignum of 4 units is too big"),
     ];
     for &(input, limit, expected, text) in cases {
         let refusal = load_refused(input, limit);
@@ -347,6 +363,8 @@ fn refusals() {
         (Refusal::NoSpace(Slice::Scratch), "NO-SPACE", 12, (10, 0)),
         (Refusal::BadHandle(u32::MAX), "BAD-HANDLE", 13, (4294967295, 0)),
         (Refusal::WrongKind(2), "WRONG-KIND", 14, (2, 0)),
+        (Refusal::BadSign(0xff), "BAD-SIGN", 15, (255, 0)),
+        (Refusal::TooBig(5), "TOO-BIG", 16, (5, 0)),
     ];
     for (refusal, name, number, details) in names {
         assert_eq!((refusal.name(), refusal.number(), refusal.details()), (name, number, details));
@@ -361,4 +379,13 @@ fn refusals() {
     assert_eq!(check(&[0, 0, 0, 0, 0, 0, 0, 9, 0, 0, 0, 0, 0, 0], counts), Ok(counts));
     assert_eq!(check(&[0, 0, 0, 0, 0, 0, 0, 9, 0, 1, 0, 0, 0, 0], counts), Err(Refusal::BadArena(Fault::Node(1))));
     assert_eq!(check(&[0, 0, 0, 0, 0, 0, 0, 9, 0, 0, 0, 0, 0, 1], counts), Err(Refusal::BadArena(Fault::Node(1))));
+    // A Bignum's magnitude is below 2^63, zero is plus, and the other words are 0.
+    let bignum = |words: [u32; 6]| check(&[&[0, 0, 0, 0, 0, 0, 0, 10], &words[..]].concat(), counts);
+    for words in [[u32::MAX, (1 << 31) - 1, 0, 1, 0, 0], [0; 6], [0, 1, 0, 1, 0, 0], [1, 0, 0, 1, 0, 0]] {
+        assert_eq!(bignum(words), Ok(counts), "{words:?}");
+    }
+    let high = [0, 1 << 31, 0, 0, 0, 0];
+    for words in [high, [0, 0, 0, 1, 0, 0], [1, 0, 0, 2, 0, 0], [1, 0, 1, 0, 0, 0], [1, 0, 0, 0, 1, 0], [1, 0, 0, 0, 0, 1]] {
+        assert_eq!(bignum(words), Err(Refusal::BadArena(Fault::Node(1))), "{words:?}");
+    }
 }

@@ -2,7 +2,7 @@
 use Prim.Native.Nat.{ℕ, zero, suc, _+_, _-_, _*_, _/_, _≤_, _<_}
 use native.Mathlib.Omega.{arith}
 use native.Mathlib.Numerals.{add-one}
-use mathlib.Core.Bool.{Bool, true, false, _&&_, and-true, and-false}
+use mathlib.Core.Bool.{Bool, true, false, not, _&&_, and-true, and-false}
 use mathlib.Core.List.{List, [], _∷_}
 use mathlib.Core.Option.{Option, none, some}
 use mathlib.Core.Path.{_≡_, refl, sym, ap, _∙_, subst}
@@ -10,10 +10,11 @@ use mathlib.Core.Logic.{_⊎_, inl, inr}
 use lib.Dec.{leb, ltb, eqb, T}
 use lib.ListN.{length, getD, take, drop, length-drop}
 use lib.Seq.{getD-drop, length-take-le, drop-drop, take-take}
-use borrow.Author.Tests.{le-leb, lt-leb, ne-eqb}
+use borrow.Author.Tests.{le-leb, lt-leb, lt-ltb, le-ltb, ne-eqb}
 use Rattle.definition.specs.Run.{pick}
 use Rattle.definition.specs.Node.{Row, row, row-of, vars, is-row}
-use Rattle.definition.specs.Arena.{Arena, Tables, arena, range, firsts, all-below, all-names, is-name, bytes-right, list-right, pairs-right, vars-right, row-right, node-right, faulty, counts-fit, fault, fault-if}
+use Rattle.definition.specs.Magnitude.{magnitude, fits as magnitude-fits}
+use Rattle.definition.specs.Arena.{Arena, Tables, arena, range, firsts, all-below, all-names, is-name, bytes-right, list-right, pairs-right, vars-right, number-right, row-right, node-right, faulty, counts-fit, fault, fault-if}
 use Rattle.definition.specs.declared.Counts.{Counts}
 use Rattle.definition.specs.declared.Fault.{Fault}
 use Rattle.definition.specs.declared.Fault.the-variants.{Counts as BadCounts, Node}
@@ -76,6 +77,21 @@ unfolding vars-right vars
 vars-some A zero s n e = absurd (e refl)
 vars-some A (suc f) s n e = refl
 
+-- ---- a Bignum's number
+
+module _ {x m : ℕ} (e : x ≡ m) (w : ℕ) where
+  pub number-minus : x < 9223372036854775808 → w ≡ 1 → not (eqb x 0) ≡ number-right m (eqb w 1)
+  unfolding number-right magnitude-fits
+  number-minus l o = sym (rw (← e, lt-ltb x 9223372036854775808 l, o) refl)
+
+  pub number-plus : x < 9223372036854775808 → (w ≡ 1 → ⊥) → true ≡ number-right m (eqb w 1)
+  unfolding number-right magnitude-fits
+  number-plus l o = sym (rw (← e, lt-ltb x 9223372036854775808 l, ne-eqb w 1 o) refl)
+
+  pub number-past : 9223372036854775808 ≤ x → false ≡ number-right m (eqb w 1)
+  unfolding number-right magnitude-fits
+  number-past l = sym (rw (← e, le-ltb x 9223372036854775808 l) refl)
+
 -- ---- rows by kind
 
 module _ (A : Arena) (a b s n c f : ℕ) where
@@ -108,10 +124,14 @@ module _ (A : Arena) (a b s n c f : ℕ) where
   unfolding row-right row-of pick
   right-8 k e = ap right (sym e)
 
-  -- the kinds that have neither ranges nor names
-  pub right-else : (k : ℕ) → (k ≡ 3 → ⊥) → (k ≡ 4 → ⊥) → (k ≡ 5 → ⊥) → (k ≡ 6 → ⊥) → (k ≡ 7 → ⊥) → (k ≡ 8 → ⊥) → (k ≡ 9 → ⊥) → true ≡ right k
+  pub right-10 : (k : ℕ) → k ≡ 10 → number-right (magnitude a b) (eqb n 1) ≡ right k
   unfolding row-right row-of pick
-  right-else k n3 n4 n5 n6 n7 n8 n9 = rw (ne-eqb k 3 n3, ne-eqb k 4 n4, ne-eqb k 5 n5, ne-eqb k 6 n6, ne-eqb k 7 n7, ne-eqb k 8 n8, ne-eqb k 9 n9) (go (eqb k 1) (eqb k 2))
+  right-10 k e = ap right (sym e)
+
+  -- the kinds that have neither ranges nor names
+  pub right-else : (k : ℕ) → (k ≡ 3 → ⊥) → (k ≡ 4 → ⊥) → (k ≡ 5 → ⊥) → (k ≡ 6 → ⊥) → (k ≡ 7 → ⊥) → (k ≡ 8 → ⊥) → (k ≡ 9 → ⊥) → (k ≡ 10 → ⊥) → true ≡ right k
+  unfolding row-right row-of pick
+  right-else k n3 n4 n5 n6 n7 n8 n9 n10 = rw (ne-eqb k 3 n3, ne-eqb k 4 n4, ne-eqb k 5 n5, ne-eqb k 6 n6, ne-eqb k 7 n7, ne-eqb k 8 n8, ne-eqb k 9 n9, ne-eqb k 10 n10) (go (eqb k 1) (eqb k 2))
     where
       go : (x y : Bool) → true ≡ row-right A (pick x (Row.bool (eqb a 1)) (pick y (Row.fixnum a) Row.nil))
       go true y = refl

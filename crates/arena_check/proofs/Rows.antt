@@ -9,7 +9,7 @@ use lib.Dec.{eqb, T}
 use lib.ListN.{getD}
 use borrow.Author.Tests.{eq-eqb, ne-eqb, eqb-true}
 use Rattle.definition.specs.Run.{pick}
-use Rattle.definition.specs.Node.{bool, words, row, row-of, vars, is-row, equal}
+use Rattle.definition.specs.Node.{bool, bignum, words, row, row-of, vars, is-row, equal}
 use Rattle.lists.specs.Words.{equal-true, equal-self}
 
 -- two tests that hold together are equal
@@ -101,6 +101,31 @@ pub row-1-not : (a b s n c f : ℕ) → 1 < a → false ≡ is-row (1 ∷ a ∷ 
 unfolding row row-of pick
 row-1-not a b s n c f l = not-test (1 ∷ a ∷ b ∷ s ∷ n ∷ c ∷ f ∷ []) (λ e. omega (arith, word 1 e, bool-word (eqb a 1)))
 
+-- a Bignum's word 4 is 0 or 1
+bignum-words : (a b n : ℕ) → n ≤ 1 → words (bignum a b (eqb n 1)) ≡ 10 ∷ a ∷ b ∷ 0 ∷ n ∷ 0 ∷ 0 ∷ []
+unfolding words
+bignum-words a b zero l = refl
+bignum-words a b (suc zero) l = refl
+bignum-words a b (suc (suc n)) l = absurd (omega arith)
+
+sign-word : (a b : ℕ) (t : Bool) → getD (words (bignum a b t)) 4 0 ≤ 1
+unfolding words
+sign-word a b true = omega arith
+sign-word a b false = omega arith
+
+module _ (a b s n c f : ℕ) where
+  pub row-10 : n ≤ 1 → eqb (0 + 0 + s + 0 + c + f) 0 ≡ is-row (ws a b s n c f 10)
+  unfolding row row-of pick
+  row-10 l =
+      let w = bignum-words a b n l in
+      row-test (ws a b s n c f 10) _
+      (λ e. let z = zeros 0 0 s 0 c f e in (λ i. 10 ∷ a ∷ b ∷ z .2 i ∷ n ∷ z .4 i ∷ z .5 i ∷ []) ∙ sym w)
+      (λ e. let q = e ∙ w in sum 0 0 s 0 c f (omega (arith, word 3 q, word 5 q, word 6 q)))
+
+  pub row-10-not : 1 < n → false ≡ is-row (ws a b s n c f 10)
+  unfolding row row-of pick
+  row-10-not l = not-test (ws a b s n c f 10) (λ e. omega (arith, word 4 e, sign-word a b (eqb n 1)))
+
 -- kinds 7 and 8 without a variable list, with one, and with another mark
 module _ (a b s n c : ℕ) where
   pub row-7-absent : (f : ℕ) → f ≡ 0 → eqb (0 + 0 + s + n + c + 0) 0 ≡ is-row (7 ∷ a ∷ b ∷ s ∷ n ∷ c ∷ f ∷ [])
@@ -129,8 +154,8 @@ module _ (a b s n c : ℕ) where
   row-8-present (suc f) g = row-test (8 ∷ a ∷ b ∷ s ∷ n ∷ c ∷ suc f ∷ []) _ (λ e. λ i. 8 ∷ a ∷ b ∷ s ∷ n ∷ c ∷ eqb-true (suc f) 1 e i ∷ []) (λ e. eq-eqb (suc f) 1 (word 6 e))
 
 -- an unknown kind
-pub row-not : (k a b s n c f : ℕ) → (k ≡ 0 → ⊥) → (k ≡ 1 → ⊥) → (k ≡ 2 → ⊥) → (k ≡ 3 → ⊥) → (k ≡ 4 → ⊥) → (k ≡ 5 → ⊥) → (k ≡ 6 → ⊥) → (k ≡ 7 → ⊥) → (k ≡ 8 → ⊥) → (k ≡ 9 → ⊥) → false ≡ is-row (k ∷ a ∷ b ∷ s ∷ n ∷ c ∷ f ∷ [])
+pub row-not : (k a b s n c f : ℕ) → (k ≡ 0 → ⊥) → (k ≡ 1 → ⊥) → (k ≡ 2 → ⊥) → (k ≡ 3 → ⊥) → (k ≡ 4 → ⊥) → (k ≡ 5 → ⊥) → (k ≡ 6 → ⊥) → (k ≡ 7 → ⊥) → (k ≡ 8 → ⊥) → (k ≡ 9 → ⊥) → (k ≡ 10 → ⊥) → false ≡ is-row (k ∷ a ∷ b ∷ s ∷ n ∷ c ∷ f ∷ [])
 unfolding words row row-of pick
-row-not k a b s n c f n0 n1 n2 n3 n4 n5 n6 n7 n8 n9 =
+row-not k a b s n c f n0 n1 n2 n3 n4 n5 n6 n7 n8 n9 n10 =
     not-test (k ∷ a ∷ b ∷ s ∷ n ∷ c ∷ f ∷ [])
-    (λ e. n0 (word 0 e ∙ simp (ne-eqb k 1 n1, ne-eqb k 2 n2, ne-eqb k 3 n3, ne-eqb k 4 n4, ne-eqb k 5 n5, ne-eqb k 6 n6, ne-eqb k 7 n7, ne-eqb k 8 n8, ne-eqb k 9 n9)))
+    (λ e. n0 (word 0 e ∙ simp (ne-eqb k 1 n1, ne-eqb k 2 n2, ne-eqb k 3 n3, ne-eqb k 4 n4, ne-eqb k 5 n5, ne-eqb k 6 n6, ne-eqb k 7 n7, ne-eqb k 8 n8, ne-eqb k 9 n9, ne-eqb k 10 n10)))

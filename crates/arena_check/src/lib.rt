@@ -1,4 +1,6 @@
 // Whether the slices lent have allowed lengths, and whether an arena is well formed.
+use bignum::magnitude_of;
+use definition::Bignum;
 use definition::Counts;
 use definition::Fault;
 use definition::Node;
@@ -9,8 +11,9 @@ ghost use Prim.Native.Nat.{_+_, _*_, _/_, _<_, _≤_};
 ghost use lib.Dec.{eqb};
 ghost use lib.ListN.{length, take, drop};
 ghost use Rattle.definition.specs.Node.{width, is-row, row-of, rows, vars};
+ghost use Rattle.definition.specs.Magnitude.{magnitude};
 ghost use Rattle.definition.specs.Run.{pick};
-ghost use Rattle.definition.specs.Arena.{Arena, Tables, too-long, bad-nodes, range, firsts, all-below, all-names, is-name, bytes-right, list-right, pairs-right, vars-right, row-right, node-right, faulty, counts-fit, fault};
+ghost use Rattle.definition.specs.Arena.{Arena, Tables, too-long, bad-nodes, range, firsts, all-below, all-names, is-name, bytes-right, list-right, pairs-right, vars-right, number-right, row-right, node-right, faulty, counts-fit, fault};
 ghost use Rattle.lists.specs.Slices.{Named, Small};
 ghost use Rattle.arena_check.specs.Held.{Held, checked, tables, Fits, FitIf, counted};
 
@@ -110,6 +113,13 @@ fn is_row_of(k: u32, a: u32, b: u32, s: u32, n: u32, c: u32, f: u32) -> bool
             }
         }
         Node::FLOAT => all_zero(0, 0, s, n, c, f),
+        Node::BIGNUM => {
+            if n <= 1 {
+                all_zero(0, 0, s, 0, c, f)
+            } else {
+                false
+            }
+        }
         _ => false,
     }
 }
@@ -218,7 +228,19 @@ fn vars_right_at(
     }
 }
 
-// The ranges, members and names of a row of kind k with words 1 to 6.
+// A Bignum's magnitude fits, and zero is plus.
+fn number_right_at(low: u32, high: u32, sign: u32) -> bool
+    ensures { λ r. ⌜ r ≡ number-right (magnitude low high) (eqb sign 1) ⌝ }
+{
+    let m = magnitude_of(low, high);
+    if m < Bignum::TOO_BIG {
+        if sign == 1 { m != 0 } else { true }
+    } else {
+        false
+    }
+}
+
+// The ranges, members and names, and a Bignum's number, of a row of kind k with words 1 to 6.
 fn row_right_at(
     nodes: &[u32],
     references: &[u32],
@@ -272,6 +294,7 @@ fn row_right_at(
             }
         }
         Node::FLOAT => bytes_right_at(stored, a, b),
+        Node::BIGNUM => number_right_at(a, b, n),
         _ => true,
     }
 }

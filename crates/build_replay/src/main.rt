@@ -2,7 +2,8 @@
 //
 // A case: its length in words, the function, the lengths of the three tables, the four counts, a number, the lengths
 // of a list and of a byte string; what is expected: the answer's number and two details, one number, four counts,
-// seven words; then the tables, the list, the byte string, and the tables as they are expected afterwards.
+// seven words; then the tables, the list, the byte string, and the tables as they are expected afterwards. Of a Bignum
+// the number is 1 for minus, and the list is its low and its high word.
 use definition::Counts;
 use definition::Created;
 use definition::Node;
@@ -21,6 +22,7 @@ use replay::same_counts;
 use replay::same_words;
 use replay::word;
 use value_arena::create_array;
+use value_arena::create_bignum;
 use value_arena::create_bool;
 use value_arena::create_fixnum;
 use value_arena::create_float;
@@ -204,6 +206,18 @@ fn creator_agrees(
             at,
             create_float(nodes, references, bytes, counts, &text[..]),
         ),
+        18 => {
+            if list.len() == 2 {
+                let low = list[0];
+                let high = list[1];
+                return created_agrees(
+                    &data[..],
+                    at,
+                    create_bignum(nodes, references, bytes, counts, x == 1, low, high),
+                );
+            }
+            false
+        }
         _ => false,
     }
 }

@@ -9,15 +9,17 @@ use lib.IntN.{ℤ}
 use lib.ListN.{length}
 use native.Mathlib.Omega.{arith}
 use Rattle.definition.specs.Run.{Run, Outcome, ok, refused, pure, next, _>>=_, look, pick}
-use Rattle.definition.specs.Node.{Row, nil, bool, fixnum, symbol, array, hash, object, string, user, float, absent}
+use Rattle.definition.specs.Node.{Row, nil, bool, fixnum, symbol, array, hash, object, string, user, float, bignum, absent}
+use Rattle.definition.specs.Magnitude.{sign, magnitude}
 use Rattle.definition.specs.Arena.{Tables, Arena, firsts, is-name, all-below, all-names, fault, bytes-right, row-right, vars-right, find-symbol}
-use Rattle.definition.specs.Build.{Lent, held, wrong, check, check-handles, byte-slice, member-slice, pair-slice, handle-checked, set-root, exchange-root, add, bits, create-nil, create-bool, create-fixnum, add-symbol, create-new-symbol, known-or-new, create-symbol, create-array, default-handle, create-hash, create-object, create-string, create-user-defined, create-float}
+use Rattle.definition.specs.Build.{Lent, held, wrong, check, check-handles, byte-slice, member-slice, pair-slice, handle-checked, set-root, exchange-root, add, bits, create-nil, create-bool, create-fixnum, add-symbol, create-new-symbol, known-or-new, create-symbol, create-array, default-handle, create-hash, create-object, create-string, create-user-defined, create-float, create-bignum}
 use Rattle.lists.specs.Joined.{yes-and, pick-true}
 use Rattle.lists.specs.Slices.{lowest-none, whole-pairs, tables-right}
 use Rattle.well_formed.specs.Right.{Fit, below-of, fault-fit}
+use Rattle.states.specs.Right.{sign-right, number-right-yes}
 use Rattle.builder_laws.specs.Grown.{grown, name-grown, bytes-added, list-added, pairs-added, default-added}
 use Rattle.builder_laws.specs.Append.{Room, appended}
-use Rattle.builder_laws.specs.Checks.{after-check, after-handles, after-names, after-add}
+use Rattle.builder_laws.specs.Checks.{after-check, after-handles, after-names, after-magnitude, after-add}
 
 -- ---- the calls
 
@@ -33,6 +35,7 @@ pub data Builder : Type 0 where
   make-string : List ℕ → Builder
   make-user-defined : ℕ → List ℕ → Builder
   make-float : List ℕ → Builder
+  make-bignum : Bool → ℕ → ℕ → Builder
   move-root : ℕ → Builder
 
 abbrev pub run : Builder → Run Lent ℕ
@@ -47,6 +50,7 @@ run (make-object c ps) = create-object c ps
 run (make-string bs) = create-string bs
 run (make-user-defined c bs) = create-user-defined c bs
 run (make-float bs) = create-float bs
+run (make-bignum minus low high) = create-bignum minus low high
 run (move-root h) = exchange-root h
 
 -- a call that makes a node
@@ -62,6 +66,7 @@ Makes (make-object c ps) = Unit {0}
 Makes (make-string bs) = Unit {0}
 Makes (make-user-defined c bs) = Unit {0}
 Makes (make-float bs) = Unit {0}
+Makes (make-bignum minus low high) = Unit {0}
 Makes (move-root h) = ⊥
 
 -- its byte string, its list, and its row where these start at b and r
@@ -77,6 +82,7 @@ made-bytes (make-object c ps) = []
 made-bytes (make-string bs) = bs
 made-bytes (make-user-defined c bs) = bs
 made-bytes (make-float bs) = bs
+made-bytes (make-bignum minus low high) = []
 made-bytes (move-root h) = []
 
 abbrev pub made-list : Builder → List ℕ
@@ -91,6 +97,7 @@ made-list (make-object c ps) = ps
 made-list (make-string bs) = []
 made-list (make-user-defined c bs) = []
 made-list (make-float bs) = []
+made-list (make-bignum minus low high) = []
 made-list (move-root h) = []
 
 abbrev pub made-row : Builder → ℕ → ℕ → Row
@@ -105,6 +112,7 @@ made-row (make-object c ps) b r = object r (length ps / 2) c
 made-row (make-string bs) b r = string b (length bs) absent
 made-row (make-user-defined c bs) b r = user b (length bs) c absent
 made-row (make-float bs) b r = float b (length bs)
+made-row (make-bignum minus low high) b r = bignum low high (sign minus (magnitude low high))
 made-row (move-root h) b r = nil
 
 -- a list of pairs has a whole number of them
@@ -120,6 +128,7 @@ Even (make-object c ps) = length ps ≡ length ps / 2 * 2
 Even (make-string bs) = Unit {0}
 Even (make-user-defined c bs) = Unit {0}
 Even (make-float bs) = Unit {0}
+Even (make-bignum minus low high) = Unit {0}
 Even (move-root h) = Unit {0}
 
 -- ---- a node added
@@ -302,6 +311,15 @@ module _ (L M : Lent) (h : ℕ) where
       let (w, s, e₁) = after-check (byte-slice bs ∷ []) _ L M h e in
       (s, added tt tt (text-added bs float (λ A b y. y) s e₁))
 
+  -- a magnitude that does not fit was refused, and zero is plus
+  did-bignum : (minus : Bool) (low high : ℕ) → create-bignum minus low high L ≡ ok h M → Result (make-bignum minus low high)
+  unfolding create-bignum row-right
+  did-bignum minus low high e =
+      let m = magnitude low high in
+      let (w, s, e₁) = after-check [] _ L M h e in
+      let (q, e₂) = after-magnitude m _ L M h e₁ in
+      (s, added tt tt (add-done [] [] (λ b r. bignum low high (sign minus m)) s (λ f. number-right-yes m (sign minus m) (sign-right m minus q)) e₂))
+
   did-root : (n : ℕ) → exchange-root n L ≡ ok h M → Result (move-root n)
   unfolding exchange-root handle-checked set-root
   did-root n e =
@@ -322,4 +340,5 @@ module _ (L M : Lent) (h : ℕ) where
   did (make-string bs) e = did-string bs e
   did (make-user-defined c bs) e = did-user c bs e
   did (make-float bs) e = did-float bs e
+  did (make-bignum minus low high) e = did-bignum minus low high e
   did (move-root n) e = did-root n e

@@ -11,10 +11,11 @@ use borrow.Author.Tests.{leb-true}
 use Rattle.definition.specs.Run.{Run, Outcome, ok, refused, pure, refuse, next, _>>=_, look, pick}
 use Rattle.definition.specs.Node.{Row}
 use Rattle.definition.specs.Arena.{is-name, all-below, all-names, allowed, fault, sound}
-use Rattle.definition.specs.Build.{Lent, held, wrong, check, check-handles, check-names, check-space, append, add}
+use Rattle.definition.specs.Magnitude.{fits}
+use Rattle.definition.specs.Build.{Lent, held, wrong, check, check-handles, check-names, check-magnitude, check-space, append, add}
 use Rattle.definition.specs.declared.Fault.{Fault}
 use Rattle.definition.specs.declared.Refusal.{Refusal}
-use Rattle.definition.specs.declared.Refusal.the-variants.{BadHandle, WrongKind, NoSpace}
+use Rattle.definition.specs.declared.Refusal.the-variants.{BadHandle, WrongKind, NoSpace, TooBig}
 use Rattle.lists.specs.Lists.{apart}
 use Rattle.builder_laws.specs.Append.{Room, appended}
 
@@ -56,6 +57,15 @@ after-names (h ∷ hs) k L M a e = go (is-name (held L) h) (after-names hs k L M
         → next (pick b (check-names hs) (refuse (WrongKind h)) L) k ≡ ok a M → (pick b (all-names (held L) hs) false ≡ true) × (k tt L ≡ ok a M)
     go true f e = f e
     go false f e = no-ok e
+
+-- the magnitude fits
+pub after-magnitude : {A : Type 0} (m : ℕ) (k : Unit {0} → Run Lent A) (L M : Lent) (a : A) → (check-magnitude m >>= k) L ≡ ok a M → (fits m ≡ true) × (k tt L ≡ ok a M)
+unfolding _>>=_ check-magnitude pure next pick refuse
+after-magnitude m k L M a e = go (fits m) refl e
+  where
+    go : (b : Bool) → fits m ≡ b → next (pick b (pure tt) (refuse (TooBig 4)) L) k ≡ ok a M → (fits m ≡ true) × (k tt L ≡ ok a M)
+    go true p e = (p, e)
+    go false p e = no-ok e
 
 -- there is room
 after-space : {A : Type 0} (bs ms : List ℕ) (k : Unit {0} → Run Lent A) (L M : Lent) (a : A) → L .counts .bytes ≤ length (L .tables .bytes) → L .counts .references ≤ length (L .tables .references)

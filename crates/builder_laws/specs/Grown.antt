@@ -1,13 +1,13 @@
 -- An arena with a node, its bytes and its list added at the ends: every node that was right is right, and reads the same.
 use Prim.Native.Nat.{ℕ, _+_, _*_, _≤_, _<_}
-use mathlib.Core.Path.{_≡_, ap, _∙_}
+use mathlib.Core.Path.{_≡_, ap, subst, _∙_}
 use mathlib.Core.Bool.{true}
 use mathlib.Core.List.{List, [], _∷_, _++_}
 use lib.Dec.{leb}
 use lib.ListN.{length, length-append}
 use native.Mathlib.Omega.{arith}
 use borrow.Author.Tests.{le-leb}
-use Rattle.definition.specs.Node.{Row, Vars, nil, bool, fixnum, symbol, array, hash, object, string, user, float, absent, present}
+use Rattle.definition.specs.Node.{Row, Vars, nil, bool, fixnum, symbol, array, hash, object, string, user, float, bignum, absent, present}
 use Rattle.definition.specs.Arena.{Arena, node, range, firsts, all-below, is-name, all-names, bytes-right, list-right, pairs-right, row-right}
 use Rattle.definition.specs.Graph.{header, vars-links, links}
 use Rattle.lists.specs.Joined.{yes-and}
@@ -47,6 +47,7 @@ module _ (A : Arena) where
   row-in (string s l v) h = record { bytes-inside = h .0; list-inside = vars-in v (h .1) }
   row-in (user s l c v) h = record { bytes-inside = h .0; list-inside = vars-in v (h .2) }
   row-in (float s l) h = record { bytes-inside = h; list-inside = omega arith }
+  row-in (bignum low high m) h = record { bytes-inside = omega arith; list-inside = omega arith }
 
   vars-names : (v : Vars) → VarsRight A v → (k c : ℕ) → At (firsts (vars-links A v)) k c → Name A c
   unfolding vars-links firsts
@@ -65,9 +66,10 @@ module _ (A : Arena) where
   names-in (string s l v) h k c a = vars-names v (h .1) k c a
   names-in (user s l c v) h k d a = names-first A c (firsts (vars-links A v)) (h .1) (vars-names v (h .2)) k d a
   names-in (float s l) h k c a = no-at k c a
+  names-in (bignum low high m) h k c a = no-at k c a
 
   pub right-in : (r : Row) → row-right A r ≡ true → RightIn A r
-  right-in r e = let h = right-of A r e in record { inside = row-in r h; below = links-below A r h; names = names-in r h }
+  right-in r e = let h = right-of A r e in record { inside = row-in r h; below = links-below A r h; names = names-in r h; number = λ low high m q. subst (RowRight A) q h }
 
 -- ---- what was there
 

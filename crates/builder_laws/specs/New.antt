@@ -7,6 +7,7 @@ use mathlib.Core.List.{List, [], _∷_, _++_}
 use lib.ListN.{length}
 use Rattle.definition.specs.Run.{ok, look, pure}
 use Rattle.definition.specs.Node.{symbol}
+use Rattle.definition.specs.Magnitude.{sign, magnitude}
 use Rattle.definition.specs.Arena.{Arena, node, range, fault, find-symbol}
 use Rattle.definition.specs.Build.{Lent, held, bits, byte-slice, known-or-new, create-symbol}
 use Rattle.definition.specs.Graph.{Header, header-of, default-present, vars-count, vars-present, header, vars-links, default-link, links}
@@ -16,7 +17,7 @@ use Rattle.well_formed.specs.Right.{fault-fit}
 use Rattle.builder_laws.specs.Grown.{grown, range-added, node-added}
 use Rattle.builder_laws.specs.Append.{held-appended}
 use Rattle.builder_laws.specs.Checks.{after-check}
-use Rattle.builder_laws.specs.Calls.{Builder, make-nil, make-bool, make-fixnum, make-new-symbol, make-symbol, make-array, make-hash, make-object, make-string, make-user-defined, make-float, move-root, run, Makes, Even, made-bytes, made-list, made-row, AddedBy, Did, added, known, moved, did}
+use Rattle.builder_laws.specs.Calls.{Builder, make-nil, make-bool, make-fixnum, make-new-symbol, make-symbol, make-array, make-hash, make-object, make-string, make-user-defined, make-float, make-bignum, move-root, run, Makes, Even, made-bytes, made-list, made-row, AddedBy, Did, added, known, moved, did}
 use Rattle.builder_laws.specs.Built.{known-row}
 
 -- what is asked for
@@ -33,6 +34,7 @@ made-header (make-object c ps) = header-of 6 0 [] (length ps / 2) false
 made-header (make-string bs) = header-of 7 0 bs 0 false
 made-header (make-user-defined c bs) = header-of 8 0 bs 0 false
 made-header (make-float bs) = header-of 9 0 bs 0 false
+made-header (make-bignum minus low high) = header-of 10 (magnitude low high) [] 0 (sign minus (magnitude low high))
 made-header (move-root h) = header-of 0 0 [] 0 false
 
 abbrev pub made-links : Builder → List ℕ
@@ -47,6 +49,7 @@ made-links (make-object c ps) = c ∷ ps
 made-links (make-string bs) = []
 made-links (make-user-defined c bs) = c ∷ []
 made-links (make-float bs) = []
+made-links (make-bignum minus low high) = []
 made-links (move-root h) = []
 
 -- ---- the row made, in the arena that holds its bytes and its list
@@ -75,6 +78,7 @@ module _ (A : Arena) (b r : ℕ) (p : length (A .bytes) ≡ b) (q : length (A .r
   made-header-is (make-string bs) m = ap (λ (x : List ℕ). header-of 7 0 x 0 false) (bytes-are bs)
   made-header-is (make-user-defined c bs) m = ap (λ (x : List ℕ). header-of 8 0 x 0 false) (bytes-are bs)
   made-header-is (make-float bs) m = ap (λ (x : List ℕ). header-of 9 0 x 0 false) (bytes-are bs)
+  made-header-is (make-bignum minus low high) m = refl
   made-header-is (move-root n) m = absurd m
 
   made-links-are : (c : Builder) → Makes c → Even c → links (G c) (made-row c b r) ≡ made-links c
@@ -90,6 +94,7 @@ module _ (A : Arena) (b r : ℕ) (p : length (A .bytes) ≡ b) (q : length (A .r
   made-links-are (make-string bs) m e = refl
   made-links-are (make-user-defined c bs) m e = refl
   made-links-are (make-float bs) m e = refl
+  made-links-are (make-bignum minus low high) m e = refl
   made-links-are (move-root n) m e = absurd m
 
 -- ---- the laws
@@ -121,6 +126,7 @@ Adds (make-object c ps) L = Unit {0}
 Adds (make-string bs) L = Unit {0}
 Adds (make-user-defined c bs) L = Unit {0}
 Adds (make-float bs) L = Unit {0}
+Adds (make-bignum minus low high) L = Unit {0}
 Adds (move-root n) L = ⊥
 
 module _ (L M : Lent) (h : ℕ) where

@@ -1,4 +1,4 @@
--- The arena: lent tables and counts, what they hold, and when they are well formed (01, "The arena"; 02, 2.1 and 2.3).
+-- The arena: lent tables and counts, what they hold, and when they are well formed (01, "The arena"; 02, 2.1, 2.3 and 2.4).
 use Prim.Native.Nat.{ℕ, zero, suc, _+_, _-_, _*_, _/_, _%_}
 use mathlib.Core.Bool.{Bool, true, false, not, _&&_, _||_}
 use mathlib.Core.List.{List, [], _∷_, _++_}
@@ -6,7 +6,8 @@ use mathlib.Core.Option.{Option, none, some}
 use lib.Dec.{ltb, leb, eqb}
 use lib.ListN.{length, getD, take, drop, replicate}
 use Rattle.definition.specs.Run.{Run, pure, refuse, pick}
-use Rattle.definition.specs.Node.{Row, Vars, nil, bool, fixnum, symbol, array, hash, object, string, user, float, absent, present, width, kind, row, rows, is-row, equal}
+use Rattle.definition.specs.Node.{Row, Vars, nil, bool, fixnum, symbol, array, hash, object, string, user, float, bignum, absent, present, width, kind, row, rows, is-row, equal}
+use Rattle.definition.specs.Magnitude.{fits, magnitude}
 use Rattle.definition.specs.declared.Counts.{Counts}
 use Rattle.definition.specs.declared.Fault.{Fault}
 use Rattle.definition.specs.declared.Fault.the-variants.{Counts as Bad-counts, Node}
@@ -79,6 +80,7 @@ name-of bytes (object s n c) = []
 name-of bytes (string s l v) = []
 name-of bytes (user s l c v) = []
 name-of bytes (float s l) = []
+name-of bytes (bignum low high m) = []
 
 -- the first of each pair
 unfoldable pub firsts : List ℕ → List ℕ
@@ -119,6 +121,10 @@ unfoldable pub vars-right : Arena → Vars → Bool
 vars-right A absent = true
 vars-right A (present start n) = pairs-right A start n
 
+-- a Bignum: "Magnitudes run to 2^63 − 1; zero is plus; a node that breaks either is BAD-ARENA"
+unfoldable pub number-right : ℕ → Bool → Bool
+number-right m minus = fits m && not (minus && eqb m 0)
+
 -- the ranges, members and names of a row, by its kind
 unfoldable pub row-right : Arena → Row → Bool
 row-right A nil = true
@@ -131,6 +137,7 @@ row-right A (object s n c) = is-name A c && pairs-right A s n
 row-right A (string s l v) = bytes-right A s l && vars-right A v
 row-right A (user s l c v) = bytes-right A s l && is-name A c && vars-right A v
 row-right A (float s l) = bytes-right A s l
+row-right A (bignum low high m) = number-right (magnitude low high) m
 
 -- "each word as above", ranges, members and names
 unfoldable pub node-right : Arena → List ℕ → Bool

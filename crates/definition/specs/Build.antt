@@ -1,4 +1,4 @@
--- The getters and the builder: the answer and all that is lent, as each call leaves it (01, "Builder and listing"; 02, 2.1).
+-- The getters and the builder: the answer and all that is lent, as each call leaves it (01, "Builder and listing"; 02, 2.1 and 2.4).
 use Prim.Native.Nat.{ℕ, zero, suc, _+_, _-_, _*_, _/_, _%_}
 use mathlib.Core.Bool.{Bool, not, _||_}
 use mathlib.Core.List.{List, [], _∷_, _++_}
@@ -8,7 +8,8 @@ use lib.IntN.{ℤ, pos, negsuc}
 use lib.ListN.{length, getD, take, drop, replicate}
 use lib.Seq.{sets}
 use Rattle.definition.specs.Run.{Run, Outcome, ok, refused, pure, refuse, _>>=_, look, pick}
-use Rattle.definition.specs.Node.{Row, nil, bool, fixnum, symbol, array, hash, object, string, user, float, absent, width, words}
+use Rattle.definition.specs.Node.{Row, nil, bool, fixnum, symbol, array, hash, object, string, user, float, bignum, absent, width, words}
+use Rattle.definition.specs.Magnitude.{fits, sign, magnitude}
 use Rattle.definition.specs.Arena.{Tables, Arena, arena, firsts, is-name, too-long, bad-nodes, lowest, allowed, fault, sound, zeroed, find-symbol}
 use Rattle.definition.specs.declared.Answer.the-variants.{Accepted, Refused}
 use Rattle.definition.specs.declared.Begun.{Begun}
@@ -16,7 +17,7 @@ use Rattle.definition.specs.declared.Counts.{Counts}
 use Rattle.definition.specs.declared.Created.{Created}
 use Rattle.definition.specs.declared.Name.{Name}
 use Rattle.definition.specs.declared.Number.{Number}
-use Rattle.definition.specs.declared.Refusal.the-variants.{BadTables, NoSpace, BadHandle, WrongKind}
+use Rattle.definition.specs.declared.Refusal.the-variants.{BadTables, NoSpace, BadHandle, WrongKind, TooBig}
 use Rattle.definition.specs.declared.Words.{Words}
 
 -- tables and counts, which a call may change
@@ -184,6 +185,14 @@ create-user-defined c bs = check (byte-slice bs ∷ []) >>= λ _. check-handles 
 -- `create_float`, in the manner of `create_string`
 unfoldable pub create-float : List ℕ → Run Lent ℕ
 create-float bs = check (byte-slice bs ∷ []) >>= λ _. add bs [] λ b r. float b (length bs)
+
+-- 16 for a magnitude that would need more than 2^63 − 1; its units are then 4
+unfoldable pub check-magnitude : ℕ → Run Lent (Unit {0})
+check-magnitude m = pick (fits m) (pure tt) (refuse (TooBig 4))
+
+-- `create_bignum`: a minus or not, the low and the high word; "zero is plus"
+unfoldable pub create-bignum : Bool → ℕ → ℕ → Run Lent ℕ
+create-bignum minus low high = check [] >>= λ _. check-magnitude (magnitude low high) >>= λ _. add [] [] λ b r. bignum low high (sign minus (magnitude low high))
 
 -- ---- the calls
 

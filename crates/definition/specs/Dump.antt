@@ -1,4 +1,4 @@
--- What dump answers and what it leaves in output and scratch (01, "dump"; 02, 2.1).
+-- What dump answers and what it leaves in output and scratch (01, "dump"; 02, 2.1 and 2.4).
 use Prim.Native.Nat.{ℕ, zero, suc, _+_, _-_, _*_, _/_}
 use mathlib.Core.Bool.{true, false, _||_}
 use mathlib.Core.List.{List, [], _∷_, _++_}
@@ -7,8 +7,9 @@ use lib.Dec.{ltb, leb, eqb}
 use lib.ListN.{length}
 use Rattle.definition.specs.Run.{Run, Outcome, ok, refused, pure, refuse, _>>=_, look, pick}
 use Rattle.definition.specs.Integer.{integer-bytes}
-use Rattle.definition.specs.Kind.{NIL, TRUE, FALSE, FIXNUM, SYMBOL, SYMBOL-LINK, OBJECT-LINK, INSTANCE-VARIABLES, ARRAY, HASH, HASH-DEFAULT, OBJECT, STRING, USER-DEFINED, FLOAT}
-use Rattle.definition.specs.Node.{Row, Vars, nil, bool, fixnum, symbol, array, hash, object, string, user, float, absent, present, width}
+use Rattle.definition.specs.Kind.{NIL, TRUE, FALSE, FIXNUM, SYMBOL, SYMBOL-LINK, OBJECT-LINK, INSTANCE-VARIABLES, ARRAY, HASH, HASH-DEFAULT, OBJECT, STRING, USER-DEFINED, FLOAT, BIGNUM}
+use Rattle.definition.specs.Node.{Row, Vars, nil, bool, fixnum, symbol, array, hash, object, string, user, float, bignum, absent, present, width}
+use Rattle.definition.specs.Magnitude.{magnitude, bignum-bytes}
 use Rattle.definition.specs.Arena.{Tables, Arena, arena, node, range, name-of, too-long, bad-nodes, lowest, allowed, fault, sound, padded, zeroed}
 use Rattle.definition.specs.declared.Answer.{Answer}
 use Rattle.definition.specs.declared.Answer.the-variants.{Accepted, Refused}
@@ -61,7 +62,7 @@ byte-string-bytes bs = integer-bytes (length bs) ++ bs
 unfoldable pub write-symbol : ℕ → ℕ → List ℕ → Writer
 write-symbol size h name = look λ s. link-or size SYMBOL-LINK (number-symbol h >> write size (SYMBOL ∷ byte-string-bytes name)) (number-in (s .symbols) h 0)
 
--- "Each of kinds 4 to 8", and 9, "gets the next object number before its contents"
+-- "Each of kinds 4 to 8", and 9 and 10, "gets the next object number before its contents"
 unfoldable pub write-object-or-link : ℕ → ℕ → Writer → Writer
 write-object-or-link size h first = look λ s. link-or size OBJECT-LINK (number-object h >> first) (number-in (s .objects) h 0)
 
@@ -113,6 +114,7 @@ module _ (size : ℕ) (A : Arena) where
   write-row level inner h (string s l v) = write-object-or-link size h (write-variables level inner (write size (STRING ∷ byte-string-bytes (range (A .bytes) s l))) v)
   write-row level inner h (user s l c v) = write-object-or-link size h (write-variables level inner (write size (USER-DEFINED ∷ []) >> write-name c >> write size (byte-string-bytes (range (A .bytes) s l))) v)
   write-row level inner h (float s l) = write-object-or-link size h (write size (FLOAT ∷ byte-string-bytes (range (A .bytes) s l)))
+  write-row level inner h (bignum low high m) = write-object-or-link size h (write size (BIGNUM ∷ bignum-bytes m (magnitude low high)))
 
 -- is a level left?
 unfoldable pub write-level : ℕ → ℕ → Writer

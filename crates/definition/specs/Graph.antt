@@ -1,14 +1,15 @@
--- When two arenas hold the same graph (01, "Same graph"; 02, 2.1).
+-- When two arenas hold the same graph (01, "Same graph"; 02, 2.1 and 2.4).
 use Prim.Native.Nat.{ℕ, zero, suc, _*_, _≤_}
 use mathlib.Core.Bool.{Bool, true, false}
 use mathlib.Core.List.{List, [], _∷_, _++_}
 use mathlib.Core.Option.{some}
 use mathlib.Core.Path.{_≡_}
 use lib.ListN.{getElem?}
-use Rattle.definition.specs.Node.{Row, Vars, nil, bool, fixnum, symbol, array, hash, object, string, user, float, absent, present, kind}
+use Rattle.definition.specs.Node.{Row, Vars, nil, bool, fixnum, symbol, array, hash, object, string, user, float, bignum, absent, present, kind}
+use Rattle.definition.specs.Magnitude.{magnitude}
 use Rattle.definition.specs.Arena.{Arena, node, range}
 
--- "kinds, bool and fixnum values, byte strings, counts and presence of defaults and variables"
+-- "kinds, bool and fixnum values, byte strings, counts and presence of defaults and variables"; "Values equal in sign and magnitude": of a Bignum the magnitude is the value, and a minus is present or not
 pub record Header : Type 0 where
   pub kind : ℕ
   pub value : ℕ
@@ -48,6 +49,7 @@ header A (object s n c) = header-of 6 0 [] n false
 header A (string s l v) = header-of 7 0 (range (A .bytes) s l) (vars-count v) (vars-present v)
 header A (user s l c v) = header-of 8 0 (range (A .bytes) s l) (vars-count v) (vars-present v)
 header A (float s l) = header-of 9 0 (range (A .bytes) s l) 0 false
+header A (bignum low high m) = header-of 10 (magnitude low high) [] 0 m
 
 -- "names, members in order and defaults"
 unfoldable pub vars-links : Arena → Vars → List ℕ
@@ -71,6 +73,7 @@ links A (object s n c) = c ∷ range (A .references) s (n * 2)
 links A (string s l v) = vars-links A v
 links A (user s l c v) = c ∷ vars-links A v
 links A (float s l) = []
+links A (bignum low high m) = []
 
 -- "Reachable are the root and each reachable node's name node, members (all nodes in its list) and default"
 pub data Reachable (A : Arena) : ℕ → Type 0 where
@@ -88,7 +91,7 @@ pub record Pairing (P Q : Arena) (R : ℕ → ℕ → Type 0) : Type 0 where
   pub roots : R (P .root) (Q .root)
   pub headers : (a b : ℕ) → R a b → header P (node P a) ≡ header Q (node Q b)
   pub members : (a b : ℕ) → R a b → Paired R (links P (node P a)) (links Q (node Q b))
-  -- "No node of kinds 3 to 8 has two partners"; "no Float has two partners"
+  -- "No node of kinds 3 to 8 has two partners"; "no Float has two partners"; Bignums: "each with one partner"
   pub left : (a b c : ℕ) → R a b → R a c → 3 ≤ kind (node P a) → b ≡ c
   pub right : (a b c : ℕ) → R a c → R b c → 3 ≤ kind (node Q c) → a ≡ b
 

@@ -1,4 +1,4 @@
--- The kind bytes, as the kind type's associated constants name them (01, "Value"; 02, 2.1).
+-- The kind bytes, as the kind type's associated constants name them (01, "Value"; 02, 2.1 and 2.4).
 use Prim.Native.Nat.{ℕ}
 
 -- `0` `T` `F` `i`
@@ -27,7 +27,7 @@ OBJECT-LINK = 0x40
 abbrev pub INSTANCE-VARIABLES : ℕ
 INSTANCE-VARIABLES = 0x49
 
--- `[` `{` `}` `o` `"` `u` `f`
+-- `[` `{` `}` `o` `"` `u` `f` `l`
 abbrev pub ARRAY : ℕ
 ARRAY = 0x5B
 
@@ -48,3 +48,13 @@ USER-DEFINED = 0x75
 
 abbrev pub FLOAT : ℕ
 FLOAT = 0x66
+
+abbrev pub BIGNUM : ℕ
+BIGNUM = 0x6C
+
+-- a Bignum's sign bytes: `+` `-`
+abbrev pub PLUS : ℕ
+PLUS = 0x2B
+
+abbrev pub MINUS : ℕ
+MINUS = 0x2D

@@ -2,6 +2,7 @@
 pub mod Run
 pub mod Refused
 pub mod Integer
+pub mod Magnitude
 pub mod Kind
 pub mod Node
 pub mod Arena
@@ -12,5 +13,6 @@ pub mod Build
 pub mod Graph
 pub mod Starred
 pub mod Floats
+pub mod Bignums
 pub mod DumpForm
 pub mod Measured

@@ -1,4 +1,4 @@
--- What load answers and what it leaves in the tables: a reader over growing lists (01, "load"; 02, 2.1 to 2.3).
+-- What load answers and what it leaves in the tables: a reader over growing lists (01, "load"; 02, 2.1 to 2.4).
 use Prim.Native.Nat.{ℕ, zero, suc, _+_, _-_, _*_, _/_}
 use mathlib.Core.Bool.{Bool, true, false, _&&_, _||_}
 use mathlib.Core.List.{List, [], _∷_, _++_}
@@ -7,15 +7,16 @@ use lib.Dec.{ltb, leb, eqb}
 use lib.ListN.{length, getD, set, replicate}
 use Rattle.definition.specs.Run.{Run, Outcome, ok, refused, pure, refuse, _>>=_, look, pick}
 use Rattle.definition.specs.Integer.{Form, value as form-value, data-bytes, form, little, integer-bytes}
-use Rattle.definition.specs.Kind.{NIL, TRUE, FALSE, FIXNUM, SYMBOL, SYMBOL-LINK, OBJECT-LINK, INSTANCE-VARIABLES, ARRAY, HASH, HASH-DEFAULT, OBJECT, STRING, USER-DEFINED, FLOAT}
-use Rattle.definition.specs.Node.{Row, nil, bool, fixnum, symbol, array, hash, object, string, user, float, absent, present, width, flat, equal}
+use Rattle.definition.specs.Kind.{NIL, TRUE, FALSE, FIXNUM, SYMBOL, SYMBOL-LINK, OBJECT-LINK, INSTANCE-VARIABLES, ARRAY, HASH, HASH-DEFAULT, OBJECT, STRING, USER-DEFINED, FLOAT, BIGNUM, PLUS, MINUS}
+use Rattle.definition.specs.Node.{Row, nil, bool, fixnum, symbol, array, hash, object, string, user, float, bignum, absent, present, width, flat, equal}
+use Rattle.definition.specs.Magnitude.{fits, sign, sign-byte, unit-bytes, bignum-row}
 use Rattle.definition.specs.Arena.{range, too-long, bad-nodes, lowest, padded, zeroed, find-symbol, compared-among}
 use Rattle.definition.specs.declared.Answer.the-variants.{Accepted, Refused}
 use Rattle.definition.specs.declared.Counts.{Counts}
 use Rattle.definition.specs.declared.Loaded.{Loaded}
 use Rattle.definition.specs.declared.Measured.{Measured}
 use Rattle.definition.specs.declared.Refusal.{Refusal}
-use Rattle.definition.specs.declared.Refusal.the-variants.{BadTables, InvalidVersion, ShortInput, InvalidKind, NegativeCount, MissingSymbol, MissingObject, NotASymbol, NotAnObject, TooDeep, NoSpace}
+use Rattle.definition.specs.declared.Refusal.the-variants.{BadTables, InvalidVersion, ShortInput, InvalidKind, NegativeCount, MissingSymbol, MissingObject, NotASymbol, NotAnObject, TooDeep, NoSpace, BadSign, TooBig}
 
 -- how many nodes, references, bytes and entries of the two lists there is room for
 pub record Room : Type 0 where
@@ -185,9 +186,9 @@ read-object-link input = read-count input >>= λ i. look λ s. entry (s .objects
 
 -- ---- values
 
--- the kind bytes: `0` `T` `F` `i` `:` `;` `@` `I` `[` `{` `}` `o` `"` `u` `f`
+-- the kind bytes: `0` `T` `F` `i` `:` `;` `@` `I` `[` `{` `}` `o` `"` `u` `f` `l`
 pub data Head : Type 0 where
-  Nil True False Fixnum Symbol SymbolLink ObjectLink InstanceVariables Array Hash HashDefault Object String UserDefined Float Unknown : Head
+  Nil True False Fixnum Symbol SymbolLink ObjectLink InstanceVariables Array Hash HashDefault Object String UserDefined Float Bignum Unknown : Head
 
 -- a kind byte's head
 unfoldable pub head : ℕ → Head
@@ -206,7 +207,8 @@ head k =
     (pick (eqb k OBJECT) Object
     (pick (eqb k STRING) String
     (pick (eqb k USER-DEFINED) UserDefined
-    (pick (eqb k FLOAT) Float Unknown))))))))))))))
+    (pick (eqb k FLOAT) Float
+    (pick (eqb k BIGNUM) Bignum Unknown)))))))))))))))
 
 -- "Symbol-like": `:` or `;`; "Another kind is 9"
 unfoldable pub read-symbol-like : List ℕ → Room → Reader ℕ
@@ -267,7 +269,27 @@ read-user-defined input room = read-symbol-like input room >>= λ c. read-text i
 unfoldable pub read-float : List ℕ → Room → Reader ℕ
 read-float input room = read-text input room float
 
--- "10 unless the value is string or user-defined. It replaces earlier variables"; "`I` on a Float is still NOT-AN-OBJECT"
+-- `l`: "sign byte `+` or `-`"; another is 15, "right after the sign is read"
+unfoldable pub read-sign : List ℕ → Reader ℕ
+read-sign input = read-byte input >>= λ b. pick (eqb b PLUS || eqb b MINUS) (pure b) (refuse (BadSign b))
+
+-- "an integer count of 16-bit units"; 16 "for a count over 4 before its units are read"
+unfoldable pub read-unit-count : List ℕ → Reader ℕ
+read-unit-count input = read-count input >>= λ n. pick (leb n 4) (pure n) (refuse (TooBig n))
+
+-- the node of a magnitude with its sign byte; "High zero units or a minus on zero count against dump form": dump writes this number with other units or another sign
+unfoldable pub add-bignum : Room → ℕ → List ℕ → ℕ → Reader ℕ
+add-bignum room b bs m = note (eqb b (sign-byte (sign (eqb b MINUS) m)) && equal bs (unit-bytes m)) >>= λ _. add-object-node room (bignum-row (eqb b MINUS) m)
+
+-- n units, "lowest first, low byte first"; 16 "for the magnitude once they are" read
+unfoldable pub read-magnitude : List ℕ → Room → ℕ → ℕ → Reader ℕ
+read-magnitude input room b n = read-bytes input (n * 2) >>= λ bs. pick (fits (little bs 0)) (add-bignum room b bs (little bs 0)) (refuse (TooBig n))
+
+-- `l`: "Like a Float, a Bignum takes an object number after its units"
+unfoldable pub read-bignum : List ℕ → Room → Reader ℕ
+read-bignum input room = read-sign input >>= λ b. read-unit-count input >>= read-magnitude input room b
+
+-- "10 unless the value is string or user-defined. It replaces earlier variables"; "`I` on a Float is still NOT-AN-OBJECT", and so on a Bignum
 unfoldable pub set-variables : ℕ → ℕ → ℕ → Row → Reader ℕ
 set-variables h start n (string s l v) = fill h (string s l (present start n))
 set-variables h start n (user s l c v) = fill h (user s l c (present start n))
@@ -279,6 +301,7 @@ set-variables h start n (array s m) = refuse NotAnObject
 set-variables h start n (hash s m d) = refuse NotAnObject
 set-variables h start n (object s m c) = refuse NotAnObject
 set-variables h start n (float s l) = refuse NotAnObject
+set-variables h start n (bignum low high m) = refuse NotAnObject
 
 -- dump writes `I` directly before `"` or `u`: "an `I` on `I` or on `@`" is not dump's, and on any other kind it is refused
 unfoldable pub takes-variables : ℕ → Bool
@@ -305,6 +328,7 @@ value-of input room inner k Object = read-object input room inner
 value-of input room inner k String = read-string input room
 value-of input room inner k UserDefined = read-user-defined input room
 value-of input room inner k Float = read-float input room
+value-of input room inner k Bignum = read-bignum input room
 value-of input room inner k Unknown = refuse (InvalidKind k)
 
 -- "A value reads its members and each member is again a value", by the levels still allowed; "The level is tested before the kind byte"

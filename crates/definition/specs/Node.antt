@@ -1,4 +1,4 @@
--- A node: its row, and the row as seven words (01, "The arena"; 02, 2.1).
+-- A node: its row, and the row as seven words (01, "The arena"; 02, 2.1 and 2.4).
 use Prim.Native.Nat.{ℕ, zero, suc, _+_}
 use mathlib.Core.Bool.{Bool, true, false}
 use mathlib.Core.List.{List, [], _∷_, _++_}
@@ -15,7 +15,7 @@ pub data Vars : Type 0 where
   absent : Vars
   present : ℕ → ℕ → Vars
 
--- a row for each kind: array start count, hash start pairs default, object start pairs name, string start length variables, user-defined start length name variables, float start length; a default is 0 for none, else node + 1
+-- a row for each kind: array start count, hash start pairs default, object start pairs name, string start length variables, user-defined start length name variables, float start length, bignum low high minus; a default is 0 for none, else node + 1
 pub data Row : Type 0 where
   nil : Row
   bool : Bool → Row
@@ -27,8 +27,9 @@ pub data Row : Type 0 where
   string : ℕ → ℕ → Vars → Row
   user : ℕ → ℕ → ℕ → Vars → Row
   float : ℕ → ℕ → Row
+  bignum : ℕ → ℕ → Bool → Row
 
--- "kind: 0 nil, 1 bool, 2 fixnum, 3 symbol, 4 array, 5 hash, 6 object, 7 string, 8 user-defined"; "a new node kind 9"
+-- "kind: 0 nil, 1 bool, 2 fixnum, 3 symbol, 4 array, 5 hash, 6 object, 7 string, 8 user-defined"; "a new node kind 9"; "The node is kind 10"
 unfoldable pub kind : Row → ℕ
 kind nil = 0
 kind (bool b) = 1
@@ -40,8 +41,9 @@ kind (object s n c) = 6
 kind (string s l v) = 7
 kind (user s l c v) = 8
 kind (float s l) = 9
+kind (bignum low high m) = 10
 
--- the seven words; "unused words are zero"
+-- the seven words; "unused words are zero"; a Bignum's are "the magnitude in words 1 (low) and 2 (high) and the sign in word 4, 1 for minus"
 unfoldable pub words : Row → List ℕ
 words nil = 0 ∷ 0 ∷ 0 ∷ 0 ∷ 0 ∷ 0 ∷ 0 ∷ []
 words (bool false) = 1 ∷ 0 ∷ 0 ∷ 0 ∷ 0 ∷ 0 ∷ 0 ∷ []
@@ -56,6 +58,8 @@ words (string s l (present p n)) = 7 ∷ s ∷ l ∷ p ∷ n ∷ 0 ∷ 1 ∷ []
 words (user s l c absent) = 8 ∷ s ∷ l ∷ 0 ∷ 0 ∷ c ∷ 0 ∷ []
 words (user s l c (present p n)) = 8 ∷ s ∷ l ∷ p ∷ n ∷ c ∷ 1 ∷ []
 words (float s l) = 9 ∷ s ∷ l ∷ 0 ∷ 0 ∷ 0 ∷ 0 ∷ []
+words (bignum low high false) = 10 ∷ low ∷ high ∷ 0 ∷ 0 ∷ 0 ∷ 0 ∷ []
+words (bignum low high true) = 10 ∷ low ∷ high ∷ 0 ∷ 1 ∷ 0 ∷ 0 ∷ []
 
 -- the rows' words, one row after the other
 unfoldable pub flat : List Row → List ℕ
@@ -80,7 +84,8 @@ row-of k a b s n c f =
     (pick (eqb k 6) (object s n c)
     (pick (eqb k 7) (string a b (vars f s n))
     (pick (eqb k 8) (user a b c (vars f s n))
-    (pick (eqb k 9) (float a b) nil))))))))
+    (pick (eqb k 9) (float a b)
+    (pick (eqb k 10) (bignum a b (eqb n 1)) nil)))))))))
 
 -- a node's words as a row
 unfoldable pub row : List ℕ → Row

@@ -10,6 +10,7 @@ use Rattle.definition.specs.Run.{Outcome, ok, refused, pure, refuse, nex
 use Rattle.definition.specs.Refused.{signed, place, numbers}
 use Rattle.definition.specs.Integer.{form, little, low-bytes, fewest, integer-bytes}
 use Rattle.definition.specs.Node as N
+use Rattle.definition.specs.Magnitude.{fits, sign, magnitude, bignum-row, fewest-units, sign-byte, unit-bytes, bignum-bytes}
 use Rattle.definition.specs.Arena as A
 use Rattle.definition.specs.Load as L
 use Rattle.definition.specs.Dump as D
@@ -52,7 +53,7 @@ lent : L.Lists
 lent = L.lists (replicate 35 9) (replicate 5 9) (replicate 5 9) (replicate 5 9) (replicate 5 9)
 
 dump-of : L.LoadCall → D.DumpCall
-unfolding D.dump-call D.dump-wrong D.dump-checked D.dump-done D.dump D.write-value D.write-level D.write-row D.hash-byte D.write-default D.write-variables D.write-instance-variables D.write-name D.write-pairs D.write-elements D.write-object-or-link D.write-symbol D.byte-string-bytes D.link-or D.number-in D.number-object D.number-symbol D.write D._>>_ A.allowed A.lowest A.bad-nodes A.too-long A.sound A.fault A.fault-if A.faulty A.counts-fit A.node-right A.row-right A.vars-right A.pairs-right A.list-right A.bytes-right A.all-names A.is-name A.all-below A.firsts A.name-of A.range A.node A.arena A.zeroed A.padded N.is-row N.equal N.rows N.row N.row-of N.vars N.words N.kind integer-bytes low-bytes fewest leadingZeros pure refuse next _>>=_ look pick
+unfolding D.dump-call D.dump-wrong D.dump-checked D.dump-done D.dump D.write-value D.write-level D.write-row D.hash-byte D.write-default D.write-variables D.write-instance-variables D.write-name D.write-pairs D.write-elements D.write-object-or-link D.write-symbol D.byte-string-bytes D.link-or D.number-in D.number-object D.number-symbol D.write D._>>_ A.allowed A.lowest A.bad-nodes A.too-long A.sound A.fault A.fault-if A.faulty A.counts-fit A.node-right A.row-right A.number-right A.vars-right A.pairs-right A.list-right A.bytes-right A.all-names A.is-name A.all-below A.firsts A.name-of A.range A.node A.arena A.zeroed A.padded N.is-row N.equal N.rows N.row N.row-of N.vars N.words N.kind fits sign magnitude fewest-units sign-byte unit-bytes bignum-bytes integer-bytes low-bytes fewest leadingZeros pure refuse next _>>=_ look pick
 dump-of c = D.dump-call (record { nodes = c .lent .nodes; references = c .lent .references; bytes = c .lent .bytes }) (c .answer .counts) (replicate 5 9) (replicate 20 9) 64
 
 result : L.LoadCall → Answer → Result
@@ -61,7 +62,7 @@ result c Accepted = dumped (take (c .answer .counts .nodes * N.width) (c .lent .
 result c (Refused r) = not-loaded (numbers r)
 
 call : List ℕ → L.LoadCall
-unfolding lent L.load-call L.load-if L.load-done L.load-wrong L.room-of L.load L.read-header L.read-value L.value-of L.read-variables L.set-variables L.read-float L.read-user-defined L.read-string L.read-text L.read-object L.read-hash L.read-default L.read-array L.read-fixnum L.read-instance-variables L.read-pairs L.read-elements L.counted L.read-symbol-like L.head L.read-object-link L.read-symbol-link L.entry L.read-symbol L.intern L.intern-as L.put-reference L.fill L.add-object-node L.add-object L.add-symbol L.add-bytes L.reserve L.add-node L.read-byte-string L.read-count L.read-integer L.read-form L.tell L.read-bytes L.read-byte L.takes-variables L.compare L.note A.compared-among A.compared-with A.bytes-compared A.find-symbol A.named A.name-of A.lowest A.bad-nodes A.too-long A.range A.zeroed A.padded N.equal N.flat N.words N.kind form little integer-bytes low-bytes fewest leadingZeros pure refuse next _>>=_ look pick
+unfolding lent L.load-call L.load-if L.load-done L.load-wrong L.room-of L.load L.read-header L.read-value L.value-of L.read-variables L.set-variables L.read-bignum L.read-magnitude L.add-bignum L.read-unit-count L.read-sign L.read-float L.read-user-defined L.read-string L.read-text L.read-object L.read-hash L.read-default L.read-array L.read-fixnum L.read-instance-variables L.read-pairs L.read-elements L.counted L.read-symbol-like L.head L.read-object-link L.read-symbol-link L.entry L.read-symbol L.intern L.intern-as L.put-reference L.fill L.add-object-node L.add-object L.add-symbol L.add-bytes L.reserve L.add-node L.read-byte-string L.read-count L.read-integer L.read-form L.tell L.read-bytes L.read-byte L.takes-variables L.compare L.note A.compared-among A.compared-with A.bytes-compared A.find-symbol A.named A.name-of A.lowest A.bad-nodes A.too-long A.range A.zeroed A.padded N.equal N.flat N.words N.kind fits sign bignum-row fewest-units sign-byte unit-bytes form little integer-bytes low-bytes fewest leadingZeros pure refuse next _>>=_ look pick
 call input = L.load-call input lent 64
 
 unfoldable pub load-and-dump : List ℕ → Result

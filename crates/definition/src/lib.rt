@@ -12,6 +12,7 @@ pub enum ValueKind {
     String,
     UserDefined,
     Float,
+    Bignum,
 }
 
 // The kind bytes, named once for loader and dumper.
@@ -45,6 +46,21 @@ impl ValueKind {
     pub const USER_DEFINED: u8 = b'u';
 
     pub const FLOAT: u8 = b'f';
+
+    pub const BIGNUM: u8 = b'l';
+}
+
+// A Bignum's sign bytes, the most units that it may have, and the least magnitude that is too great.
+pub struct Bignum {}
+
+impl Bignum {
+    pub const PLUS: u8 = b'+';
+
+    pub const MINUS: u8 = b'-';
+
+    pub const UNITS: u64 = 4;
+
+    pub const TOO_BIG: u64 = 9223372036854775808;
 }
 
 // A node's words: how many there are, their places, and the kinds' numbers in word 0, where a node begins. A word that a kind
@@ -65,6 +81,13 @@ impl Node {
     pub const LIST: usize = 3;
 
     pub const COUNT: usize = 4;
+
+    // a Bignum's magnitude, its low and its high word, and its sign, 1 for minus
+    pub const LOW: usize = 1;
+
+    pub const HIGH: usize = 2;
+
+    pub const SIGN: usize = 4;
 
     // the name's node
     pub const NAME: usize = 5;
@@ -94,6 +117,8 @@ impl Node {
     pub const USER_DEFINED: u32 = 8;
 
     pub const FLOAT: u32 = 9;
+
+    pub const BIGNUM: u32 = 10;
 }
 
 // What is not well formed: the counts, or this node.
@@ -102,7 +127,7 @@ pub enum Fault {
     Node(u32),
 }
 
-// Why a call is refused, in the order of document 01's numbers 1 to 14.
+// Why a call is refused, in the order of the numbers 1 to 16 of documents 01 and 02.
 pub enum Refusal {
     BadTables(u32),
     BadArena(Fault),
@@ -119,6 +144,8 @@ pub enum Refusal {
     NoSpace(u32),
     BadHandle(u32),
     WrongKind(u32),
+    BadSign(u8),
+    TooBig(u32),
 }
 
 pub enum Answer {

@@ -11,8 +11,9 @@ use native.Mathlib.Decide.{ℕ-discrete}
 use borrow.Author.Tests.{eq-eqb, ne-eqb}
 use Rattle.definition.specs.Run.{Outcome, ok, refused, pure, refuse, next, _>>=_, look, pick}
 use Rattle.definition.specs.Integer.{integer-bytes}
-use Rattle.definition.specs.Kind.{SYMBOL, SYMBOL-LINK, OBJECT-LINK, STRING, USER-DEFINED, FLOAT}
-use Rattle.definition.specs.Node.{Row, nil, bool, fixnum, symbol, array, hash, object, string, user, absent, present}
+use Rattle.definition.specs.Kind.{SYMBOL, SYMBOL-LINK, OBJECT-LINK, STRING, USER-DEFINED, FLOAT, BIGNUM}
+use Rattle.definition.specs.Node.{Row, nil, bool, fixnum, symbol, array, hash, object, string, user, bignum, absent, present}
+use Rattle.definition.specs.Magnitude.{magnitude, bignum-bytes}
 use Rattle.definition.specs.Arena.{Arena, node, range, name-of, firsts}
 use Rattle.definition.specs.Graph.{header-of, SameGraph}
 use Rattle.definition.specs.Dump.{Written, Writer, _>>_, write, number-symbol, number-object, number-in, link-or, byte-string-bytes, write-symbol, write-object-or-link, write-elements, write-pairs, write-name, write-instance-variables, write-variables, write-default, hash-byte, write-row, write-level, write-value, dump}
@@ -25,7 +26,7 @@ use Rattle.graph.specs.Describe as Describe
 use Rattle.graph.specs.View.{see, text-row, seen, see-at, at-see}
 use Rattle.well_formed.specs.Nodes.{at-node, Name}
 use Rattle.well_formed.specs.Right.{Right, RowRight, Names}
-use Rattle.dump_forest.specs.Shown.{Shown, nil-shown, false-shown, true-shown, fixnum-shown, symbol-shown, array-shown, hash-shown, default-shown, object-shown, string-shown, string-vars-shown, user-shown, user-vars-shown, float-shown, shown-at, name-shown}
+use Rattle.dump_forest.specs.Shown.{Shown, nil-shown, false-shown, true-shown, fixnum-shown, symbol-shown, array-shown, hash-shown, default-shown, object-shown, string-shown, string-vars-shown, user-shown, user-vars-shown, float-shown, bignum-shown, shown-at, name-shown}
 use Rattle.dump_forest.specs.Same.{graph-of, same-pairing}
 
 pw-snoc-inv : (R : ℕ → ℕ → Type 0) (l m : List ℕ) (x y : ℕ) → PW R (l ++ (x ∷ [])) (m ++ (y ∷ [])) → PW R l m × R x y
@@ -91,7 +92,7 @@ module _ (size : ℕ) (P Q : Arena) (R : ℕ → ℕ → Type 0) (π : Describe.
 
   -- ---- numbers
 
-  -- paired nodes, both of kinds 3 to 9
+  -- paired nodes, both of kinds 3 to 10
   record Keys (v w : ℕ) : Type 0 where
     paired : R v w
     left-node : Node
@@ -254,6 +255,11 @@ module _ (size : ℕ) (P Q : Arena) (R : ℕ → ℕ → Type 0) (π : Describe.
       twin-text text-string s l b ns e string-shown k = twin-object-or-link v w k (twin-byte-string STRING e)
       twin-text text-float s l b ns e float-shown k = twin-object-or-link v w k (twin-byte-string FLOAT e)
 
+      -- the same magnitude, whatever its words
+      twin-bignum : (low high n : ℕ) (m : Bool) (ns : List ℕ) {q : Row} → magnitude low high ≡ n → Shown Q q (box (header-of 10 n [] 0 m) ns) → Keys v w → Rows (bignum low high m) q
+      unfolding write-row
+      twin-bignum low high n m ns e bignum-shown k = twin-object-or-link v w k (twin-bytes _ _ (ap (λ (x : ℕ). BIGNUM ∷ bignum-bytes m x) e))
+
       twin-string-vars : (s l p n : ℕ) (b ns : List ℕ) {q : Row} → range (P .bytes) s l ≡ b → PW R (range (P .references) p (n * 2)) ns → Shown Q q (box (header-of 7 0 b n true) ns)
           → Names P (range (P .references) p (n * 2)) → Keys v w → Rows (string s l (present p n)) q
       unfolding write-row
@@ -291,6 +297,7 @@ module _ (size : ℕ) (P Q : Arena) (R : ℕ → ℕ → Type 0) (π : Describe.
       twin-row {q = q} (user-shown {s = s} {l = l} {c = c}) b (ns, e, p) h r x y = twin-user s l c _ ns refl p (subst (Shown Q q) e b) (h .1) (box-keys _ _ ns r x (y ∙ ap some e))
       twin-row {q = q} (user-vars-shown {s = s} {l = l} {c = c} {p = p₀} {n = n}) b (ns, e, p) h r x y = twin-user-vars s l c p₀ n _ ns refl p (subst (Shown Q q) e b) (h .1) (h .2 .names) (box-keys _ _ ns r x (y ∙ ap some e))
       twin-row {q = q} (float-shown {s = s} {l = l}) b (ns, e, p) h r x y = twin-text text-float s l _ ns refl (subst (Shown Q q) e b) (box-keys _ _ ns r x (y ∙ ap some e))
+      twin-row {q = q} (bignum-shown {low = low} {high = high} {m = m}) b (ns, e, p) h r x y = twin-bignum low high _ m ns refl (subst (Shown Q q) e b) (box-keys _ _ ns r x (y ∙ ap some e))
 
   -- ---- values
 

@@ -2,24 +2,25 @@
 use Prim.Native.Nat.{ℕ, zero, suc, _+_, _*_, _≤_}
 use mathlib.Core.Path.{_≡_, refl, ap, subst}
 use mathlib.Core.Path.{sym as psym, _∙_}
-use mathlib.Core.Bool.{true, false}
+use mathlib.Core.Bool.{Bool, true, false}
 use mathlib.Core.List.{List, [], _∷_, _++_, append-assoc, append-nil}
 use lib.ListN.{length, length-append}
 use native.Mathlib.Omega.{arith}
 use native.Mathlib.Decide.{decLe}
 use Rattle.definition.specs.Run.{ok, pure, look}
 use Rattle.definition.specs.Integer.{integer-bytes}
-use Rattle.definition.specs.Kind.{NIL, TRUE, FALSE, FIXNUM, SYMBOL, SYMBOL-LINK, OBJECT-LINK, INSTANCE-VARIABLES, ARRAY, HASH, HASH-DEFAULT, OBJECT, STRING, USER-DEFINED}
+use Rattle.definition.specs.Kind.{NIL, TRUE, FALSE, FIXNUM, SYMBOL, SYMBOL-LINK, OBJECT-LINK, INSTANCE-VARIABLES, ARRAY, HASH, HASH-DEFAULT, OBJECT, STRING, USER-DEFINED, BIGNUM}
 use Rattle.definition.specs.Node.{Row, present}
+use Rattle.definition.specs.Magnitude.{bignum-bytes}
 use Rattle.definition.specs.Arena.{Arena, node, range, name-of}
 use Rattle.definition.specs.Graph.{Header, header-of, default-link}
 use Rattle.definition.specs.Dump.{Writer, _>>_, write, number-symbol, number-object, link-or, byte-string-bytes, write-symbol, write-object-or-link, write-elements, write-pairs, write-name, write-instance-variables, write-variables, write-default, hash-byte, write-row, write-level, write-value, dump}
 use Rattle.lists.specs.Lists.{At, NotIn, Distinct, distinct-snoc}
-use Rattle.graph.specs.Forest.{leaf, sym, box, Num, addO, addS, fresh, F, Mode, values, pairs, value-pairs, name, name-pairs, after, IsValue, Text, tEnd, tEndPairs, tName, tNameLink, tOneName, tOneLink, tClass, tClassLink, tNil, tFalse, tTrue, tFixnum, tSymbol, tSymbolLink, tObjectLink, tArray, tHash, tHashDefault, tObject, Texted, text-string, text-float, tText, tStringVars, tUser, tUserVars}
+use Rattle.graph.specs.Forest.{leaf, sym, box, Num, addO, addS, fresh, F, Mode, values, pairs, value-pairs, name, name-pairs, after, IsValue, Text, tEnd, tEndPairs, tName, tNameLink, tOneName, tOneLink, tClass, tClassLink, tNil, tFalse, tTrue, tFixnum, tSymbol, tSymbolLink, tObjectLink, tArray, tHash, tHashDefault, tObject, Texted, text-string, text-float, tText, tBignum, tStringVars, tUser, tUserVars}
 use Rattle.graph.specs.Describe.{Dist, no-dist, E, eEnd, eLeaf, eBox, eRef, eSym, eSymref, e-dist}
 use Rattle.graph.specs.View.{seen}
 use Rattle.dump_forest.specs.Writers.{written, un-then, then-ok, write-ok, at-number, notin-number, part-default}
-use Rattle.dump_forest.specs.Shown.{Shown, shown-at, name-shown, nil-shown, false-shown, true-shown, fixnum-shown, symbol-shown, array-shown, hash-shown, default-shown, object-shown, string-shown, string-vars-shown, user-shown, user-vars-shown, float-shown}
+use Rattle.dump_forest.specs.Shown.{Shown, shown-at, name-shown, nil-shown, false-shown, true-shown, fixnum-shown, symbol-shown, array-shown, hash-shown, default-shown, object-shown, string-shown, string-vars-shown, user-shown, user-vars-shown, float-shown, bignum-shown}
 
 -- the writer writes x where there is room for it, and numbers what σ′ has more than σ
 pub record Writes (size : ℕ) (m : Writer) (σ : Num) (x : List ℕ) (σ′ : Num) : Type 0 where
@@ -182,6 +183,7 @@ module _ (size : ℕ) (A : Arena) where
       put-object-link user-shown k d a = object-again size σ v k _ d a
       put-object-link user-vars-shown k d a = object-again size σ v k _ d a
       put-object-link float-shown k d a = object-again size σ v k _ d a
+      put-object-link bignum-shown k d a = object-again size σ v k _ d a
 
       put-array : {r : Row} {n : ℕ} {ms : List ℕ} → Shown A r (box (header-of 4 0 [] n false) ms) → (y : List ℕ) (σ₂ : Num) → NotIn v (σ .objs)
           → Writes size (write-elements inner ms) (addO v σ) y σ₂ → Row-writes r (ARRAY ∷ integer-bytes n ++ y) σ₂
@@ -220,6 +222,10 @@ module _ (size : ℕ) (A : Arena) where
       unfolding write-row write-variables
       put-text text-string string-shown ni = object-new size ni (bytes-writes size (addO v σ) _)
       put-text text-float float-shown ni = object-new size ni (bytes-writes size (addO v σ) _)
+
+      put-bignum : {r : Row} {n : ℕ} {minus : Bool} {ms : List ℕ} → Shown A r (box (header-of 10 n [] 0 minus) ms) → NotIn v (σ .objs) → Row-writes r (BIGNUM ∷ bignum-bytes minus n) (addO v σ)
+      unfolding write-row
+      put-bignum bignum-shown ni = object-new size ni (bytes-writes size (addO v σ) _)
 
       -- the level, the contents, then the variables
       put-variables : (body : Writer) (p n : ℕ) (τ τ₁ τ₂ : Num) (x y : List ℕ) → Writes size level τ [] τ → Writes size body τ x τ₁
@@ -323,6 +329,8 @@ module _ (size : ℕ) (A : Arena) (limit : ℕ) where
       step m l v ws i (put-object size A (value l) _ v σ (shown-at A v _ a) y σ₂ n (complete t d₁ (dist-o h n))) (complete t₁ d (e-dist d₁ (dist-o h n)))
   complete {m = m} {σ = σ} (tText {l = l} q i t) (eBox {v = v} {ws = ws} a eEnd n eEnd d) h =
       step m l v ws i (put-text size A (value l) _ v σ q (shown-at A v _ a) n) (complete t d (dist-o h n))
+  complete {m = m} {σ = σ} (tBignum {l = l} i q t) (eBox {v = v} {ws = ws} a eEnd n eEnd d) h =
+      step m l v ws i (put-bignum size A (value l) _ v σ (shown-at A v _ a) n) (complete t d (dist-o h n))
   complete {m = m} {σ = σ} (tStringVars {l = l} {y = y} i t t₁) (eBox {v = v} {ws = ws} {σ₂ = σ₂} a eEnd n d₁ d) h =
       step m (suc l) v ws i (put-string-vars size A (value (suc l)) _ v σ (shown-at A v _ a) y σ₂ n (level-left size limit l (addO v σ)) (complete t d₁ (dist-o h n))) (complete t₁ d (e-dist d₁ (dist-o h n)))
   complete {m = m} {σ = σ} (tUser {l = l} i t₀ t₁) (eBox {v = v} {ws = ws} a d₀ n eEnd d) h =
@@ -368,6 +376,7 @@ text-suc (tHash i q t t₁) = tHash i q (text-suc t) (text-suc t₁)
 text-suc (tHashDefault i q t t₁) = tHashDefault i q (text-suc t) (text-suc t₁)
 text-suc (tObject i t t₁) = tObject i (text-suc t) (text-suc t₁)
 text-suc (tText q i t) = tText q i (text-suc t)
+text-suc (tBignum i q t) = tBignum i q (text-suc t)
 text-suc (tStringVars i t t₁) = tStringVars i (text-suc t) (text-suc t₁)
 text-suc (tUser i t₀ t₁) = tUser i (text-suc t₀) (text-suc t₁)
 text-suc (tUserVars i t₀ t t₁) = tUserVars i (text-suc t₀) (text-suc t) (text-suc t₁)

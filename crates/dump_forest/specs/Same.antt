@@ -7,7 +7,7 @@ use mathlib.Core.Option.{none}
 use mathlib.Core.List.{List, [], _∷_}
 use lib.ListN.{length}
 use native.Mathlib.Omega.{arith}
-use Rattle.definition.specs.Node.{Row, nil, bool, fixnum, symbol, array, hash, object, string, user, float, kind}
+use Rattle.definition.specs.Node.{Row, nil, bool, fixnum, symbol, array, hash, object, string, user, float, bignum, kind}
 use Rattle.definition.specs.Arena.{Arena, node}
 use Rattle.definition.specs.Graph.{Header, header-of, header, links, Reachable, root, link, Paired, none, one, Pairing, SameGraph}
 use Rattle.lists.specs.Lists.{At, PW}
@@ -40,6 +40,7 @@ header-kind A (object s n c) = refl
 header-kind A (string s l v) = refl
 header-kind A (user s l c v) = refl
 header-kind A (float s l) = refl
+header-kind A (bignum low high m) = refl
 
 -- paired nodes have one kind
 pair-kind : (P Q : Arena) (a b : ℕ) → header P (node P a) ≡ header Q (node Q b) → kind (node P a) ≡ kind (node Q b)
@@ -128,6 +129,7 @@ see-node-of A (object s n c) = refl
 see-node-of A (string s l v) = refl
 see-node-of A (user s l c v) = refl
 see-node-of A (float s l) = refl
+see-node-of A (bignum low high m) = refl
 
 abbrev node-header : Node → Header
 node-header (leaf k x) = header-of k x [] 0 false
@@ -152,6 +154,7 @@ see-header A (object s n c) = refl
 see-header A (string s l v) = refl
 see-header A (user s l c v) = refl
 see-header A (float s l) = refl
+see-header A (bignum low high m) = refl
 
 see-links : (A : Arena) (r : Row) → links A r ≡ node-links (see A r)
 unfolding see links
@@ -166,6 +169,7 @@ see-links A (object s n c) = refl
 see-links A (string s l v) = refl
 see-links A (user s l c v) = refl
 see-links A (float s l) = refl
+see-links A (bignum low high m) = refl
 
 see-key : (A : Arena) (r : Row) → 3 ≤ kind r → Key (see A r)
 unfolding see kind
@@ -180,6 +184,7 @@ see-key A (object s n c) h = tt
 see-key A (string s l v) h = tt
 see-key A (user s l c v) h = tt
 see-key A (float s l) h = tt
+see-key A (bignum low high m) h = tt
 
 key-kind : (A : Arena) (r : Row) → Key (see A r) → 3 ≤ kind r
 unfolding see kind
@@ -194,6 +199,7 @@ key-kind A (object s n c) h = omega arith
 key-kind A (string s l v) h = omega arith
 key-kind A (user s l c v) h = omega arith
 key-kind A (float s l) h = omega arith
+key-kind A (bignum low high m) h = omega arith
 
 -- ---- a pairing of nodes
 

@@ -1,9 +1,10 @@
 -- A row by the node that is seen of it.
 use Prim.Native.Nat.{ℕ, zero, suc, _*_}
 use mathlib.Core.Path.{_≡_, refl, subst}
-use mathlib.Core.Bool.{true, false}
+use mathlib.Core.Bool.{Bool, true, false}
 use mathlib.Core.List.{List, [], _∷_, _++_}
-use Rattle.definition.specs.Node.{Row, nil, bool, fixnum, symbol, array, hash, object, string, user, float, absent, present}
+use Rattle.definition.specs.Node.{Row, nil, bool, fixnum, symbol, array, hash, object, string, user, float, bignum, absent, present}
+use Rattle.definition.specs.Magnitude.{magnitude}
 use Rattle.definition.specs.Arena.{Arena, node, range, name-of}
 use Rattle.definition.specs.Graph.{header-of, header, links, vars-links, vars-count, vars-present, default-link, default-present}
 use Rattle.lists.specs.Lists.{At}
@@ -25,6 +26,7 @@ pub data Shown (A : Arena) : Row → Node → Type 0 where
   user-shown : {s l c : ℕ} → Shown A (user s l c absent) (box (header-of 8 0 (range (A .bytes) s l) 0 false) (c ∷ []))
   user-vars-shown : {s l c p n : ℕ} → Shown A (user s l c (present p n)) (box (header-of 8 0 (range (A .bytes) s l) n true) (c ∷ range (A .references) p (n * 2)))
   float-shown : {s l : ℕ} → Shown A (float s l) (box (header-of 9 0 (range (A .bytes) s l) 0 false) [])
+  bignum-shown : {low high : ℕ} {m : Bool} → Shown A (bignum low high m) (box (header-of 10 (magnitude low high) [] 0 m) [])
 
 pub shown : (A : Arena) (r : Row) → Shown A r (see A r)
 unfolding see header links vars-links vars-count vars-present default-link default-present
@@ -42,6 +44,7 @@ shown A (string s l (present p n)) = string-vars-shown
 shown A (user s l c absent) = user-shown
 shown A (user s l c (present p n)) = user-vars-shown
 shown A (float s l) = float-shown
+shown A (bignum low high m) = bignum-shown
 
 pub shown-at : (A : Arena) (v : ℕ) (n : Node) → At (seen A) v n → Shown A (node A v) n
 shown-at A v n a = subst (Shown A (node A v)) (at-see A v n a .0) (shown A (node A v))

@@ -9,18 +9,19 @@ use lib.ListN.{length, length-append}
 use native.Mathlib.Omega.{arith}
 use Rattle.definition.specs.Run.{ok, pure, refuse, look}
 use Rattle.definition.specs.Integer.{integer-bytes}
-use Rattle.definition.specs.Kind.{NIL, TRUE, FALSE, FIXNUM, SYMBOL, SYMBOL-LINK, OBJECT-LINK, INSTANCE-VARIABLES, ARRAY, OBJECT, STRING, USER-DEFINED}
-use Rattle.definition.specs.Node.{Row, nil, bool, fixnum, symbol, array, hash, object, string, user, float, absent, present}
+use Rattle.definition.specs.Kind.{NIL, TRUE, FALSE, FIXNUM, SYMBOL, SYMBOL-LINK, OBJECT-LINK, INSTANCE-VARIABLES, ARRAY, OBJECT, STRING, USER-DEFINED, BIGNUM}
+use Rattle.definition.specs.Node.{Row, nil, bool, fixnum, symbol, array, hash, object, string, user, float, bignum, absent, present}
+use Rattle.definition.specs.Magnitude.{magnitude, bignum-bytes}
 use Rattle.definition.specs.Arena.{Arena, node, range, name-of, firsts}
 use Rattle.definition.specs.Graph.{Header, header-of, header, links, vars-links, vars-count, vars-present, default-link, default-present}
 use Rattle.definition.specs.Dump.{Written, Writer, _>>_, write, number-symbol, number-object, number-in, link-or, byte-string-bytes, write-symbol, write-object-or-link, write-elements, write-pairs, write-name, write-instance-variables, write-variables, write-default, hash-byte, write-row, write-level, write-value, dump}
 use Rattle.lists.specs.Lists.{At, NotIn, apart, Below, below-join}
 use Rattle.lists.specs.Ranges.{length-range}
-use Rattle.graph.specs.Forest.{Node, leaf, sym, box, Num, fresh, F, fEnd, fLeaf, fBox, fRef, trees, Mode, values, pairs, value-pairs, after, IsValue, Text, tEnd, tEndPairs, tNil, tFalse, tTrue, tFixnum, tObjectLink, tArray, tHash, tHashDefault, tObject, Texted, text-string, text-float, tText, tStringVars, tUser, tUserVars}
+use Rattle.graph.specs.Forest.{Node, leaf, sym, box, Num, fresh, F, fEnd, fLeaf, fBox, fRef, trees, Mode, values, pairs, value-pairs, after, IsValue, Text, tEnd, tEndPairs, tNil, tFalse, tTrue, tFixnum, tObjectLink, tArray, tHash, tHashDefault, tObject, Texted, text-string, text-float, tText, tBignum, tStringVars, tUser, tUserVars}
 use Rattle.graph.specs.Describe.{E, eEnd, eLeaf, eBox, eRef, eSym, eSymref, e-len}
 use Rattle.graph.specs.View.{see, text-row, see-text, seen, see-at}
 use Rattle.well_formed.specs.Nodes.{node-at, at-node, Name}
-use Rattle.well_formed.specs.Right.{Right, RowRight, Names, ListIn, PairsIn, Fixnums, default-below}
+use Rattle.well_formed.specs.Right.{Right, RowRight, Names, ListIn, PairsIn, NumberRight, Fixnums, default-below}
 use Rattle.dump_forest.specs.Writers.{num, put, ok-inj, un-then, pure-inv, Wrote, wrote-nothing, wrote-then, write-inv, un-write, number-some, number-none, Item, new, again, item-bytes, item, item-name, item-one, item-class, item-value, join-default}
 
 module _ (size : ℕ) (t : List Node) where
@@ -75,7 +76,7 @@ module _ (size : ℕ) (t : List Node) where
           let (p, w) = write-inv size _ s₁ s′ e₂ in
           rw (← p, ← q) (record { as-item = new b; wrote = rw (← q) at w; objects = refl; says = λ m o r ws σ d. eSym a (number-none (s .symbols) v 0 h) d })
 
-  -- a node of kinds 4 to 9: a link, or its number and its contents
+  -- a node of kinds 4 to 10: a link, or its number and its contents
   object-sound : (l v : ℕ) (first : Writer) (h : Header) (ms : List ℕ) (s s′ : Written) → At t v (box h ms)
       → write-object-or-link size v first s ≡ ok tt s′
       → (NotIn v (s .objects) → first (record { bytes = s .bytes; symbols = s .symbols; objects = s .objects ++ (v ∷ []) }) ≡ ok tt s′ → Head (suc l) v s s′)
@@ -268,20 +269,26 @@ module _ (size : ℕ) (A : Arena) where
           says = y .says;
         })
 
+    -- a node without members: its bytes alone
+    bare-sound : (v : ℕ) (h : Header) (z : List ℕ) (s s′ : Written) → At (seen A) v (box h [])
+        → ((m : Mode) (r : F) (x : List ℕ) → IsValue m → Text (after m) (suc l) r x → Text m (suc l) (fBox h fEnd fEnd r) (z ++ x))
+        → write-object-or-link size v (write size z) s ≡ ok tt s′ → Head size (seen A) (suc l) v s s′
+    bare-sound v h z s s′ x f e =
+        object-sound size (seen A) l v _ h [] s s′ x e λ ni e₁.
+        let (p, w) = write-inv size z _ s′ e₁ in
+        rw (← p) (record { tree = λ r. fBox h fEnd fEnd r; text = z; wrote = w; writes = f; says = λ r ws σ d. eBox {us = []} {ms = []} x eEnd ni eEnd d })
+
     text-sound : {k i : ℕ} (q : Texted k i) (v p n : ℕ) → At (A .nodes) v (text-row q p n) → (s s′ : Written)
         → write-object-or-link size v (write size (k ∷ byte-string-bytes (range (A .bytes) p n))) s ≡ ok tt s′ → Head size (seen A) (suc l) v s s′
     text-sound {k} {i} q v p n a s s′ e =
         let b = range (A .bytes) p n in
-        let x : At (seen A) v (box (header-of i 0 b 0 false) []) = see-at A v (text-row q p n) a ∙ ap some (see-text q A p n b refl) in
-        object-sound size (seen A) l v _ (header-of i 0 b 0 false) [] s s′ x e λ ni e₁.
-        let (z, w) = write-inv size (k ∷ byte-string-bytes b) _ s′ e₁ in
-        rw (← z) (record {
-          tree = λ r. fBox (header-of i 0 b 0 false) fEnd fEnd r;
-          text = k ∷ byte-string-bytes b;
-          wrote = w;
-          writes = λ m r o f y. tText q f y;
-          says = λ r ws σ f. eBox {us = []} {ms = []} x eEnd ni eEnd f;
-        })
+        bare-sound v (header-of i 0 b 0 false) (k ∷ byte-string-bytes b) s s′ (see-at A v (text-row q p n) a ∙ ap some (see-text q A p n b refl)) (λ m r x j t. tText q j t) e
+
+    bignum-sound : (v low high : ℕ) (m : Bool) → At (A .nodes) v (bignum low high m) → NumberRight (magnitude low high) m → (s s′ : Written)
+        → write-object-or-link size v (write size (BIGNUM ∷ bignum-bytes m (magnitude low high))) s ≡ ok tt s′ → Head size (seen A) (suc l) v s s′
+    unfolding see header links
+    bignum-sound v low high m a h s s′ e =
+        bare-sound v (header-of 10 (magnitude low high) [] 0 m) (BIGNUM ∷ bignum-bytes m (magnitude low high)) s s′ (see-at A v (bignum low high m) a) (λ o r x i t. tBignum i h t) e
 
     user-sound : (v p n c : ℕ) → At (A .nodes) v (user p n c absent) → Name A c → (s s′ : Written)
         → write-object-or-link size v (write size (USER-DEFINED ∷ []) >> write-name size A c >> write size (byte-string-bytes (range (A .bytes) p n))) s ≡ ok tt s′ → Head size (seen A) (suc l) v s s′
@@ -389,6 +396,7 @@ module _ (size : ℕ) (A : Arena) where
     row-sound v (user p n c absent) a h s s′ e = user-sound l inner ih v p n c a (h .1) s s′ e
     row-sound v (user p n c (present q k)) a h s s′ e = user-vars-sound limit l inner ih v p n c q k a (h .1) (h .2) s s′ e
     row-sound v (float p n) a h s s′ e = text-sound l inner ih text-float v p n a s s′ e
+    row-sound v (bignum low high m) a h s s′ e = bignum-sound l inner ih v low high m a h s s′ e
 
   module _ (ρ : Right A) (fx : Fixnums A) (limit : ℕ) where
     pub value-sound : (l : ℕ) → Sound l (write-value size A limit l)

@@ -1,12 +1,14 @@
--- Values of kinds 6 to 9 up to their pairs: what each call adds.
+-- Values of kinds 6 to 10 up to their pairs: what each call adds.
 use Prim.Native.Nat.{ℕ, _*_, _+_, _≤_, _<_}
 use native.Mathlib.Omega.{arith}
 use mathlib.Core.Path.{_≡_, sym, ap}
 use mathlib.Core.List.{List, [], _∷_, _++_}
+use lib.Dec.{eqb}
 use lib.ListN.{length, getD, take, drop}
 use Rattle.definition.specs.Run.{pure}
 use Rattle.definition.specs.Integer.{integer-bytes}
-use Rattle.definition.specs.Kind.{OBJECT, STRING, USER-DEFINED, FLOAT}
+use Rattle.definition.specs.Kind.{OBJECT, STRING, USER-DEFINED, FLOAT, BIGNUM}
+use Rattle.definition.specs.Magnitude.{magnitude, bignum-bytes}
 use Rattle.definition.specs.Node.{width}
 use Rattle.definition.specs.Arena.{Arena, node, range}
 use Rattle.definition.specs.Dump.{Writer, _>>_, write, write-level, write-elements, write-name, write-instance-variables, write-object-or-link, write-row, write-value}
@@ -16,7 +18,7 @@ use Rattle.writer.specs.Laws.{then, goes-to, lead-to, lead-goes, lead-stop, lea
 use Rattle.writer.proofs.Names.{right-row}
 use Rattle.dumper.specs.Values.{IsObject, Heads, Opens, begun, opened, texted, members-of, MembersIn}
 use Rattle.dumper.specs.Laws.{linked, lead-head, head-as, head-to, head-after, head-goes, head-keep}
-use Rattle.dumper.proofs.Heads.{is-object, object-row, string-row, user-row, float-row, symbol-as, bytes-inside, object-open, string-open, user-open, float-open, after, after-none, after-some, vars-present, members-pairs, in-pairs}
+use Rattle.dumper.proofs.Heads.{is-object, object-row, string-row, user-row, float-row, bignum-row, symbol-as, bytes-inside, object-open, string-open, user-open, float-open, bignum-open, after, after-none, after-some, vars-present, members-pairs, in-pairs}
 
 -- the tables, the node and the levels left for its members
 pub record Here : Type 0 where
@@ -142,13 +144,13 @@ module _ (h : Here) (k : ℕ) where
       λ A L b e. in-pairs (h .nodes) (h .v) (λ q. omega (arith, q)) (λ q. omega (arith, q)) (inside A L b),
     )
 
-    object-here : k ≤ 9 → Of h (λ A. IsObject A (h .v))
+    object-here : k ≤ 10 → Of h (λ A. IsObject A (h .v))
     object-here low A L b = is-object (L .noded) (h .v) b k is (omega arith) low
 
-    pub object-ready : {B : Buffers} {c : List ℕ} → k ≤ 9 → Ready (Held h) B c → Ready (λ A. IsObject A (h .v)) B c
+    pub object-ready : {B : Buffers} {c : List ℕ} → k ≤ 10 → Ready (Held h) B c → Ready (λ A. IsObject A (h .v)) B c
     object-ready low = ready-as (λ A f. object-here low A (f .0) (f .2))
 
-    pub text-ready : {B : Buffers} {c : List ℕ} → k ≤ 9 → Ready (Held h) B c → Ready (λ A. Lent A (h .nodes) (h .bytes) × IsObject A (h .v)) B c
+    pub text-ready : {B : Buffers} {c : List ℕ} → k ≤ 10 → Ready (Held h) B c → Ready (λ A. Lent A (h .nodes) (h .bytes) × IsObject A (h .v)) B c
     text-ready low = ready-as (λ A f. (f .0, object-here low A (f .0) (f .2)))
 
 -- ---- by kind
@@ -208,3 +210,7 @@ module _ (h : Here) (is : getD (h .nodes) (h .v * width) 0 ≡ 9) where
   float-first o A room limit L l b =
       let row = float-row (L .noded) (h .v) b is in
       head-as (float-open room A (write-level limit (h .levels)) (write-value room A limit (h .levels)) (h .v) L _ _ (right-row L (h .v) b _ row) row) (o A room limit (object-here h 9 is (omega arith) (omega arith) A L b) _)
+
+module _ (h : Here) (is : getD (h .nodes) (h .v * width) 0 ≡ 10) where
+  pub bignum-first : {B B₁ : Buffers} {c c₁ : List ℕ} {r : ℕ} → ((A : Arena) (room limit : ℕ) → IsObject A (h .v) → Opens A room limit (opened room (h .v) (BIGNUM ∷ bignum-bytes (eqb (word h 4) 1) (magnitude (word h 1) (word h 2)))) B c r B₁ c₁) → Each h (λ A room limit. Heads A room limit (value h A room limit) (pure tt) B c r B₁ c₁)
+  bignum-first o A room limit L l b = head-as (bignum-open room A (write-level limit (h .levels)) (write-value room A limit (h .levels)) (h .v) _ _ _ (bignum-row (L .noded) (h .v) b is)) (o A room limit (object-here h 10 is (omega arith) (omega arith) A L b) _)

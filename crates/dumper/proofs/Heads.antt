@@ -1,19 +1,22 @@
 -- A value up to its members, kind by kind.
 use Prim.Native.Nat.{ℕ, zero, suc, _+_, _*_, _≤_, _<_}
 use native.Mathlib.Omega.{arith}
+use mathlib.Core.Bool.{Bool}
 use mathlib.Core.Logic.{_⊎_, inl, inr}
 use mathlib.Core.Path.{_≡_, refl, sym, ap, _∙_, subst}
 use mathlib.Core.List.{List, [], _∷_, _++_}
+use lib.Dec.{eqb}
 use lib.ListN.{length, getD, take, drop}
 use borrow.Author.Tests.{eq-eqb, ne-eqb}
 use Rattle.definition.specs.Run.{pure, pick}
 use Rattle.definition.specs.Integer.{integer-bytes}
-use Rattle.definition.specs.Kind.{ARRAY, HASH, HASH-DEFAULT, OBJECT, STRING, USER-DEFINED, FLOAT}
-use Rattle.definition.specs.Node.{width, symbol, array, hash, object, string, user, float, kind, vars}
+use Rattle.definition.specs.Kind.{ARRAY, HASH, HASH-DEFAULT, OBJECT, STRING, USER-DEFINED, FLOAT, BIGNUM}
+use Rattle.definition.specs.Node.{width, symbol, array, hash, object, string, user, float, bignum, kind, vars}
+use Rattle.definition.specs.Magnitude.{magnitude, bignum-bytes}
 use Rattle.definition.specs.Arena.{Arena, node, range}
 use Rattle.definition.specs.Dump.{Writer, _>>_, write, write-elements, write-default, write-name, byte-string-bytes, write-instance-variables, write-variables, write-object-or-link, write-row, hash-byte}
 use Rattle.lists.specs.Lists.{at-lt}
-use Rattle.lists.specs.Rows.{kind-of, kind-low, row-4, row-5, row-6, row-7, row-8, row-9}
+use Rattle.lists.specs.Rows.{kind-of, kind-low, row-4, row-5, row-6, row-7, row-8, row-9, row-10}
 use Rattle.well_formed.specs.Nodes.{node-at, Name}
 use Rattle.well_formed.specs.Right.{BytesIn, PairsIn, VarsRight}
 use Rattle.writer.specs.Held.{Noded, Lent, IsSymbol}
@@ -29,7 +32,7 @@ unfolding kind
 is-symbol {A} c (s, l, e) = record { below = at-lt (A .nodes) c (symbol s l) e; kind-three = ap kind (node-at A c (symbol s l) e) }
 
 module _ {A : Arena} {no : List ℕ} (N : Noded A no) (v : ℕ) (below : v < length (A .nodes)) where
-  pub is-object : (k : ℕ) → getD no (v * width) 0 ≡ k → 3 < k → k ≤ 9 → IsObject A v
+  pub is-object : (k : ℕ) → getD no (v * width) 0 ≡ k → 3 < k → k ≤ 10 → IsObject A v
   is-object k e h l =
       let q : kind (node A v) ≡ getD no (v * width) 0 = ap kind (N .row-at v below) ∙ kind-of _ _ _ _ _ _ _ (omega arith) in
       record { below = below; kind-above = omega arith }
@@ -37,8 +40,8 @@ module _ {A : Arena} {no : List ℕ} (N : Noded A no) (v : ℕ) (below : v < len
   abbrev w : ℕ → ℕ
   w i = getD no (v * width + i) 0
 
-  pub low-kind : (getD no (v * width) 0 ≡ 4 → ⊥) → (getD no (v * width) 0 ≡ 5 → ⊥) → (getD no (v * width) 0 ≡ 6 → ⊥) → (getD no (v * width) 0 ≡ 7 → ⊥) → (getD no (v * width) 0 ≡ 8 → ⊥) → (getD no (v * width) 0 ≡ 9 → ⊥) → kind (node A v) ≤ 3
-  low-kind a b c d f g = omega (arith, ap kind (N .row-at v below), kind-low (getD no (v * width) 0) (w 1) (w 2) (w 3) (w 4) (w 5) (w 6) a b c d f g)
+  pub low-kind : (getD no (v * width) 0 ≡ 4 → ⊥) → (getD no (v * width) 0 ≡ 5 → ⊥) → (getD no (v * width) 0 ≡ 6 → ⊥) → (getD no (v * width) 0 ≡ 7 → ⊥) → (getD no (v * width) 0 ≡ 8 → ⊥) → (getD no (v * width) 0 ≡ 9 → ⊥) → (getD no (v * width) 0 ≡ 10 → ⊥) → kind (node A v) ≤ 3
+  low-kind a b c d f g h = rw (N .row-at v below) (kind-low (getD no (v * width) 0) (w 1) (w 2) (w 3) (w 4) (w 5) (w 6) a b c d f g h)
 
   pub array-row : getD no (v * width) 0 ≡ 4 → node A v ≡ array (w 3) (w 4)
   array-row e = N .row-at v below ∙ row-4 _ _ _ _ _ _ _ e
@@ -57,6 +60,9 @@ module _ {A : Arena} {no : List ℕ} (N : Noded A no) (v : ℕ) (below : v < len
 
   pub float-row : getD no (v * width) 0 ≡ 9 → node A v ≡ float (w 1) (w 2)
   float-row e = N .row-at v below ∙ row-9 _ _ _ _ _ _ _ e
+
+  pub bignum-row : getD no (v * width) 0 ≡ 10 → node A v ≡ bignum (w 1) (w 2) (eqb (w 4) 1)
+  bignum-row e = N .row-at v below ∙ row-10 _ _ _ _ _ _ _ e
 
 pub default-byte : {X Y : Type 0} (room : ℕ) (A : Arena) (d k : ℕ) → (X → d ≡ 0) → (Y → d ≡ 0 → ⊥) → (X × (k ≡ HASH)) ⊎ (Y × (k ≡ HASH-DEFAULT)) → k ≡ hash-byte room A d
 unfolding hash-byte
@@ -108,6 +114,10 @@ module _ (room : ℕ) (A : Arena) (level : Writer) (inner : ℕ → Writer) (v :
       ap (write-row room A level inner v) e
       ∙ ap (write-object-or-link room v) (assoc (write room (OBJECT ∷ [])) (write-name room A c) (write-instance-variables room A inner s n))
       ∙ λ i. opened room v (OBJECT ∷ []) (write-name room A (sym p i) >> write-instance-variables room A inner s n)
+
+  pub bignum-open : (low high : ℕ) (m : Bool) → node A v ≡ bignum low high m → write-row room A level inner v (node A v) ≡ opened room v (BIGNUM ∷ bignum-bytes m (magnitude low high)) (pure tt)
+  unfolding write-row
+  bignum-open low high m e = ap (write-row room A level inner v) e ∙ ap (write-object-or-link room v) (sym (unit-right (write room (BIGNUM ∷ bignum-bytes m (magnitude low high)))))
 
   -- what comes after a string's bytes, by the mark f
   unfoldable pub after : ℕ → ℕ → ℕ → Writer

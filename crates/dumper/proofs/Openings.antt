@@ -4,19 +4,29 @@ use native.Mathlib.Omega.{arith}
 use mathlib.Core.Path.{_≡_, refl, sym, ap, _∙_}
 use mathlib.Core.List.{List, [], _∷_}
 use Rattle.definition.specs.Run.{refuse}
-use Rattle.definition.specs.Integer.{integer-bytes}
 use Rattle.definition.specs.Kind.{INSTANCE-VARIABLES}
+use Rattle.definition.specs.Arena.{Arena}
 use Rattle.definition.specs.Dump.{Writer, _>>_, write, write-level, write-object-or-link}
 use Rattle.definition.specs.declared.Refusal.the-variants.{TooDeep}
-use Rattle.writer.specs.Laws.{assoc, unit-left, write-join}
-use Rattle.dumper.specs.Values.{begun, opened}
+use Rattle.writer.specs.Held.{Buffers, Meets}
+use Rattle.writer.specs.Laws.{assoc, unit-left, write-join, lead-first}
+use Rattle.dumper.specs.Values.{Opens, begun, opened}
+use Rattle.dumper.specs.Laws.{lead-head, head-as, head-after, head-goes, head-keep}
 
 -- a byte and more bytes
 byte-then : (room k : ℕ) (bs : List ℕ) (rest : Writer) → write room (k ∷ bs) >> rest ≡ write room (k ∷ []) >> (write room bs >> rest)
 byte-then room k bs rest = ap (λ (w : Writer). w >> rest) (write-join room (k ∷ []) bs) ∙ assoc (write room (k ∷ [])) (write room bs) rest
 
-pub list-same : (room v k n : ℕ) (rest : Writer) → opened room v (k ∷ integer-bytes n) rest ≡ opened room v (k ∷ []) (write room (integer-bytes n) >> rest)
-list-same room v k n rest = ap (write-object-or-link room v) (byte-then room k (integer-bytes n) rest)
+opened-join : (room v k : ℕ) (bs : List ℕ) (rest : Writer) → opened room v (k ∷ bs) rest ≡ opened room v (k ∷ []) (write room bs >> rest)
+opened-join room v k bs rest = ap (write-object-or-link room v) (byte-then room k bs rest)
+
+-- the byte by a first call, the others by a second
+module _ {A : Arena} {room limit : ℕ} {B B₁ : Buffers} {c c₁ : List ℕ} {r : ℕ} (v k : ℕ) (bs : List ℕ) (first : Opens A room limit (opened room v (k ∷ [])) B c r B₁ c₁) where
+  pub opened-stops : (r ≡ 0 → ⊥) → Opens A room limit (opened room v (k ∷ bs)) B c r B₁ c₁
+  opened-stops n rest = head-as (opened-join room v k bs rest) (head-keep n (first (write room bs >> rest)))
+
+  pub opened-then : {B₂ : Buffers} {c₂ : List ℕ} {s : ℕ} → r ≡ 0 → Meets A room limit (write room bs) B₁ c₁ s B₂ c₂ → Opens A room limit (opened room v (k ∷ bs)) B c s B₂ c₂
+  opened-then z next rest = head-as (opened-join room v k bs rest) (head-after (head-goes z (first (write room bs >> rest))) (lead-head (lead-first rest next)))
 
 -- ---- `I` and the level
 

@@ -11,12 +11,12 @@ use Rattle.definition.specs.Dump.{Writer, _>>_, write, write-elements, write-de
 use Rattle.well_formed.specs.Right.{ListIn}
 use Rattle.writer.specs.Held.{Buffers, Goes, Refuses, stopped}
 
--- node v is of kinds 4 to 9
+-- node v is of kinds 4 to 10
 pub record IsObject (A : Arena) (v : ℕ) : Type 0 where
   pub below : v < length (A .nodes)
   pub kind-above : 3 < kind (node A v)
 
--- by the answer: as `Leads` has it, but 1 says that m is done: a link, a scalar, a float, or a string or user-defined value without variables
+-- by the answer: as `Leads` has it, but 1 says that m is done: a link, a scalar, a float, a bignum, or a string or user-defined value without variables
 abbrev pub HeadCase : Arena → ℕ → ℕ → Writer → Writer → Buffers → List ℕ → ℕ → Buffers → List ℕ → Type 0
 HeadCase A room limit m m' B c zero B' c' = Goes A room m B c m' B' c'
 HeadCase A room limit m m' B c (suc zero) B' c' = Goes A room m B c (pure tt) B' c'

@@ -9,6 +9,7 @@ use writer::DEEP;
 use writer::DONE;
 use writer::OBJECTS;
 use writer::WHOLE;
+use writer::write_bignum;
 use writer::write_byte;
 use writer::write_byte_string;
 use writer::write_fixnum;
@@ -18,13 +19,16 @@ use writer::write_tagged;
 ghost use mathlib.Core.Path.{_≡_};
 ghost use mathlib.Core.List.{[], _∷_, _++_};
 ghost use Prim.Native.Nat.{ℕ, _+_, _*_, _<_, _≤_};
+ghost use lib.Dec.{eqb};
 ghost use lib.ListN.{length, getD, take, drop};
 ghost use Rattle.definition.specs.Integer.{integer-bytes};
+ghost use Rattle.definition.specs.Kind.{BIGNUM};
+ghost use Rattle.definition.specs.Magnitude.{magnitude, bignum-bytes};
 ghost use Rattle.definition.specs.Node.{width};
 ghost use Rattle.definition.specs.Arena.{Arena, node, range};
 ghost use Rattle.definition.specs.Dump.{write, write-level, write-object-or-link, write-elements, write-instance-variables, write-row, write-value};
 ghost use Rattle.well_formed.specs.Right.{PairsIn};
-ghost use Rattle.writer.specs.Held.{buffers, Lent, Listed, Ready, Leads};
+ghost use Rattle.writer.specs.Held.{buffers, Noded, Lent, Listed, Ready, Leads};
 ghost use Rattle.dumper.specs.Values.{IsObject, Heads, Opens, begun, opened, texted, members-of, MembersIn, listed};
 ghost use Rattle.dumper.specs.Lengths.{wrong, Allowed};
 
@@ -117,6 +121,30 @@ fn open_text(
         c,
         nodes[v * Node::WIDTH + Node::START],
         nodes[v * Node::WIDTH + Node::LENGTH],
+    )
+}
+
+// A Bignum: its byte and its number.
+fn open_bignum(
+    nodes: &[u32],
+    scratch: &mut [u32],
+    output: &mut [u8],
+    c: &mut [usize; 3],
+    v: usize,
+) -> u32
+    requires { ⌜ Ready (λ A. Noded A (now nodes) × IsObject A v) (buffers (now scratch) (now output)) (now c) ⌝ }
+    ensures { λ r. ⌜ ((A : Arena) (room limit : ℕ) → IsObject A v → Opens A room limit (opened room v (BIGNUM ∷ bignum-bytes (eqb (getD (now (nodes .entry)) (v * width + 4) 0) 1) (magnitude (getD (now (nodes .entry)) (v * width + 1) 0) (getD (now (nodes .entry)) (v * width + 2) 0)))) (buffers (now (scratch .entry)) (now (output .entry))) (now (c .entry)) r (buffers (now (scratch .exit)) (now (output .exit))) (now (c .exit))) ⌝ }
+{
+    let w = open_object(scratch, output, c, v, ValueKind::BIGNUM);
+    if w != DONE {
+        return w;
+    }
+    write_bignum(
+        output,
+        c,
+        nodes[v * Node::WIDTH + Node::SIGN] == 1,
+        nodes[v * Node::WIDTH + Node::LOW],
+        nodes[v * Node::WIDTH + Node::HIGH],
     )
 }
 
@@ -394,6 +422,7 @@ pub fn open_value(
             0,
             levels,
         )),
+        Node::BIGNUM => whole(open_bignum(&nodes[..], scratch, output, c, v)),
         _ => whole(write_scalar(&nodes[..], &bytes[..], scratch, output, c, v)),
     }
 }

@@ -35,7 +35,7 @@ put i x s = record { nodes = set (s .nodes) i x; objs = s .objs; syms = s .syms 
 abbrev pub num : St → Num
 num s = record { objs = s .objs; syms = s .syms }
 
--- what stands for a box while its members are read: nil; in a canonical input also a node of kinds 7 to 9 without variables
+-- what stands for a box while its members are read: nil; in a canonical input also a node of kinds 7 to 10 without variables
 abbrev pub Ph : Type 0 → Header → Node → Type 0
 Ph K h p = (p ≡ leaf 0 0) ⊎ ((K → ⊥) × ((b : List ℕ) → p ≡ sym b → ⊥) × (7 ≤ h .kind))
 

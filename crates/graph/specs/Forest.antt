@@ -8,11 +8,13 @@ use lib.Dec.{eqb}
 use lib.ListN.{length}
 use Rattle.definition.specs.Run.{pick}
 use Rattle.definition.specs.Integer.{integer-bytes}
-use Rattle.definition.specs.Kind.{NIL, TRUE, FALSE, FIXNUM, SYMBOL, SYMBOL-LINK, OBJECT-LINK, INSTANCE-VARIABLES, ARRAY, HASH, HASH-DEFAULT, OBJECT, STRING, USER-DEFINED, FLOAT}
+use Rattle.definition.specs.Kind.{NIL, TRUE, FALSE, FIXNUM, SYMBOL, SYMBOL-LINK, OBJECT-LINK, INSTANCE-VARIABLES, ARRAY, HASH, HASH-DEFAULT, OBJECT, STRING, USER-DEFINED, FLOAT, BIGNUM}
+use Rattle.definition.specs.Magnitude.{bignum-bytes}
 use Rattle.definition.specs.Dump.{byte-string-bytes}
 use Rattle.definition.specs.Graph.{Header, header-of}
+use Rattle.well_formed.specs.Right.{NumberRight}
 
--- a node of a graph. leaf: kind 0 to 2 and the value; sym: a name; box: kinds 4 to 9, the members being the name, the elements or pairs, and the default, in this order
+-- a node of a graph. leaf: kind 0 to 2 and the value; sym: a name; box: kinds 4 to 10, the members being the name, the elements or pairs, and the default, in this order
 pub data Node : Type 0 where
   leaf : ℕ → ℕ → Node
   sym : List ℕ → Node
@@ -179,6 +181,8 @@ pub data Text : Mode → ℕ → F → List ℕ → Type 0 where
       → Text m (suc l) (fBox (header-of 6 0 [] n false) fEnd f r) (OBJECT ∷ y ++ x)
   tText : {m : Mode} {l k n : ℕ} {b x : List ℕ} {r : F} → Texted k n → IsValue m → Text (after m) (suc l) r x
       → Text m (suc l) (fBox (header-of n 0 b 0 false) fEnd fEnd r) (k ∷ byte-string-bytes b ++ x)
+  tBignum : {m : Mode} {l n : ℕ} {minus : Bool} {x : List ℕ} {r : F} → IsValue m → NumberRight n minus → Text (after m) (suc l) r x
+      → Text m (suc l) (fBox (header-of 10 n [] 0 minus) fEnd fEnd r) (BIGNUM ∷ bignum-bytes minus n ++ x)
   tStringVars : {m : Mode} {l n : ℕ} {b x y : List ℕ} {f r : F} → IsValue m → Text (pairs n) (suc l) f y → Text (after m) (suc (suc l)) r x
       → Text m (suc (suc l)) (fBox (header-of 7 0 b n true) fEnd f r) (INSTANCE-VARIABLES ∷ STRING ∷ byte-string-bytes b ++ integer-bytes n ++ y ++ x)
   tUser : {m : Mode} {l : ℕ} {b x z : List ℕ} {p r : F} → IsValue m → Text name l p z → Text (after m) (suc l) r x

@@ -4,7 +4,7 @@ use mathlib.Core.Path.{_≡_}
 use mathlib.Core.Bool.{true, false}
 use mathlib.Core.List.{List, [], map}
 use lib.ListN.{length}
-use Rattle.definition.specs.Node.{Row, nil, bool, fixnum, symbol, array, hash, object, string, user, float, absent}
+use Rattle.definition.specs.Node.{Row, nil, bool, fixnum, symbol, array, hash, object, string, user, float, bignum, absent}
 use Rattle.definition.specs.Arena.{Arena, node, range}
 use Rattle.definition.specs.Graph.{header-of, header, links, vars-links, vars-count, vars-present}
 use Rattle.definition.specs.Load.{State}
@@ -26,6 +26,7 @@ see A (object s n c) = box (header A (object s n c)) (links A (object s n c))
 see A (string s l v) = box (header A (string s l v)) (links A (string s l v))
 see A (user s l c v) = box (header A (user s l c v)) (links A (user s l c v))
 see A (float s l) = box (header A (float s l)) (links A (float s l))
+see A (bignum low high m) = box (header A (bignum low high m)) (links A (bignum low high m))
 
 -- the row of a byte string and nothing more, by where its bytes start and how many they are
 abbrev pub text-row : {k n : ℕ} → Texted k n → ℕ → ℕ → Row

@@ -1,9 +1,10 @@
--- Laws of lists, of tests, of ranges, of the words of rows, and of the tests of slices.
+-- Laws of lists, of tests, of ranges, of the words of rows, of integers and magnitudes, and of the tests of slices.
 pub mod Lists
 pub mod Joined
 pub mod Ranges
 pub mod Words
 pub mod Integers
+pub mod Magnitudes
 pub mod Rows
 pub mod Tables
 pub mod Slices

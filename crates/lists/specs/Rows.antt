@@ -6,7 +6,7 @@ use mathlib.Core.Bool.{Bool, true, false}
 use lib.Dec.{leb, eqb}
 use borrow.Author.Tests.{ne-eqb, leb-true, leb-false}
 use Rattle.definition.specs.Run.{pick}
-use Rattle.definition.specs.Node.{nil, bool, fixnum, symbol, array, hash, object, string, user, float, kind, row-of, vars}
+use Rattle.definition.specs.Node.{nil, bool, fixnum, symbol, array, hash, object, string, user, float, bignum, kind, row-of, vars}
 
 module _ (k a b s n c f : ℕ) where
   -- the row of each kind
@@ -50,16 +50,20 @@ module _ (k a b s n c f : ℕ) where
   unfolding row-of pick
   row-9 e = rw e refl
 
-  -- past 9 it is nil
-  row-past : 9 < k → row-of k a b s n c f ≡ nil
+  pub row-10 : k ≡ 10 → row-of k a b s n c f ≡ bignum a b (eqb n 1)
   unfolding row-of pick
-  row-past l = simp (ne-eqb k 1 (omega arith), ne-eqb k 2 (omega arith), ne-eqb k 3 (omega arith), ne-eqb k 4 (omega arith), ne-eqb k 5 (omega arith), ne-eqb k 6 (omega arith), ne-eqb k 7 (omega arith), ne-eqb k 8 (omega arith), ne-eqb k 9 (omega arith))
+  row-10 e = rw e refl
 
-  kind-past : 9 < k → kind (row-of k a b s n c f) ≡ 0
+  -- past 10 it is nil
+  row-past : 10 < k → row-of k a b s n c f ≡ nil
+  unfolding row-of pick
+  row-past l = simp (ne-eqb k 1 (omega arith), ne-eqb k 2 (omega arith), ne-eqb k 3 (omega arith), ne-eqb k 4 (omega arith), ne-eqb k 5 (omega arith), ne-eqb k 6 (omega arith), ne-eqb k 7 (omega arith), ne-eqb k 8 (omega arith), ne-eqb k 9 (omega arith), ne-eqb k 10 (omega arith))
+
+  kind-past : 10 < k → kind (row-of k a b s n c f) ≡ 0
   unfolding kind
   kind-past l = ap kind (row-past l)
 
-pub kind-of : (k a b s n c f : ℕ) → k ≤ 9 → kind (row-of k a b s n c f) ≡ k
+pub kind-of : (k a b s n c f : ℕ) → k ≤ 10 → kind (row-of k a b s n c f) ≡ k
 unfolding row-of pick kind
 kind-of zero a b s n c f h = refl
 kind-of (suc zero) a b s n c f h = refl
@@ -71,28 +75,38 @@ kind-of (suc (suc (suc (suc (suc (suc zero)))))) a b s n c f h = refl
 kind-of (suc (suc (suc (suc (suc (suc (suc zero))))))) a b s n c f h = refl
 kind-of (suc (suc (suc (suc (suc (suc (suc (suc zero)))))))) a b s n c f h = refl
 kind-of (suc (suc (suc (suc (suc (suc (suc (suc (suc zero))))))))) a b s n c f h = refl
-kind-of (suc (suc (suc (suc (suc (suc (suc (suc (suc (suc j)))))))))) a b s n c f h = absurd (omega arith)
+kind-of (suc (suc (suc (suc (suc (suc (suc (suc (suc (suc zero)))))))))) a b s n c f h = refl
+kind-of (suc (suc (suc (suc (suc (suc (suc (suc (suc (suc (suc j))))))))))) a b s n c f h = absurd (omega arith)
+
+-- a bound that is not reached is one lower
+below-next : (k n : ℕ) → k ≤ suc n → (k ≡ suc n → ⊥) → k ≤ n
+below-next k n h e = omega arith
 
 module _ (k a b s n c f : ℕ) where
-  -- up to 9 the kind is word 0
+  -- up to 10 the kind is word 0
   pub kind-is : (x : ℕ) → kind (row-of k a b s n c f) ≡ x → 0 < x → k ≡ x
-  kind-is x e h = go (leb k 9) refl
+  kind-is x e h = go (leb k 10) refl
     where
-      go : (t : Bool) → leb k 9 ≡ t → k ≡ x
-      go true q = sym (kind-of k a b s n c f (leb-true k 9 q)) ∙ e
-      go false q = absurd (omega (arith, kind-past k a b s n c f (leb-false k 9 q)))
+      go : (t : Bool) → leb k 10 ≡ t → k ≡ x
+      go true q = sym (kind-of k a b s n c f (leb-true k 10 q)) ∙ e
+      go false q = absurd (omega (arith, kind-past k a b s n c f (leb-false k 10 q)))
 
-  -- a kind that is none of 4 to 9
-  pub kind-low : (k ≡ 4 → ⊥) → (k ≡ 5 → ⊥) → (k ≡ 6 → ⊥) → (k ≡ 7 → ⊥) → (k ≡ 8 → ⊥) → (k ≡ 9 → ⊥) → kind (row-of k a b s n c f) ≤ 3
-  kind-low n4 n5 n6 n7 n8 n9 = go (leb k 9) refl
+  -- a kind that is none of 4 to 10
+  pub kind-low : (k ≡ 4 → ⊥) → (k ≡ 5 → ⊥) → (k ≡ 6 → ⊥) → (k ≡ 7 → ⊥) → (k ≡ 8 → ⊥) → (k ≡ 9 → ⊥) → (k ≡ 10 → ⊥) → kind (row-of k a b s n c f) ≤ 3
+  kind-low n4 n5 n6 n7 n8 n9 n10 = go (leb k 10) refl
     where
-      go : (t : Bool) → leb k 9 ≡ t → kind (row-of k a b s n c f) ≤ 3
-      go true q = omega (arith, kind-of k a b s n c f (leb-true k 9 q), leb-true k 9 q)
-      go false q = omega (arith, kind-past k a b s n c f (leb-false k 9 q))
+      low : {x : ℕ} → x ≡ 0 → x ≤ 3
+      low e = rw e (omega arith)
+
+      go : (t : Bool) → leb k 10 ≡ t → kind (row-of k a b s n c f) ≤ 3
+      go true q =
+          rw (kind-of k a b s n c f (leb-true k 10 q))
+          (below-next k 3 (below-next k 4 (below-next k 5 (below-next k 6 (below-next k 7 (below-next k 8 (below-next k 9 (leb-true k 10 q) n10) n9) n8) n7) n6) n5) n4)
+      go false q = low (kind-past k a b s n c f (leb-false k 10 q))
 
   pub row-nil : (k ≡ 1 → ⊥) → (k ≡ 2 → ⊥) → (k ≡ 3 → ⊥) → kind (row-of k a b s n c f) ≤ 3 → row-of k a b s n c f ≡ nil
-  row-nil n1 n2 n3 h = go (leb k 9) refl
+  row-nil n1 n2 n3 h = go (leb k 10) refl
     where
-      go : (t : Bool) → leb k 9 ≡ t → row-of k a b s n c f ≡ nil
-      go true q = row-0 k a b s n c f (omega (arith, kind-of k a b s n c f (leb-true k 9 q)))
-      go false q = row-past k a b s n c f (leb-false k 9 q)
+      go : (t : Bool) → leb k 10 ≡ t → row-of k a b s n c f ≡ nil
+      go true q = row-0 k a b s n c f (omega (arith, kind-of k a b s n c f (leb-true k 10 q)))
+      go false q = row-past k a b s n c f (leb-false k 10 q)

@@ -1,16 +1,18 @@
 -- Words that are compared, a word's low bytes, and a row's seven words.
-use Prim.Native.Nat.{ℕ, zero, suc, _*_, _/_}
+use Prim.Native.Nat.{ℕ, zero, suc, _+_, _*_, _/_, _%_, _^_, _≤_, _<_}
 use mathlib.Core.Path.{_≡_, refl, ap}
+use mathlib.Core.Path.{sym as psym, _∙_}
 use mathlib.Core.Bool.{true, false}
-use mathlib.Core.List.{List, [], _∷_}
+use mathlib.Core.List.{List, [], _∷_, _++_}
 use lib.Dec.{eqb}
 use lib.ListN.{length, length-append}
 use native.Mathlib.Omega.{arith}
+use native.Mathlib.Nat.{pow-suc, mul-assoc}
 use borrow.Author.Tests.{eqb-true, eq-eqb}
 use Rattle.definition.specs.Run.{pick}
-use Rattle.definition.specs.Integer.{low-bytes}
-use Rattle.definition.specs.Node.{Row, nil, bool, fixnum, symbol, array, hash, object, string, user, float, absent, present, words, flat, equal}
-use Rattle.lists.specs.Lists.{apart}
+use Rattle.definition.specs.Integer.{little, low-bytes}
+use Rattle.definition.specs.Node.{Row, nil, bool, fixnum, symbol, array, hash, object, string, user, float, bignum, absent, present, words, flat, equal}
+use Rattle.lists.specs.Lists.{apart, Below}
 use Rattle.lists.specs.Joined.{pick-true}
 
 -- ---- the test of equal words
@@ -34,6 +36,50 @@ unfolding low-bytes
 length-low zero w = refl
 length-low (suc n) w = ap suc (length-low n (w / 256))
 
+-- what is above the lowest n bytes
+abbrev pub above : ℕ → ℕ → ℕ
+above zero w = w
+above (suc n) w = above n (w / 256)
+
+-- a word's low bytes, and what is above them, say it
+pub little-low : (n w : ℕ) → little (low-bytes n w) (above n w) ≡ w
+unfolding little low-bytes
+little-low zero w = refl
+little-low (suc n) w = omega (arith, little-low n (w / 256))
+
+-- bytes are the low bytes of what they say
+pub low-little : (bs : List ℕ) (over : ℕ) → Below 256 bs → low-bytes (length bs) (little bs over) ≡ bs
+unfolding little low-bytes
+low-little [] over h = refl
+low-little (b ∷ bs) over h =
+    let l = h 0 b refl in
+    let first : (little bs over * 256 + b) % 256 ≡ b = omega arith in
+    let rest : (little bs over * 256 + b) / 256 ≡ little bs over = omega arith in
+    rw (first, rest) (ap (λ (l : List ℕ). b ∷ l) (low-little bs over (λ k v a. h (suc k) v a)))
+
+-- n bytes over the bits above stay below (above + 1) · 256ⁿ
+pub little-below : (bs : List ℕ) (over : ℕ) → Below 256 bs → little bs over < (over + 1) * 256 ^ length bs
+unfolding little
+little-below [] over h = omega arith
+little-below (b ∷ bs) over h =
+    let ih = little-below bs over (λ k v a. h (suc k) v a) in
+    let z : (over + 1) * 256 ^ suc (length bs) ≡ (over + 1) * 256 ^ length bs * 256 = ap (λ (n : ℕ). (over + 1) * n) (pow-suc 256 (length bs)) ∙ psym (mul-assoc (over + 1) (256 ^ length bs) 256) in
+    rw z (omega (arith, ih, h 0 b refl))
+
+-- and reach at least above · 256ⁿ
+pub little-above : (bs : List ℕ) (over : ℕ) → over * 256 ^ length bs ≤ little bs over
+unfolding little
+little-above [] over = omega arith
+little-above (b ∷ bs) over =
+    let z : over * 256 ^ suc (length bs) ≡ over * 256 ^ length bs * 256 = ap (λ (n : ℕ). over * n) (pow-suc 256 (length bs)) ∙ psym (mul-assoc over (256 ^ length bs) 256) in
+    rw z (omega (arith, little-above bs over))
+
+-- some bytes, and then others above them
+pub little-append : (bs cs : List ℕ) (over : ℕ) → little (bs ++ cs) over ≡ little bs (little cs over)
+unfolding little
+little-append [] cs over = refl
+little-append (b ∷ bs) cs over = ap (λ (m : ℕ). m * 256 + b) (little-append bs cs over)
+
 -- ---- a row's words
 
 pub length-words : (r : Row) → length (words r) ≡ 7
@@ -51,6 +97,8 @@ length-words (string s l (present p n)) = refl
 length-words (user s l c absent) = refl
 length-words (user s l c (present p n)) = refl
 length-words (float s l) = refl
+length-words (bignum low high true) = refl
+length-words (bignum low high false) = refl
 
 pub length-flat : (rs : List Row) → length (flat rs) ≡ length rs * 7
 unfolding flat

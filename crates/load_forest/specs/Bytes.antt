@@ -1,14 +1,14 @@
 -- From an input of bytes: fixnums are words of 32 bits, and the arena's bytes are bytes.
 use Prim.Native.Nat.{ℕ, zero, suc, _+_, _-_, _*_, _^_, _≤_, _<_}
-use mathlib.Core.Path.{_≡_, refl, ap}
-use mathlib.Core.Path.{sym as psym, _∙_}
+use mathlib.Core.Path.{_≡_, refl}
+use mathlib.Core.Path.{sym as psym}
 use mathlib.Core.Bool.{Bool, true, false}
 use mathlib.Core.Logic.{_⊎_, inl, inr, _≢_}
 use mathlib.Core.List.{List, [], _∷_}
 use lib.Dec.{leb, eqb}
 use lib.ListN.{length, getD}
 use native.Mathlib.Omega.{arith}
-use native.Mathlib.Nat.{mod-lt, pow-suc, mul-assoc}
+use native.Mathlib.Nat.{mod-lt}
 use native.Mathlib.Bridge.{le-by-compare, IsLe}
 use borrow.Author.Tests.{leb-true, leb-false}
 use Rattle.definition.specs.Run.{ok, pick, _>>=_}
@@ -18,10 +18,11 @@ use Rattle.definition.specs.Arena.{range}
 use Rattle.definition.specs.Load as L
 use Rattle.definition.specs.Load.{State, Room, at-set, noted, begin, load}
 use Rattle.lists.specs.Lists.{At, at-snoc-inv, at-set-inv, apart, at-getD, Below, below-join}
+use Rattle.lists.specs.Words.{little-below}
 use Rattle.lists.specs.Ranges.{range-at, length-range-in}
 use Rattle.graph.specs.Forest.{Texted, text-string, text-float}
 use Rattle.graph.specs.View.{text-row}
-use Rattle.load_forest.specs.Trace.{Mode, Part, Plain, plain-nil, plain-true, plain-false, plain-fixnum, Trace, reading, plain, known, new, symbol-link, object-link, list, hash-default, object-pairs, text-bytes, user-bytes, stored, variables, no-elements, element, no-pairs, pair}
+use Rattle.load_forest.specs.Trace.{Mode, Part, Plain, plain-nil, plain-true, plain-false, plain-fixnum, Trace, reading, plain, known, new, symbol-link, object-link, list, hash-default, object-pairs, text-bytes, user-bytes, bignum-node, stored, variables, no-elements, element, no-pairs, pair}
 use Rattle.load_forest.specs.Readers.{load-traced, read-byte-then, read-bytes-then}
 use Rattle.states.specs.States.{read-to, sought, with-node, with-symbol, with-object-node, with-bytes, with-word, with-row, with-room}
 use Rattle.states.specs.Rows.{list-length, Listed, is-array, is-hash, Varied, varied-string, varied-user}
@@ -30,15 +31,6 @@ pub part-bytes : (input b : List ℕ) → Below 256 input → Part input b → B
 part-bytes input b h (i, n, e) k v a = h (i + k) v (range-at input n i k v (rw e at a))
 
 -- ---- the integer
-
--- n bytes over the bits above stay below (above + 1) · 256ⁿ
-little-below : (bs : List ℕ) (above : ℕ) → Below 256 bs → little bs above < (above + 1) * 256 ^ length bs
-unfolding little
-little-below [] above h = omega arith
-little-below (b ∷ bs) above h =
-    let ih = little-below bs above (λ k v a. h (suc k) v a) in
-    let z : (above + 1) * 256 ^ suc (length bs) ≡ (above + 1) * 256 ^ length bs * 256 = ap (λ (n : ℕ). (above + 1) * n) (pow-suc 256 (length bs)) ∙ psym (mul-assoc (above + 1) (256 ^ length bs) 256) in
-    rw z (omega (arith, ih, h 0 b refl))
 
 -- a form whose value has 32 bits
 Fits : Form → Type 0
@@ -160,6 +152,7 @@ small {s = s} (object-pairs {t = t} {u = u} n k a e l₁ l₂ x b l₃ z) h y =
 small {input = input} {s = s} (text-bytes q b e p l₁ l₂ l₃) h y = small-opened _ (with-bytes b s) (text-no-fixnum q _ _) (small-bytes b s (part-bytes input b h p) y)
 small {input = input} (user-bytes {t = t} b k a e x d p l₁ l₂ l₃) h y =
     small-opened _ (with-bytes b (read-to k a t)) (λ w e. apart (cc)) (small-bytes b (read-to k a t) (part-bytes input b h p) (small-same t (read-to k a t) refl refl (small x h y)))
+small {s = s} (bignum-node low high n m e q i l₁ l₂) h y = small-opened _ s (λ w e. apart (cc)) y
 small (stored x) h y = small x h y
 small (variables {t = t} {u = u} {h = v} {r = r} {r′ = r′} n k a e i x b l z c q) h y =
     small-row v r′ u (varied-no-fixnum r r′ q) (small z h (small-same t (with-room (n * 2) (read-to k a t)) refl refl (small x h y)))

@@ -10,7 +10,7 @@ use lib.Seq.{take-append-seam, take-at, drop-at}
 use native.Mathlib.Omega.{arith}
 use borrow.Author.Tests.{ltb-false}
 use Rattle.definition.specs.Run.{Outcome, ok, refused, pick}
-use Rattle.definition.specs.Node.{Row, nil, bool, fixnum, symbol, array, hash, object, string, user, float, absent, present, width, words, flat, vars, row-of, row, rows, is-row}
+use Rattle.definition.specs.Node.{Row, nil, bool, fixnum, symbol, array, hash, object, string, user, float, bignum, absent, present, width, words, flat, vars, row-of, row, rows, is-row}
 use Rattle.definition.specs.Arena.{Tables, Arena, arena, padded, zeroed, row-right, node-right, counts-fit, faulty, fault}
 use Rattle.definition.specs.Load.{State, Room, Lists, lists, room-of, load, load-wrong, LoadCall, counts, load-done, load-if, load-call}
 use Rattle.definition.specs.declared.Answer.the-variants.{Accepted, Refused}
@@ -43,6 +43,8 @@ row-words-back (string s l (present p n)) = refl
 row-words-back (user s l c absent) = refl
 row-words-back (user s l c (present p n)) = refl
 row-words-back (float s l) = refl
+row-words-back (bignum low high true) = refl
+row-words-back (bignum low high false) = refl
 
 take-words : (r : Row) (x : List ℕ) → take width (words r ++ x) ≡ words r
 take-words r x = take-at (words r) x 7 (length-words r)

@@ -7,16 +7,16 @@ use mathlib.Core.Logic.{inl}
 use mathlib.Core.List.{List, [], _∷_}
 use lib.ListN.{length, set, replicate, length-append, length-set, length-replicate}
 use native.Mathlib.Omega.{arith}
-use Rattle.definition.specs.Node.{Row, nil, hash, object, user, absent}
+use Rattle.definition.specs.Node.{Row, nil, hash, object, user, bignum, absent}
 use Rattle.definition.specs.Arena.{range}
 use Rattle.definition.specs.Load.{State, Room, noted}
 use Rattle.lists.specs.Lists.{At}
 use Rattle.lists.specs.Ranges.{range-none}
 use Rattle.graph.specs.Forest.{Texted}
 use Rattle.graph.specs.View.{text-row}
-use Rattle.load_forest.specs.Trace.{Mode, value, text, name, elements, pairs, One, as-value, as-name, Plain, plain-nil, plain-true, plain-false, plain-fixnum, Inner, inner-text, inner-value, Trace, reading, plain, known, new, symbol-link, object-link, list, hash-default, object-pairs, text-bytes, user-bytes, stored, variables, no-elements, element, no-pairs, pair}
+use Rattle.load_forest.specs.Trace.{Mode, value, text, name, elements, pairs, One, as-value, as-name, Plain, plain-nil, plain-true, plain-false, plain-fixnum, Inner, inner-text, inner-value, Trace, reading, plain, known, new, symbol-link, object-link, list, hash-default, object-pairs, text-bytes, user-bytes, bignum-node, stored, variables, no-elements, element, no-pairs, pair}
 use Rattle.states.specs.Rows.{list-length, Listed, Varied}
-use Rattle.states.specs.States.{read-to, sought, ranged-stored, frame-stored, Inside, Ranged, Free, Above, Frame, with-node, with-symbol, with-object-node, with-bytes, with-word, with-row, ranged-node, ranged-row, ranged-words, ranged-word, inside-nil, inside-bool, inside-fixnum, frame-refl, frame-trans, frame-below, frame-read-to, frame-sought, frame-symbol, frame-words, frame-word, frame-node, frame-row, free-new, free-part, range-written, with-room, inside-text, inside-user, inside-listed, inside-hash, inside-object, inside-varied, opened-ranged, above-nil, above-text, above-user, above-listed, above-hash, above-object, above-varied, with-new-symbol, ranged-new-symbol, above-bool, above-fixnum, frame-new-symbol, frame-opened}
+use Rattle.states.specs.States.{read-to, sought, ranged-stored, frame-stored, Inside, Ranged, Free, Above, Frame, with-node, with-symbol, with-object-node, with-bytes, with-word, with-row, ranged-node, ranged-row, ranged-words, ranged-word, inside-nil, inside-bool, inside-fixnum, frame-refl, frame-trans, frame-below, frame-read-to, frame-sought, frame-symbol, frame-words, frame-word, frame-node, frame-object-node, frame-row, free-new, free-part, range-written, with-room, inside-text, inside-bignum, inside-user, inside-listed, inside-hash, inside-object, inside-varied, opened-ranged, above-nil, above-text, above-bignum, above-user, above-listed, above-hash, above-object, above-varied, with-new-symbol, ranged-new-symbol, above-bool, above-fixnum, frame-new-symbol, frame-opened}
 
 -- the word from which on a read may write, where n words are used so far
 abbrev pub from : Mode → ℕ → ℕ
@@ -194,6 +194,13 @@ left-text q s b vs x = record {
   words = tt;
 }
 
+left-bignum : (s : State) (low high : ℕ) (m : Bool) (vs : List ℕ) → Ready value s → Left value s vs (with-object-node (bignum low high m) s)
+left-bignum s low high m vs x = record {
+  ranged = ranged-node _ s (inside-bignum low high m s) (x .ranged);
+  frame = frame-object-node _ _ s (above-bignum _ low high m);
+  words = tt;
+}
+
 left-user : (s t : State) (c : ℕ) (b ns vs : List ℕ) → Left name s ns t → Left text s vs (with-object-node (user (length (t .bytes)) (length b) c absent) (with-bytes b t))
 left-user s t c b ns vs y = record {
   ranged = ranged-stored _ b t (inside-user (with-bytes b t) (length (t .bytes)) (length b) c (omega (arith, length-append (t .bytes) b))) (y .ranged);
@@ -287,6 +294,7 @@ left {s = s} {vs = vs} (object-pairs {t = t} {u = u} {ms = ms} {c = c} n k a e l
     left-object s (read-to k a t) u n c (c ∷ []) ms vs (length (s .nodes)) h (left-then _ t (c ∷ []) k a z) (left y (ready-pairs n (read-to k a t) (z .ranged)))
 left {s = s} {vs = vs} (text-bytes q b e p l₁ l₂ l₃) h = left-text q s b vs h
 left {s = s} {vs = vs} (user-bytes {t = t} {c = c} b k a e x d p l₁ l₂ l₃) h = left-user s (read-to k a t) c b (c ∷ []) vs (left-then s t (c ∷ []) k a (left x (ready-name s (h .ranged))))
+left {s = s} {vs = vs} (bignum-node low high n m e q i l₁ l₂) h = left-bignum s low high m vs h
 left (stored x) h = let z = left x (ready-text h) in record { ranged = z .ranged; frame = z .frame; words = tt }
 left {s = s} {vs = vs} (variables {t = t} {u = u} {ms = ms} {h = v} {r = r} {r′ = r′} n k a e i x b l y c q) h =
     let z = left-inner s t (v ∷ []) k a i (left x (ready-inner i h)) in

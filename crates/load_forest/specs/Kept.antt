@@ -5,12 +5,12 @@ use mathlib.Core.Bool.{false}
 use mathlib.Core.List.{List}
 use lib.ListN.{length, length-set}
 use native.Mathlib.Omega.{arith}
-use Rattle.definition.specs.Node.{Row, nil, bool, fixnum, symbol, array, hash, object, string, user, float, absent}
+use Rattle.definition.specs.Node.{Row, nil, bool, fixnum, symbol, array, hash, object, string, user, float, bignum, absent}
 use Rattle.definition.specs.Load.{State, Room, noted}
 use Rattle.lists.specs.Lists.{At, at-set-other}
 use Rattle.graph.specs.View.{text-row}
 use Rattle.states.specs.States.{read-to, sought, Keeps, keeps-refl, keeps-trans, keeps-node, keeps-object-node, keeps-row, with-node, with-symbol, with-object-node, with-word, with-row, with-room}
-use Rattle.load_forest.specs.Trace.{Mode, Trace, reading, plain, known, new, symbol-link, object-link, list, hash-default, object-pairs, text-bytes, user-bytes, stored, variables, no-elements, element, no-pairs, pair}
+use Rattle.load_forest.specs.Trace.{Mode, Trace, reading, plain, known, new, symbol-link, object-link, list, hash-default, object-pairs, text-bytes, user-bytes, bignum-node, stored, variables, no-elements, element, no-pairs, pair}
 use Rattle.states.specs.Rows.{list-length, Varied, varied-string, varied-user}
 
 -- a row that takes no variables
@@ -25,6 +25,7 @@ Fixed (object s n c) = Unit {0}
 Fixed (string s l v) = ⊥
 Fixed (user s l c v) = ⊥
 Fixed (float s l) = Unit {0}
+Fixed (bignum low high m) = Unit {0}
 
 abbrev pub Kept : State → State → Type 0
 Kept s t = Keeps Fixed s t
@@ -61,6 +62,7 @@ kept {s = s} {t = t} (text-bytes q b e p l₁ l₂ l₃) = let r = text-row q (l
 kept {t = t} (user-bytes {t = u} {c = c} b k a e x d p l₁ l₂ l₃) =
     let r = user (length (u .bytes)) (length b) c absent in
     keeps-trans (kept x) (keeps-trans (keeps-node r u) (keeps-refl (with-node r u) t refl))
+kept {s = s} (bignum-node low high n m e q h l₁ l₂) = keeps-object-node (bignum low high m) s
 kept (stored x) = kept x
 kept {s = s} (variables {t = t} {u = u} {h = h} {r = r} {r′ = r′} n k a e i x b l y c q) =
     keeps-trans (kept x) (keeps-trans (keeps-refl t (with-room (n * 2) (read-to k a t)) refl) (keeps-trans (kept y) (kept-varied h r r′ u c q)))

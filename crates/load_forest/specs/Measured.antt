@@ -17,7 +17,7 @@ use Rattle.lists.specs.Lists.{At, at-snoc, getD-at, apart}
 use Rattle.graph.specs.Sums.{total, total-snoc, total-set}
 use Rattle.graph.specs.Forest.{sym}
 use Rattle.graph.specs.View.{arena-of, state-seen}
-use Rattle.load_forest.specs.Trace.{Mode, Trace, reading, plain, known, new, symbol-link, object-link, list, hash-default, object-pairs, text-bytes, user-bytes, stored, variables, no-elements, element, no-pairs, pair}
+use Rattle.load_forest.specs.Trace.{Mode, Trace, reading, plain, known, new, symbol-link, object-link, list, hash-default, object-pairs, text-bytes, user-bytes, bignum-node, stored, variables, no-elements, element, no-pairs, pair}
 use Rattle.load_forest.specs.Readers.{load-traced}
 use Rattle.load_forest.specs.Kept.{kept}
 use Rattle.load_forest.specs.Space.{is-symbol, range-most}
@@ -152,6 +152,7 @@ measures {s = s} (object-pairs {u = u} n k a e l₁ l₂ x b l₃ y) m =
     measures-row u (measures y (measures x (measures-node s m nil))) (length (s .nodes)) _ nil (kept y .stands _ nil tt (kept x .stands _ nil tt (at-snoc (s .nodes) nil))) nil-no-symbol
 measures {s = s} (text-bytes q b e p l₁ l₂ l₃) m = measures-node (with-bytes b s) (measures-bytes s m b) _
 measures (user-bytes {t = t} b k a e x d p l₁ l₂ l₃) m = measures-node (with-bytes b t) (measures-bytes t (measures x m) b) _
+measures {s = s} (bignum-node low high n minus e q h l₁ l₂) m = measures-node s m _
 measures (stored x) m = measures x m
 measures (variables {u = u} {h = h} {r = r} {r′ = r′} n k a e i x b l y c q) m = measures-row u (measures y (measures x m)) h r′ r c (no-symbol q)
 measures no-elements m = m

@@ -13,21 +13,24 @@ use borrow.Author.Tests.{ltb-true, leb-true, eqb-true}
 use Rattle.definition.specs.declared.Refusal.{Refusal}
 use Rattle.definition.specs.Run.{Outcome, ok, refused, pure, refuse, next, _>>=_, look, pick}
 use Rattle.definition.specs.Integer.{Form, value as form-value, data-bytes, form, little, integer-bytes}
-use Rattle.definition.specs.Kind.{NIL, TRUE, FALSE, FIXNUM, SYMBOL, SYMBOL-LINK, OBJECT-LINK, INSTANCE-VARIABLES, ARRAY, HASH, HASH-DEFAULT, OBJECT, STRING, USER-DEFINED, FLOAT}
-use Rattle.definition.specs.Node.{Row, nil, bool, fixnum, symbol, array, hash, object, string, user, float, absent, present, equal}
+use Rattle.definition.specs.Kind.{NIL, TRUE, FALSE, FIXNUM, SYMBOL, SYMBOL-LINK, OBJECT-LINK, INSTANCE-VARIABLES, ARRAY, HASH, HASH-DEFAULT, OBJECT, STRING, USER-DEFINED, FLOAT, BIGNUM, MINUS}
+use Rattle.definition.specs.Node.{Row, nil, bool, fixnum, symbol, array, hash, object, string, user, float, bignum, absent, present, equal}
+use Rattle.definition.specs.Magnitude.{fits, sign, fewest-units, sign-byte, unit-bytes, bignum-bytes, bignum-row}
 use Rattle.definition.specs.Arena.{range, find-symbol}
 use Rattle.definition.specs.Load as L
 use Rattle.definition.specs.Load.{State, Room, Reader, at-set, noted, begin}
 use Rattle.definition.specs.Dump.{byte-string-bytes}
 use Rattle.lists.specs.Lists.{At, apart, at-getD}
 use Rattle.lists.specs.Ranges.{length-range-in}
-use Rattle.lists.specs.Words.{equal-true}
+use Rattle.lists.specs.Words.{equal-true, length-low}
+use Rattle.lists.specs.Magnitudes.{of-words}
 use Rattle.graph.specs.Forest.{Texted, text-string, text-float}
 use Rattle.graph.specs.View.{text-row}
-use Rattle.load_forest.specs.Trace.{Spelt, Read, spelt-join, Mode, value, text, name, elements, pairs, One, as-value, as-name, Part, Plain, plain-nil, plain-true, plain-false, plain-fixnum, Inner, inner-text, inner-value, Trace, reading, plain, known, new, symbol-link, object-link, list, hash-default, object-pairs, text-bytes, user-bytes, stored, variables, no-elements, element, no-pairs, pair, forwards}
+use Rattle.load_forest.specs.Trace.{Spelt, Read, spelt-join, Mode, value, text, name, elements, pairs, One, as-value, as-name, Part, Plain, plain-nil, plain-true, plain-false, plain-fixnum, Inner, inner-text, inner-value, Trace, reading, plain, known, new, symbol-link, object-link, list, hash-default, object-pairs, text-bytes, user-bytes, bignum-node, stored, variables, no-elements, element, no-pairs, pair, forwards}
 use Rattle.states.specs.Rows.{list-length, is-array, is-hash, Varied, varied-string, varied-user}
 use Rattle.states.specs.States.{read-to, sought, with-node, with-object, with-symbol, with-object-node, with-bytes, with-word, with-row, with-room}
 use Rattle.states.specs.Symbols.{found, missed}
+use Rattle.states.specs.Right.{sign-right}
 
 -- ---- taking work apart
 
@@ -141,16 +144,20 @@ bytes-spelt input n s l = record {
 spelt-before : {input : List ℕ} {s : State} {k : ℕ} {n : Bool} {y : List ℕ} → Spelt input (with-object-node nil s) k n y → Spelt input s k n y
 spelt-before a = record { on = a .on; inside = a .inside; off = a .off; text = a .text }
 
--- bytes that are an integer's where they are the ones that dump writes
-told-spelt : {input : List ℕ} {s : State} {k : ℕ} (bs : List ℕ) (w : ℕ) → Spelt input s k (s .notes .form) bs → Spelt input s k (equal bs (integer-bytes w) && s .notes .form) (integer-bytes w)
-told-spelt {input} {s} {k} bs w a = record {
+-- bytes that are others where a test holds, and the test is noted
+noted-spelt : {input : List ℕ} {s : State} {k : ℕ} {n : Bool} (t : Bool) {x y : List ℕ} → (t ≡ true → x ≡ y) → Spelt input s k n x → Spelt input s k (t && n) y
+noted-spelt {input} {s} {k} {n} t h a = record {
   on = a .on;
   inside = a .inside;
-  off = λ o. and-off (equal bs (integer-bytes w)) (s .notes .form) o;
+  off = λ o. and-off t n (a .off o);
   text = λ f.
-      let (x, y) = both-hold (equal bs (integer-bytes w)) (s .notes .form) f in
-      a .text y ∙ ap (λ (z : List ℕ). z ++ drop k input) (equal-true bs (integer-bytes w) x);
+      let (p, q) = both-hold t n f in
+      a .text q ∙ ap (λ (z : List ℕ). z ++ drop k input) (h p);
 }
+
+-- bytes that are an integer's where they are the ones that dump writes
+told-spelt : {input : List ℕ} {s : State} {k : ℕ} (bs : List ℕ) (w : ℕ) → Spelt input s k (s .notes .form) bs → Spelt input s k (equal bs (integer-bytes w) && s .notes .form) (integer-bytes w)
+told-spelt bs w a = noted-spelt (equal bs (integer-bytes w)) (equal-true bs (integer-bytes w)) a
 
 form-read : (input : List ℕ) (f : Form) (s : State) (w : ℕ) (u : State) → s .at < length input → L.read-form input (getD input (s .at) 0) f (at-set (s .at + 1) s) ≡ ok w u → Read input integer-bytes w s u
 unfolding L.read-form L.tell _>>=_
@@ -167,12 +174,38 @@ integer-read : (input : List ℕ) (s : State) (w : ℕ) (u : State) → L.read-i
 unfolding L.read-integer _>>=_
 integer-read input s w u e = read-byte-then input s _ w u e λ l e₁. form-read input (form (getD input (s .at) 0)) s w u l e₁
 
-count-read : (input : List ℕ) (s : State) (w : ℕ) (u : State) → L.read-count input s ≡ ok w u → Read input integer-bytes w s u
-unfolding L.read-count _>>=_ pure
-count-read input s w u e =
+-- and then a test, which reads nothing
+tested-read : {A : Type 0} (input : List ℕ) (f : A → List ℕ) (m : Reader A) (test : A → Bool) (r : A → Refusal) (s : State) (w : A) (u : State) → ((x : A) (v : State) → m s ≡ ok x v → Read input f x s v)
+    → (m >>= λ x. pick (test x) (pure x) (refuse (r x))) s ≡ ok w u → Read input f w s u
+unfolding _>>=_ pure
+tested-read input f m test r s w u h e =
     un e λ x v e₁ e₂. picked-reader _ _ _ v w u e₂ λ p e₃.
-    let (k, n, a, q) = integer-read input s x v e₁ in
+    let (k, n, a, q) = h x v e₁ in
     rw (← (ok-result e₃)) (k, n, a, psym (ok-state e₃) ∙ q)
+
+count-read : (input : List ℕ) (s : State) (w : ℕ) (u : State) → L.read-count input s ≡ ok w u → Read input integer-bytes w s u
+unfolding L.read-count
+count-read input s w u e = tested-read input integer-bytes (L.read-integer input) _ _ s w u (integer-read input s) e
+
+-- a Bignum's sign byte and its count of units
+sign-read : (input : List ℕ) (s : State) (b : ℕ) (u : State) → L.read-sign input s ≡ ok b u → Read input (λ b. b ∷ []) b s u
+unfolding L.read-sign pure
+sign-read input s b u e =
+    tested-read input (λ (b : ℕ). b ∷ []) (L.read-byte input) _ _ s b u
+    (λ x v e₁. read-byte-then input s pure x v (last _ _ _ e₁) λ l e₂. rw (← (ok-result e₂)) (s .at + 1, s .notes .form, byte-spelt input s l, psym (ok-state e₂))) e
+
+unit-count-read : (input : List ℕ) (s : State) (w : ℕ) (u : State) → L.read-unit-count input s ≡ ok w u → Read input integer-bytes w s u
+unfolding L.read-unit-count
+unit-count-read input s w u e = tested-read input integer-bytes (L.read-count input) _ _ s w u (count-read input s) e
+
+-- n units are those that dump writes, after a sign byte that dump writes
+units-written : (b n m : ℕ) (minus : Bool) (bs : List ℕ) → length bs ≡ n * 2 → (eqb b (sign-byte minus) && equal bs (unit-bytes m)) ≡ true → (b ∷ integer-bytes n) ++ bs ≡ bignum-bytes minus m
+unfolding bignum-bytes unit-bytes
+units-written b n m minus bs l e =
+    let (x, y) = both-hold (eqb b (sign-byte minus)) (equal bs (unit-bytes m)) e in
+    let q = equal-true bs (unit-bytes m) y in
+    let z : n ≡ fewest-units m = omega (arith, length-low (fewest-units m * 2) m, ap (λ (c : List ℕ). length c) q) in
+    λ i. eqb-true b (sign-byte minus) x i ∷ (integer-bytes (z i) ++ q i)
 
 -- a byte string is a part of the input
 byte-string-read : (input : List ℕ) (s : State) (bs : List ℕ) (u : State) → L.read-byte-string input s ≡ ok bs u → Read input byte-string-bytes bs s u × Part input bs
@@ -244,6 +277,7 @@ Kinded k L.Object = k ≡ OBJECT
 Kinded k L.String = k ≡ STRING
 Kinded k L.UserDefined = k ≡ USER-DEFINED
 Kinded k L.Float = k ≡ FLOAT
+Kinded k L.Bignum = k ≡ BIGNUM
 Kinded k L.Unknown = Unit {0}
 
 kind-else : (k b : ℕ) (x y : L.Head) → (k ≡ b → Kinded k x) → Kinded k y → Kinded k (pick (eqb k b) x y)
@@ -271,7 +305,8 @@ kinded k =
     (kind-else k OBJECT _ _ (λ e. e)
     (kind-else k STRING _ _ (λ e. e)
     (kind-else k USER-DEFINED _ _ (λ e. e)
-    (kind-else k FLOAT _ _ (λ e. e) tt))))))))))))))
+    (kind-else k FLOAT _ _ (λ e. e)
+    (kind-else k BIGNUM _ _ (λ e. e) tt)))))))))))))))
 
 same-kind : {p : List ℕ} {k b : ℕ} → k ≡ b → p ≡ k ∷ [] → p ≡ b ∷ []
 same-kind q e = e ∙ ap (λ (x : ℕ). x ∷ []) q
@@ -479,6 +514,29 @@ module _ (input : List ℕ) (room : Room) where
       text-then (λ start n. user start n c absent) u t v e₁ λ b k n a x l₁ l₂ l₃ e₂.
       ended (user-bytes b k n g (name-traced s u c e₀) a x l₁ l₂ l₃) e₂
 
+  -- the units and the node, after the sign byte and the count
+  magnitude-traced : {l : ℕ} (p : List ℕ) → p ≡ BIGNUM ∷ [] → (s : State) (b n k : ℕ) (f : Bool) → Spelt input s k f (b ∷ integer-bytes n)
+      → (t : State) (v : ℕ) → L.read-magnitude input room b n (read-to k f s) ≡ ok v t → Trace input room (suc l) value p s (v ∷ []) t
+  unfolding L.read-magnitude L.add-bignum L.note bignum-row _>>=_ next pure
+  magnitude-traced p g s b n k f a t v e =
+      let bs = range input k (n * 2) in
+      let m = little bs 0 in
+      let minus = sign (eqb b MINUS) m in
+      let test : Bool = eqb b (sign-byte minus) && equal bs (unit-bytes m) in
+      let u = at-set (k + n * 2) (read-to k f s) in
+      read-bytes-then input (n * 2) (read-to k f s) _ v t e λ h e₁.
+      picked-reader (fits m) _ _ u v t e₁ λ q e₂.
+      add-object-node-then room _ (noted test u) pure v t (last _ _ _ e₂) λ l₁ l₂ e₃.
+      reading (k + n * 2) (test && f) (noted-spelt test (units-written b n m minus bs (length-range-in input k (n * 2) h)) (spelt-join a (bytes-spelt input (n * 2) (read-to k f s) h)))
+      (ended (bignum-node _ _ m minus (kind-more _ g) (of-words m) (sign-right m (eqb b MINUS) q) l₁ l₂) e₃)
+
+  bignum-traced : {l : ℕ} → After (suc l) value BIGNUM (L.read-bignum input room)
+  unfolding L.read-bignum _>>=_
+  bignum-traced p g s t v e =
+      read-then input (λ (b : ℕ). b ∷ []) (L.read-sign input) s _ v t e (sign-read input s) λ b k₁ n₁ a₁ x₁ e₁.
+      read-then input integer-bytes (L.read-unit-count input) (read-to k₁ n₁ s) _ v t e₁ (unit-count-read input (read-to k₁ n₁ s)) λ n k₂ n₂ a₂ x₂ e₂.
+      magnitude-traced p g s b n k₂ n₂ (spelt-join a₁ a₂) t v e₂
+
   -- only a string or a user-defined node takes variables
   set-variables-then : (h p n : ℕ) (r : Row) (u t : State) (v : ℕ) → L.set-variables h p n r u ≡ ok v t → (r′ : Row) × Varied p n r r′ × (ok h (with-row h r′ u) ≡ ok v t)
   unfolding L.set-variables L.fill refuse
@@ -492,6 +550,7 @@ module _ (input : List ℕ) (room : Room) where
   set-variables-then h p n (hash a m d) u t v e = apart (cc)
   set-variables-then h p n (object a m c) u t v e = apart (cc)
   set-variables-then h p n (float a l) u t v e = apart (cc)
+  set-variables-then h p n (bignum low high m) u t v e = apart (cc)
 
   varied-some : {p n : ℕ} {r r′ : Row} → Varied p n r r′ → r ≡ nil → ⊥
   varied-some varied-string e = apart (cc)
@@ -540,6 +599,7 @@ module _ (input : List ℕ) (room : Room) where
   value-of-traced f h k L.String q p g s t v e = stored (text-traced text-string p (same-kind q g) s t v e)
   value-of-traced f h k L.UserDefined q p g s t v e = stored (user-traced p (same-kind q g) s t v e)
   value-of-traced f h k L.Float q p g s t v e = stored (text-traced text-float p (same-kind q g) s t v e)
+  value-of-traced f h k L.Bignum q p g s t v e = bignum-traced p (same-kind q g) s t v e
   value-of-traced f h k L.Unknown q p g s t v e = no-value _ s t v e
 
   -- the kind bytes that `I` goes before

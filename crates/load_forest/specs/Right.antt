@@ -1,4 +1,4 @@
--- A loaded arena is well formed: ranges are inside, links are nodes, and names are symbols.
+-- A loaded arena is well formed: ranges are inside, links are nodes, names are symbols, and a Bignum's number is right.
 use Prim.Native.Nat.{ℕ, zero, suc, _+_, _*_, _≤_, _<_}
 use mathlib.Core.Path.{_≡_, refl, ap, subst}
 use mathlib.Core.Path.{_∙_}
@@ -9,7 +9,8 @@ use mathlib.Core.List.{List, [], _∷_, append-nil}
 use lib.ListN.{length, replicate, length-set, length-append}
 use native.Mathlib.Omega.{arith}
 use Rattle.definition.specs.Run.{ok}
-use Rattle.definition.specs.Node.{Row, nil, fixnum, symbol, hash, object, user, absent}
+use Rattle.definition.specs.Node.{Row, nil, fixnum, symbol, hash, object, user, bignum, absent}
+use Rattle.definition.specs.Magnitude.{magnitude}
 use Rattle.definition.specs.Arena.{Arena, range, firsts, row-right}
 use Rattle.definition.specs.Graph.{links, vars-links, default-link}
 use Rattle.definition.specs.Load.{State, Room, noted, begin, load}
@@ -18,15 +19,16 @@ use Rattle.lists.specs.Ranges.{range-more}
 use Rattle.graph.specs.Forest.{sym, Texted, text-string, text-float}
 use Rattle.graph.specs.View.{text-row, arena-of, state-seen}
 use Rattle.well_formed.specs.Nodes.{Name}
-use Rattle.well_formed.specs.Right.{name-below}
-use Rattle.load_forest.specs.Trace.{Mode, value, text, name, elements, pairs, One, as-value, as-name, Plain, plain-nil, plain-true, plain-false, plain-fixnum, Trace, reading, plain, known, new, symbol-link, object-link, list, hash-default, object-pairs, text-bytes, user-bytes, stored, variables, no-elements, element, no-pairs, pair}
+use Rattle.well_formed.specs.Right as W
+use Rattle.well_formed.specs.Right.{NumberRight, name-below}
+use Rattle.load_forest.specs.Trace.{Mode, value, text, name, elements, pairs, One, as-value, as-name, Plain, plain-nil, plain-true, plain-false, plain-fixnum, Trace, reading, plain, known, new, symbol-link, object-link, list, hash-default, object-pairs, text-bytes, user-bytes, bignum-node, stored, variables, no-elements, element, no-pairs, pair}
 use Rattle.load_forest.specs.Readers.{load-traced}
 use Rattle.load_forest.specs.Frames.{Ready, left, ready-reading, ready-text, ready-inner, ready-value, ready-name, ready-pairs, ready-opened, ready-next, ready-after-name, ready-after-value}
 use Rattle.load_forest.specs.Kept.{Kept, kept}
 use Rattle.states.specs.Rows.{bytes-start, bytes-length, list-start, list-length, row-words, Listed, is-array, is-hash, Varied, varied-string, varied-user}
-use Rattle.states.specs.States.{keeps-refl, keeps-trans, Inside, Ranged, Free, read-to, sought, with-node, with-object, with-symbol, with-object-node, with-bytes, with-words, with-word, with-row, with-new-symbol, inside-up, seen-at-inv, frame-range, free-part, inside-nil, words-but, with-room, opened-ranged, begin-ranged}
+use Rattle.states.specs.States.{keeps-refl, keeps-trans, Inside, Ranged, Free, read-to, sought, with-node, with-object, with-symbol, with-object-node, with-bytes, with-words, with-word, with-row, with-new-symbol, inside-up, seen-at-inv, frame-range, free-part, inside-nil, inside-bignum, words-but, with-room, opened-ranged, begin-ranged}
 use Rattle.states.specs.Symbols.{symbol-of}
-use Rattle.states.specs.Right.{row-names, RightIn, Onward, right-yes, row-onward, names-first}
+use Rattle.states.specs.Right.{row-names, Numbered, RightIn, Onward, right-yes, row-onward, names-first}
 
 -- node c is a symbol
 abbrev pub IsName : State → ℕ → Type 0
@@ -175,49 +177,55 @@ still-nil s t κ = κ .stands (length (s .nodes)) nil tt (at-snoc (s .nodes) nil
 
 -- ---- the rows that are added or filled
 
-bare : (s : State) (r : Row) → Inside s r → links (arena-of s 0) r ≡ [] → row-names (arena-of s 0) r ≡ [] → RowRight s r
-bare s r i l n = record {
+bare : (s : State) (r : Row) → Inside s r → links (arena-of s 0) r ≡ [] → row-names (arena-of s 0) r ≡ [] → Numbered r → RowRight s r
+bare s r i l n m = record {
   inside = i;
   below = λ k v a. no-at k v (subst (λ (x : List ℕ). At x k v) l a);
   names = λ k v a. no-at k v (subst (λ (x : List ℕ). At x k v) n a);
+  number = m;
 }
 
 plain-right : {input p : List ℕ} (s : State) (r : Row) → Plain input p r → Inside s r → RowRight s r
 unfolding links row-names
-plain-right s r plain-nil i = bare s nil i refl refl
-plain-right s r plain-true i = bare s _ i refl refl
-plain-right s r plain-false i = bare s _ i refl refl
-plain-right s r (plain-fixnum w u t e) i = bare s (fixnum w) i refl refl
+plain-right s r plain-nil i = bare s nil i refl refl (λ low high m e. apart (cc))
+plain-right s r plain-true i = bare s _ i refl refl (λ low high m e. apart (cc))
+plain-right s r plain-false i = bare s _ i refl refl (λ low high m e. apart (cc))
+plain-right s r (plain-fixnum w u t e) i = bare s (fixnum w) i refl refl (λ low high m e. apart (cc))
 
 nil-right : (s : State) → RowRight s nil
 unfolding links row-names
-nil-right s = bare s nil (inside-nil s) refl refl
+nil-right s = bare s nil (inside-nil s) refl refl (λ low high m e. apart (cc))
 
 symbol-right : (s : State) (a l : ℕ) → Inside s (symbol a l) → RowRight s (symbol a l)
 unfolding links row-names
-symbol-right s a l i = bare s (symbol a l) i refl refl
+symbol-right s a l i = bare s (symbol a l) i refl refl (λ low high m e. apart (cc))
 
 text-right : {k n : ℕ} (q : Texted k n) (s : State) (a l : ℕ) → Inside s (text-row q a l) → RowRight s (text-row q a l)
 unfolding links row-names vars-links firsts
-text-right text-string s a l i = bare s _ i refl refl
-text-right text-float s a l i = bare s _ i refl refl
+text-right text-string s a l i = bare s _ i refl refl (λ low high m e. apart (cc))
+text-right text-float s a l i = bare s _ i refl refl (λ low high m e. apart (cc))
+
+bignum-right : (s : State) (low high : ℕ) (m : Bool) → NumberRight (magnitude low high) m → RowRight s (bignum low high m)
+unfolding links row-names
+bignum-right s low high m h = bare s _ (inside-bignum low high m s) refl refl (λ a b c e. subst (W.RowRight (arena-of s 0)) e h)
 
 user-right : (s : State) (a l c : ℕ) → Inside s (user a l c absent) → IsName s c → RowRight s (user a l c absent)
 unfolding links row-names vars-links firsts
-user-right s a l c i n = record { inside = i; below = below-one _ c (name-below (arena-of s 0) c n); names = names-first (arena-of s 0) c [] n (λ k d a. no-at k d a) }
+user-right s a l c i n = record { inside = i; below = below-one _ c (name-below (arena-of s 0) c n); names = names-first (arena-of s 0) c [] n (λ k d a. no-at k d a); number = λ low high m e. apart (cc) }
 
 listed-right : {p : ℕ} (s : State) (r : Row) (ms : List ℕ) → Listed p r → Inside s r → range (s .references) p (list-length r) ≡ ms → Below (length (s .nodes)) ms → RowRight s r
 unfolding links row-names list-length default-link
-listed-right {p = p} s r ms (is-array n) i e b = record { inside = i; below = λ k v a. b k v (rw e at a); names = λ k v a. no-at k v a }
+listed-right {p = p} s r ms (is-array n) i e b = record { inside = i; below = λ k v a. b k v (rw e at a); names = λ k v a. no-at k v a; number = λ low high m q. apart (cc) }
 listed-right {p = p} s r ms (is-hash n) i e b = record {
   inside = i;
   below = λ k v a. b k v (subst (λ (x : List ℕ). At x k v) (append-nil (range (s .references) p (n * 2)) ∙ e) a);
   names = λ k v a. no-at k v a;
+  number = λ low high m q. apart (cc);
 }
 
 hash-right : (s : State) (p n d : ℕ) (ms : List ℕ) → Inside s (hash p n (d + 1)) → range (s .references) p (n * 2) ≡ ms → Below (length (s .nodes)) ms → d < length (s .nodes) → RowRight s (hash p n (d + 1))
 unfolding links row-names default-link
-hash-right s p n d ms i e b h = record { inside = i; below = below-join _ (range (s .references) p (n * 2)) (default-link (d + 1)) (λ k v a. b k v (rw e at a)) last; names = λ k v a. no-at k v a }
+hash-right s p n d ms i e b h = record { inside = i; below = below-join _ (range (s .references) p (n * 2)) (default-link (d + 1)) (λ k v a. b k v (rw e at a)) last; names = λ k v a. no-at k v a; number = λ low high m q. apart (cc) }
   where
     last : Below (length (s .nodes)) (default-link (d + 1))
     last = let z : d + 1 ≡ suc d = omega arith in rw z (below-one _ d h)
@@ -229,6 +237,7 @@ object-right s p n c ms i e x b h = record {
   inside = i;
   below = below-first _ c (range (s .references) p (n * 2)) (name-below (arena-of s 0) c x) (λ k v a. b k v (rw e at a));
   names = names-first (arena-of s 0) c (firsts (range (s .references) p (n * 2))) x (λ k d a. h k d (subst (λ (l : List ℕ). At (firsts l) k d) e a));
+  number = λ low high m q. apart (cc);
 }
 
 varied-right : {p n : ℕ} (s : State) (r r′ : Row) (ms : List ℕ) → Varied p n r r′ → Inside s r′ → range (s .references) p (n * 2) ≡ ms → RowRight s r → Below (length (s .nodes)) ms
@@ -238,11 +247,13 @@ varied-right s r r′ ms varied-string i e x b h = record {
   inside = i;
   below = λ k v a. b k v (rw e at a);
   names = λ k d a. h k d (subst (λ (l : List ℕ). At (firsts l) k d) e a);
+  number = λ low high m q. apart (cc);
 }
 varied-right {p = p} {n = n} s r r′ ms (varied-user {c = c}) i e x b h = record {
   inside = i;
   below = below-first _ c (range (s .references) p (n * 2)) (x .below 0 c refl) (λ k v a. b k v (rw e at a));
   names = names-first (arena-of s 0) c (firsts (range (s .references) p (n * 2))) (x .names 0 c refl) (λ k d a. h k d (subst (λ (l : List ℕ). At (firsts l) k d) e a));
+  number = λ low high m q. apart (cc);
 }
 
 varied-no-symbol : {p n : ℕ} (r r′ : Row) → Varied p n r r′ → (a l : ℕ) → r ≡ symbol a l → ⊥
@@ -346,6 +357,14 @@ done-text : {k n : ℕ} (q : Texted k n) (s : State) (b : List ℕ) (a l : ℕ) 
     → Done text (with-object-node (text-row q a l) (with-bytes b s)) (length (s .nodes) ∷ [])
 done-text q s b a l g x = done-added (text-row q a l) b s (text-right q (with-bytes b s) a l (added-inside _ b s g)) x
 
+done-bignum : (s : State) (low high n : ℕ) (m : Bool) → magnitude low high ≡ n → NumberRight n m → Right s → Done value (with-object-node (bignum low high m) s) (length (s .nodes) ∷ [])
+done-bignum s low high n m e h x =
+    let r = bignum low high m in
+    record {
+      right = right-object-node r s (bignum-right s low high m (rw e h)) x;
+      given = given-value (with-object-node r s) (length (s .nodes)) (omega (arith, len-snoc (s .nodes) r));
+    }
+
 done-user : (t : State) (b : List ℕ) (a l c : ℕ) → Ranged (with-object-node (user a l c absent) (with-bytes b t)) → IsName t c → Right t
     → Done text (with-object-node (user a l c absent) (with-bytes b t)) (length (t .nodes) ∷ [])
 done-user t b a l c g n x = done-added (user a l c absent) b t (user-right (with-bytes b t) a l c (added-inside _ b t g) n) x
@@ -412,6 +431,7 @@ right-of {room = room} {l = l} {s = s} (text-bytes q b e p l₁ l₂ l₃) h d =
 right-of {s = s} (user-bytes {t = t} {c = c} b k a e x f p l₁ l₂ l₃) h d =
     let d₁ = right-of x (ready-name s (h .ranged)) d in
     done-user (read-to k a t) b _ _ c (left (user-bytes b k a e x f p l₁ l₂ l₃) h .ranged) (d₁ .given .named 0 c refl) (right-read k a t (d₁ .right))
+right-of {s = s} (bignum-node low high n m e q i l₁ l₂) h d = done-bignum s low high n m q i d
 right-of (stored x) h d = let z = right-of x (ready-text h) d in record { right = z .right; given = record { below = z .given .below; named = z .given .named } }
 right-of {s = s} (variables {t = t} {u = u} {ms = ms} {h = v} {r = r} {r′ = r′} n k a e i x b l y c q) h d =
     let o = ready-inner i h in

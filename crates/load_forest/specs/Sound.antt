@@ -11,8 +11,9 @@ use lib.Seq.{set-append-seam}
 use native.Mathlib.Omega.{arith}
 use Rattle.definition.specs.Run.{ok}
 use Rattle.definition.specs.Integer.{integer-bytes}
-use Rattle.definition.specs.Kind.{SYMBOL, SYMBOL-LINK, OBJECT-LINK, INSTANCE-VARIABLES, HASH-DEFAULT, OBJECT, USER-DEFINED}
-use Rattle.definition.specs.Node.{Row, nil, hash, object, string, user, absent, present}
+use Rattle.definition.specs.Kind.{SYMBOL, SYMBOL-LINK, OBJECT-LINK, INSTANCE-VARIABLES, HASH-DEFAULT, OBJECT, USER-DEFINED, BIGNUM}
+use Rattle.definition.specs.Node.{Row, nil, hash, object, string, user, bignum, absent, present}
+use Rattle.definition.specs.Magnitude.{magnitude, bignum-bytes}
 use Rattle.definition.specs.Arena.{Arena, range}
 use Rattle.definition.specs.Dump.{byte-string-bytes}
 use Rattle.definition.specs.Graph.{Header, header, header-of, links, vars-links, vars-count, vars-present}
@@ -20,15 +21,16 @@ use Rattle.definition.specs.Load.{State, Room, noted, begin, load}
 use Rattle.lists.specs.Lists.{At, NotIn, Below, at-snoc, apart}
 use Rattle.lists.specs.Ranges.{range-last}
 use Rattle.graph.specs.Forest as F
-use Rattle.graph.specs.Forest.{Node, leaf, sym, box, F, fEnd, fLeaf, fBox, fRef, fSym, fSymref, fIv, Texted, high-text, Text, tEnd, tNil, tFalse, tTrue, tFixnum, tSymbol, tSymbolLink, tObjectLink, tArray, tHash, tHashDefault, tObject}
+use Rattle.graph.specs.Forest.{Node, leaf, sym, box, F, fEnd, fLeaf, fBox, fRef, fSym, fSymref, fIv, Texted, high-text, Text, tEnd, tNil, tFalse, tTrue, tFixnum, tSymbol, tSymbolLink, tObjectLink, tArray, tHash, tHashDefault, tObject, tBignum}
 use Rattle.graph.specs.Build.{St, push, pushO, addSym, put, Ph, B, bEnd, bLeaf, bBox, bRef, bKnown, bNew, bSymref, bIv, keep}
 use Rattle.graph.specs.View.{see, text-row, see-text, arena-of, state-seen}
-use Rattle.load_forest.specs.Trace.{Off, Spelt, Mode, value, text, name, elements, pairs, One, as-value, as-name, Plain, plain-nil, plain-true, plain-false, plain-fixnum, list-bytes, inner-text, inner-value, Trace, reading, plain, known, new, symbol-link, object-link, list, hash-default, object-pairs, text-bytes, user-bytes, stored, variables, no-elements, element, no-pairs, pair, forwards}
+use Rattle.well_formed.specs.Right.{NumberRight}
+use Rattle.load_forest.specs.Trace.{Off, Spelt, Mode, value, text, name, elements, pairs, One, as-value, as-name, Plain, plain-nil, plain-true, plain-false, plain-fixnum, list-bytes, inner-text, inner-value, Trace, reading, plain, known, new, symbol-link, object-link, list, hash-default, object-pairs, text-bytes, user-bytes, bignum-node, stored, variables, no-elements, element, no-pairs, pair, forwards}
 use Rattle.load_forest.specs.Readers.{load-traced}
 use Rattle.load_forest.specs.Bytes.{integer-below}
 use Rattle.load_forest.specs.Frames.{Ready, Left, left, ready-reading, ready-text, ready-value, ready-name, ready-pairs, ready-opened, ready-next, ready-after-name, ready-after-value}
-use Rattle.states.specs.Rows.{list-length, see-array, see-hash, see-hash-default, see-object, see-string-variables, see-user, see-user-variables, Listed, is-array, is-hash, Varied, varied-string, varied-user}
-use Rattle.states.specs.States.{read-to, sought, row-seen, Ranged, with-node, with-object-node, with-bytes, with-word, with-row, st-eq, length-seen, seen-at, seen-read-to, seen-sought, objs-seen, syms-seen, seen-symbol, seen-node, seen-row, seen-word, frame-range, free-part, with-room, opened-ranged, opened-seen, room-seen, new-symbol-seen, bytes-node-seen, begin-ranged, with-new-symbol}
+use Rattle.states.specs.Rows.{list-length, see-array, see-hash, see-hash-default, see-object, see-string-variables, see-bignum, see-user, see-user-variables, Listed, is-array, is-hash, Varied, varied-string, varied-user}
+use Rattle.states.specs.States.{read-to, sought, row-seen, Ranged, with-node, with-object-node, with-bytes, with-word, with-row, st-eq, length-seen, seen-at, seen-read-to, seen-sought, objs-seen, syms-seen, seen-symbol, seen-node, seen-object-node, seen-row, seen-word, frame-range, free-part, with-room, opened-ranged, opened-seen, room-seen, new-symbol-seen, bytes-node-seen, begin-ranged, with-new-symbol}
 use Rattle.load_forest.specs.Spelling.{Named, named-new, named-link, OneTree, Trees, Told, told-all, joined, told-reading, closed-trees, closed-pairs, one-name, class-text, no-trees, more-trees, last-tree, no-pairs-told, ValuePairs, value-then, more-pairs, Lettered, letters, user-letters, lettered-tree, varied-tree}
 
 -- ---- which inputs
@@ -300,6 +302,13 @@ module _ (input : List ℕ) (w : Inputs) where
     told = λ o. ([], refl, subst (Lettered (suc l) n fEnd b) (psym (append-nil p ∙ e)) (letters q));
   }
 
+  out-bignum : {l : ℕ} {p : List ℕ} (s : State) (low high n : ℕ) (m : Bool) → p ≡ BIGNUM ∷ bignum-bytes m n → magnitude low high ≡ n → NumberRight n m
+      → Out value (suc l) p s (length (s .nodes) ∷ []) (with-object-node (bignum low high m) s)
+  out-bignum {l} s low high n m e q h =
+      let hd = header-of 10 n [] 0 m in
+      placed refl (number s) (put-open (box hd []) (leaf 0 0) (state-seen s) ∙ psym (seen-object-node (bignum low high m) s ∙ ap (λ (x : Node). pushO x (state-seen s)) (see-bignum (arena-of s 0) low high n m q)))
+      (head-box hd fEnd fEnd (leaf 0 0) (inl refl) bEnd bEnd (λ o. told-all refl (subst (OneTree (suc l) (fBox hd fEnd fEnd)) (psym e) (record { trees-are = λ r. refl; writes = λ i r y v t. tBignum v h t }))))
+
   out-user : {l k : ℕ} {p : List ℕ} {a : Bool} (s t : State) (c : ℕ) (b : List ℕ) → p ≡ USER-DEFINED ∷ [] → Ranged t → Spelt input t k a (byte-string-bytes b) → (Off a → Odd w) → Out name l [] s (c ∷ []) t
       → Out text (suc l) p s (length (t .nodes) ∷ []) (with-object-node (user (length (t .bytes)) (length b) c absent) (with-bytes b (read-to k a t)))
   out-user {l} {k} {p} {a} s t c b e h y q x = record {
@@ -452,6 +461,7 @@ module _ (input : List ℕ) (w : Inputs) where
     sound {s = s} (user-bytes {t = t} {c = c} b k a e x d i l₁ l₂ l₃) q h =
         let o = ready-name s (h .ranged) in
         out-user input w s t c b e (left x o .ranged) d q (sound x (λ i. q (d .off i)) o)
+    sound {s = s} (bignum-node low high n m e z i l₁ l₂) q h = out-bignum input w s low high n m e z i
     sound (stored x) q h = stored-head input w (sound x q (ready-text h))
     sound {s = s} (variables {t = t} {u = u} {ms = ms} {h = v} {r = r} {r′ = r′} n k a e inner-text x b l₁ y c z) q h =
         let o = ready-text h in

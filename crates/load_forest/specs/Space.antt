@@ -12,7 +12,7 @@ use native.Mathlib.Omega.{arith}
 use native.Mathlib.Decide.{ℕ-discrete}
 use borrow.Author.Tests.{eq-eqb, ne-eqb}
 use Rattle.definition.specs.Run.{ok, pick}
-use Rattle.definition.specs.Node.{Row, Vars, nil, bool, fixnum, symbol, array, hash, object, string, user, float, absent, present, kind}
+use Rattle.definition.specs.Node.{Row, Vars, nil, bool, fixnum, symbol, array, hash, object, string, user, float, bignum, absent, present, kind}
 use Rattle.definition.specs.Arena.{Arena, range}
 use Rattle.definition.specs.Graph.{Header, header, vars-count}
 use Rattle.definition.specs.Load.{State, Room, begin, load}
@@ -21,7 +21,7 @@ use Rattle.graph.specs.Sums.{sumTo, total, total-snoc, total-set, total-set-mos
 use Rattle.graph.specs.Forest.{Node, leaf, sym, box, node-words, node-bytes, node-box, node-sym, Texted, text-string, text-float}
 use Rattle.graph.specs.Build.{Zero, paid, boxed, lf, Φ}
 use Rattle.graph.specs.View.{see, text-row, seen, arena-of, state-seen}
-use Rattle.load_forest.specs.Trace.{Mode, Plain, plain-nil, plain-true, plain-false, plain-fixnum, Trace, reading, plain, known, new, symbol-link, object-link, list, hash-default, object-pairs, text-bytes, user-bytes, stored, variables, no-elements, element, no-pairs, pair}
+use Rattle.load_forest.specs.Trace.{Mode, Plain, plain-nil, plain-true, plain-false, plain-fixnum, Trace, reading, plain, known, new, symbol-link, object-link, list, hash-default, object-pairs, text-bytes, user-bytes, bignum-node, stored, variables, no-elements, element, no-pairs, pair}
 use Rattle.load_forest.specs.Readers.{load-traced}
 use Rattle.load_forest.specs.Sound.{load-sound}
 use Rattle.load_forest.specs.Right.{IsName, load-right-state}
@@ -103,6 +103,7 @@ within {room = room} {s = s} (object-pairs {t = t} {u = u} n k a e l₁ l₂ x b
     within-row room (length (s .nodes)) _ u (within y (within-room room (n * 2) (read-to k a t) l₃ (within-read room k a t (within x (within-object-node room nil s l₁ l₂ w)))))
 within {room = room} {s = s} (text-bytes q b e p l₁ l₂ l₃) w = within-object-node room _ (with-bytes b s) l₂ l₃ (within-bytes room b s l₁ w)
 within {room = room} (user-bytes {t = t} b k a e x d p l₁ l₂ l₃) w = within-object-node room _ (with-bytes b (read-to k a t)) l₂ l₃ (within-bytes room b (read-to k a t) l₁ (within-read room k a t (within x w)))
+within {room = room} {s = s} (bignum-node low high n m e q h l₁ l₂) w = within-object-node room _ s l₁ l₂ w
 within (stored x) w = within x w
 within {room = room} (variables {t = t} {u = u} {h = h} {r′ = r′} n k a e i x b l y c q) w = within-row room h r′ u (within y (within-room room (n * 2) (read-to k a t) l (within-read room k a t (within x w))))
 within no-elements w = w
@@ -127,6 +128,7 @@ is-box (object s n c) = 1
 is-box (string s l v) = 1
 is-box (user s l c v) = 1
 is-box (float s l) = 1
+is-box (bignum low high m) = 1
 
 unfoldable pub is-symbol : Row → ℕ
 is-symbol r = pick (eqb (kind r) 3) 1 0
@@ -192,6 +194,10 @@ text-weighs : {k n : ℕ} (q : Texted k n) (a l : ℕ) → Weighs (text-row q a 
 unfolding list-length bytes-length is-box is-symbol kind pick vars-length
 text-weighs text-string a l = record { words-are = refl; bytes-are = refl; boxes-are = refl; names-are = refl }
 text-weighs text-float a l = record { words-are = refl; bytes-are = refl; boxes-are = refl; names-are = refl }
+
+bignum-weighs : (low high : ℕ) (m : Bool) → Weighs (bignum low high m) 0 0 1 0
+unfolding list-length bytes-length is-box is-symbol kind pick
+bignum-weighs low high m = record { words-are = refl; bytes-are = refl; boxes-are = refl; names-are = refl }
 
 user-weighs : (a l c : ℕ) → Weighs (user a l c absent) 0 l 1 0
 unfolding list-length bytes-length is-box is-symbol kind pick vars-length
@@ -290,6 +296,8 @@ covered {s = s} {t = t} (text-bytes q b e p l₁ l₂ l₃) =
 covered {t = t} (user-bytes {t = u} {c = c} b k a e x d p l₁ l₂ l₃) =
     covered-trans (covered x)
     (covered-added u t (user (length (u .bytes)) (length b) c absent) 0 (length b) 1 0 (user-weighs _ _ c) refl (omega arith) (omega (arith, length-append (u .bytes) b)) (omega (arith, len-snoc (u .objects) (length (u .nodes)))) (omega arith))
+covered {s = s} {t = t} (bignum-node low high n m e q h l₁ l₂) =
+    covered-added s t (bignum low high m) 0 0 1 0 (bignum-weighs low high m) refl (omega arith) (omega arith) (omega (arith, len-snoc (s .objects) (length (s .nodes)))) (omega arith)
 covered (stored x) = covered x
 covered {s = s} (variables {t = t} {u = u} {h = h} {r = r} {r′ = r′} n k a e i x b l y c q) =
     let v = read-to k a t in
@@ -325,6 +333,7 @@ see-most A (object s n c) = omega arith
 see-most A (string s l v) = omega (arith, vars-words v, range-most (A .bytes) s l)
 see-most A (user s l c v) = omega (arith, vars-words v, range-most (A .bytes) s l)
 see-most A (float s l) = omega (arith, range-most (A .bytes) s l)
+see-most A (bignum low high m) = omega arith
 
 total-map : {A C : Type 0} (w : C → ℕ) (u : A → ℕ) (f : A → C) → ((x : A) → w (f x) ≤ u x) → (l : List A) → total w (map f l) ≤ total u l
 total-map w u f h [] = omega arith

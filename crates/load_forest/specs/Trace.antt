@@ -8,14 +8,16 @@ use lib.ListN.{length, drop}
 use native.Mathlib.Omega.{arith}
 use Rattle.definition.specs.Run.{ok}
 use Rattle.definition.specs.Integer.{integer-bytes}
-use Rattle.definition.specs.Kind.{NIL, TRUE, FALSE, FIXNUM, SYMBOL, SYMBOL-LINK, OBJECT-LINK, INSTANCE-VARIABLES, ARRAY, HASH, HASH-DEFAULT, OBJECT, USER-DEFINED}
-use Rattle.definition.specs.Node.{Row, nil, bool, fixnum, hash, object, user, absent}
+use Rattle.definition.specs.Kind.{NIL, TRUE, FALSE, FIXNUM, SYMBOL, SYMBOL-LINK, OBJECT-LINK, INSTANCE-VARIABLES, ARRAY, HASH, HASH-DEFAULT, OBJECT, USER-DEFINED, BIGNUM}
+use Rattle.definition.specs.Node.{Row, nil, bool, fixnum, hash, object, user, bignum, absent}
+use Rattle.definition.specs.Magnitude.{magnitude, bignum-bytes}
 use Rattle.definition.specs.Arena.{range}
 use Rattle.definition.specs.Dump.{byte-string-bytes}
 use Rattle.definition.specs.Load.{State, Room, noted, read-integer}
 use Rattle.lists.specs.Lists.{At, NotIn, apart}
 use Rattle.graph.specs.Forest.{sym, Texted}
 use Rattle.graph.specs.View.{text-row, state-seen}
+use Rattle.well_formed.specs.Right.{NumberRight}
 use Rattle.states.specs.Rows.{list-length, Listed, is-array, is-hash, Varied}
 use Rattle.states.specs.States.{read-to, sought, with-node, with-symbol, with-object-node, with-bytes, with-word, with-row, with-room, with-new-symbol}
 
@@ -116,6 +118,9 @@ pub data Trace (input : List ℕ) (room : Room) : ℕ → Mode → List ℕ → 
       → Trace input room l name [] s (c ∷ []) t → Spelt input t k a (byte-string-bytes b) → Part input b
       → length b ≤ room .bytes - length (t .bytes) → length (t .nodes) < room .nodes → length (t .objects) < room .objects
       → Trace input room (suc l) text p s (length (t .nodes) ∷ []) (with-object-node (user (length (t .bytes)) (length b) c absent) (with-bytes b (read-to k a t)))
+  bignum-node : {l : ℕ} {p : List ℕ} {s : State} (low high n : ℕ) (m : Bool) → p ≡ BIGNUM ∷ bignum-bytes m n → magnitude low high ≡ n → NumberRight n m
+      → length (s .nodes) < room .nodes → length (s .objects) < room .objects
+      → Trace input room (suc l) value p s (length (s .nodes) ∷ []) (with-object-node (bignum low high m) s)
   stored : {l : ℕ} {p : List ℕ} {s t : State} {vs : List ℕ} → Trace input room l text p s vs t → Trace input room l value p s vs t
   variables : {l : ℕ} {m : Mode} {p : List ℕ} {s t u : State} {ms : List ℕ} {h : ℕ} {r r′ : Row} (n k : ℕ) (a : Bool) → p ≡ INSTANCE-VARIABLES ∷ [] → Inner t m
       → Trace input room l m [] s (h ∷ []) t
@@ -164,6 +169,7 @@ forwards {s = s} {t = t} (object-pairs {t = v} {u = u} n k a e l₁ l₂ x b l�
     forwards-trans (forwards-as s v refl refl refl refl (forwards x)) (forwards-trans (forwards-to b) (forwards-as (read-to k a v) t refl refl refl refl (forwards y)))
 forwards {input} {s = s} {t = t} (text-bytes q b e p l₁ l₂ l₃) = forwards-same input s t refl refl
 forwards {input} {t = t} (user-bytes {t = v} b k a e x c p l₁ l₂ l₃) = forwards-trans (forwards x) (forwards-trans (forwards-to c) (forwards-same input (read-to k a v) t refl refl))
+forwards {input} {s = s} {t = t} (bignum-node low high n m e q h l₁ l₂) = forwards-same input s t refl refl
 forwards (stored x) = forwards x
 forwards {t = t} (variables {t = v} {u = u} n k a e i x b l y c q) = forwards-trans (forwards x) (forwards-trans (forwards-to b) (forwards-as (read-to k a v) t refl refl refl refl (forwards y)))
 forwards {input} {s = s} no-elements = forwards-same input s s refl refl

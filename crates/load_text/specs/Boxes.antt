@@ -1,11 +1,12 @@
--- Values with a list of their own: arrays, hashes and objects.
+-- Boxes: a node that is added whole, and values with a list of their own, arrays, hashes and objects.
 use Prim.Native.Nat.{ℕ, _+_, _*_, _≤_, _<_}
 use mathlib.Core.Path.{_≡_, refl, ap, subst}
 use mathlib.Core.Path.{sym as psym, _∙_}
 use mathlib.Core.Bool.{Bool, true, false}
-use mathlib.Core.Logic.{inl}
+use mathlib.Core.Logic.{inl, inr}
 use mathlib.Core.List.{List, [], _∷_, _++_, append-assoc, append-nil}
 use lib.ListN.{length, replicate, length-set, length-replicate, replicate-append-replicate}
+use lib.Seq.{set-append-seam}
 use native.Mathlib.Omega.{arith}
 use borrow.Author.Tests.{ne-eqb}
 use Rattle.definition.specs.Run.{ok, _>>=_, pick}
@@ -13,13 +14,13 @@ use Rattle.definition.specs.Integer.{integer-bytes}
 use Rattle.definition.specs.Node.{Row, nil, array, hash, object}
 use Rattle.definition.specs.Arena.{range}
 use Rattle.definition.specs.Graph.{Header, header-of}
-use Rattle.definition.specs.Load.{Room, State, Reader, fill, counted, read-elements, read-pairs, read-instance-variables, read-symbol-like, read-array, read-hash, read-default, read-object}
+use Rattle.definition.specs.Load.{Room, State, Reader, nodes-set, fill, counted, read-elements, read-pairs, read-instance-variables, read-symbol-like, read-array, read-hash, read-default, read-object}
 use Rattle.lists.specs.Lists.{len-snoc, apart}
 use Rattle.graph.specs.Forest.{Node, leaf, box, Num, addO, F, fEnd, fBox, refsOf, bytesOf, boxesOf, symsOf, list-words}
 use Rattle.graph.specs.Build.{St, pushO, put, B, bEnd, bBox, Ph, Inv, nodesOf, inv-pushO, inv-put}
 use Rattle.graph.specs.View.{arena-of, state-seen}
 use Rattle.states.specs.Rows.{list-length, Listed, is-array, is-hash, see-array, see-hash, see-hash-default, see-object}
-use Rattle.states.specs.States.{row-seen, Inside, Ranged, Above, Frame, Keeps, with-object-node, with-row, length-seen, seen-row, opened-seen, opened-ranged, ranged-row, inside-listed, inside-hash, inside-object, above-listed, above-hash, above-object, frame-trans, frame-below, frame-opened, frame-row, frame-range, keeps-trans, keeps-object-node, keeps-row}
+use Rattle.states.specs.States.{row-seen, Inside, Ranged, Above, Frame, Keeps, with-object-node, with-row, length-seen, row-seen-by, seen-object-node, seen-row, opened-seen, opened-ranged, ranged-node, ranged-row, inside-listed, inside-hash, inside-object, above-listed, above-hash, above-object, frame-trans, frame-below, frame-opened, frame-object-node, frame-row, frame-range, keeps-trans, keeps-object-node, keeps-row}
 use Rattle.load_text.specs.Steps.{step, add-object-node-runs}
 use Rattle.load_text.specs.Input.{Ahead, ahead-as}
 use Rattle.load_text.specs.Items.{Every, Fits, Even, Step, Takes, Items, end, item, Counted, counted-runs, elements-in-turn, pairs-in-turn, by-turns, length-by-turns}
@@ -74,6 +75,23 @@ module _ (input : List ℕ) (room : Room) (P : List Node) where
           bytes = ev .bytes;
         };
       }
+
+  -- a node without a list, added whole: a string or a user-defined value without variables, a Float or a Bignum; w is what is there before it
+  pub node-step : (rd : Reader ℕ) (hd : Header) (row : Row) (p r : F) (σ : Num) (v : ℕ) (s w : State) (us y : List ℕ)
+      → rd s ≡ ok (length (w .nodes)) (with-object-node row w)
+      → B ⊥ p (state-seen s) us (state-seen w) → 7 ≤ hd .kind → row-seen w row ≡ box hd us
+      → Ahead input (w .at) y → Inv P σ (state-seen w) → Ranged w → Inside w row → Above (length (s .references)) row
+      → Frame (length (s .references)) s w → Keeps Every s w → w .notes .form ≡ s .notes .form
+      → Even 0 (fBox hd p fEnd r) s r (with-object-node row w) → Step input room P rd (fBox hd p fEnd r) r (addO v σ) s y
+  node-step rd hd row p r σ v s w us y e b₀ k e₁ h i a x o fr kp m ev =
+      let n = length (w .nodes) in
+      let t = with-object-node row w in
+      let q : t ≡ with-row n row t = ap (λ (l : List Row). nodes-set l t) (psym (set-append-seam (w .nodes) row [] row)) in
+      let z : state-seen t ≡ pushO (box hd us) (state-seen w) = seen-object-node row w ∙ ap (λ (c : Node). pushO c (state-seen w)) e₁ in
+      box-step rd hd p fEnd r (box hd us) row (addO v σ) s w t t us [] y (e ∙ ap (ok n) q) b₀ (inr ((λ c. c), (λ b c. apart (cc)), k)) z bEnd
+      (row-seen-by w t row refl refl ∙ e₁ ∙ ap (box hd) (psym (append-nil us))) h
+      (subst (Inv P (addO v σ)) (psym z) (inv-pushO P σ (state-seen w) v (box hd us) (λ b c. apart (cc)) i)) (ranged-node row w x a) x
+      (frame-trans fr (frame-object-node _ row w o)) (keeps-trans kp (keeps-object-node row w)) m o (kp .grows) ev
 
   -- ---- a counted list with nothing left
 

@@ -12,17 +12,7 @@ use native.Mathlib.Omega.{arith}
 use borrow.Author.Tests.{eqb-true, eqb-false, ne-eqb, le-leb, lt-leb, leb-true, leb-false}
 use Rattle.definition.specs.Run.{pick}
 use Rattle.definition.specs.Integer.{value, data-bytes, form, little, low-bytes, fewest, integer-bytes}
-use Rattle.lists.specs.Words.{length-low}
-
--- what is above the lowest n bytes
-abbrev above : ℕ → ℕ → ℕ
-above zero w = w
-above (suc n) w = above n (w / 256)
-
-pub little-low : (n w : ℕ) → little (low-bytes n w) (above n w) ≡ w
-unfolding little low-bytes
-little-low zero w = refl
-little-low (suc n) w = omega (arith, little-low n (w / 256))
+use Rattle.lists.specs.Words.{length-low, above, little-low}
 
 -- ---- the fewest bytes hold the value
 

@@ -1,27 +1,30 @@
 -- A forest's bytes are read and its building is done.
 use Prim.Native.Nat.{ℕ, suc, _+_, _*_, _<_}
 use mathlib.Core.Path.{_≡_, refl, subst}
-use mathlib.Core.Bool.{true, false}
+use mathlib.Core.Bool.{Bool, true, false}
 use mathlib.Core.List.{List, [], _∷_, _++_}
 use lib.ListN.{replicate}
 use Rattle.definition.specs.Run.{pick}
 use Rattle.definition.specs.Integer.{integer-bytes}
-use Rattle.definition.specs.Kind.{NIL, TRUE, FALSE, FIXNUM, SYMBOL, SYMBOL-LINK, OBJECT-LINK, INSTANCE-VARIABLES, ARRAY, HASH, HASH-DEFAULT, OBJECT, STRING, USER-DEFINED}
+use Rattle.definition.specs.Kind.{NIL, TRUE, FALSE, FIXNUM, SYMBOL, SYMBOL-LINK, OBJECT-LINK, INSTANCE-VARIABLES, ARRAY, HASH, HASH-DEFAULT, OBJECT, STRING, USER-DEFINED, BIGNUM}
 use Rattle.definition.specs.Node.{nil, bool, fixnum}
+use Rattle.definition.specs.Magnitude.{bignum-bytes}
 use Rattle.definition.specs.Arena.{Arena}
 use Rattle.definition.specs.Graph.{header-of}
 use Rattle.definition.specs.Dump.{byte-string-bytes}
-use Rattle.definition.specs.Load.{Room, Reader, head, value-of, read-value, add-node, read-fixnum, read-symbol, read-symbol-link, read-object-link, read-symbol-like, read-array, read-hash, read-object, read-string, read-float, read-text, read-user-defined, read-variables, takes-variables}
+use Rattle.definition.specs.Load.{Room, Reader, head, value-of, read-value, add-node, read-fixnum, read-symbol, read-symbol-link, read-object-link, read-symbol-like, read-array, read-hash, read-object, read-string, read-float, read-text, read-user-defined, read-bignum, read-variables, takes-variables}
 use Rattle.lists.specs.Lists.{At, NotIn, at-lt}
-use Rattle.graph.specs.Forest.{Node, leaf, sym, Num, addO, addS, F, fEnd, fLeaf, fBox, fRef, fSym, fSymref, trees, Mode, values, pairs, value-pairs, name, name-pairs, after, IsValue, Text, tEnd, tEndPairs, tName, tNameLink, tOneName, tOneLink, tClass, tClassLink, tNil, tFalse, tTrue, tFixnum, tSymbol, tSymbolLink, tObjectLink, tArray, tHash, tHashDefault, tObject, Texted, text-string, text-float, tText, tStringVars, tUser, tUserVars}
+use Rattle.graph.specs.Forest.{Node, leaf, sym, Num, addO, addS, F, fEnd, fLeaf, fBox, fRef, fSym, fSymref, trees, Mode, values, pairs, value-pairs, name, name-pairs, after, IsValue, Text, tEnd, tEndPairs, tName, tNameLink, tOneName, tOneLink, tClass, tClassLink, tNil, tFalse, tTrue, tFixnum, tSymbol, tSymbolLink, tObjectLink, tArray, tHash, tHashDefault, tObject, Texted, text-string, text-float, tText, tBignum, tStringVars, tUser, tUserVars}
 use Rattle.graph.specs.Describe.{E, eEnd, eLeaf, eBox, eRef, eSym, eSymref}
 use Rattle.graph.specs.Build.{Names}
 use Rattle.graph.specs.View.{see, text-row}
+use Rattle.well_formed.specs.Right.{NumberRight}
 use Rattle.states.specs.States.{inside-nil, inside-bool, inside-fixnum, above-nil, above-bool, above-fixnum}
 use Rattle.load_text.specs.Items.{Takes, Items, end, item, by-turns}
 use Rattle.load_text.specs.Leaves.{Small, kind-runs, takes-kind, takes-name, takes-name-link, takes-leaf, node-runs, fixnum-runs, takes-object-link, takes-symbol-link, takes-symbol}
 use Rattle.load_text.specs.Boxes.{takes-array, takes-hash, takes-hash-default, takes-object}
 use Rattle.load_text.specs.Strings.{takes-text, takes-user, takes-string-vars, takes-user-vars}
+use Rattle.load_text.specs.Bignums.{takes-bignum}
 
 -- the modes in which values are put into words; the others come before them
 abbrev pub InWords : Mode → Type 0
@@ -130,6 +133,10 @@ module _ (input : List ℕ) (room : Room) (sm : Small room) (limit : ℕ) (P : L
     is-text text-string = refl
     is-text text-float = refl
 
+    is-bignum : Is BIGNUM (read-bignum input room)
+    unfolding value-of head pick
+    is-bignum = refl
+
     is-user : Is USER-DEFINED (read-user-defined input room)
     unfolding value-of head pick
     is-user = refl
@@ -186,6 +193,9 @@ module _ (input : List ℕ) (room : Room) (sm : Small room) (limit : ℕ) (P : L
 
   val-text : (l : ℕ) {k n : ℕ} (q : Texted k n) (b : List ℕ) (r : F) (σ : Num) (v : ℕ) → Tk (val (suc l)) (fBox (header-of n 0 b 0 false) fEnd fEnd r) r (k ∷ byte-string-bytes b) σ (addO v σ)
   val-text l {k} q b r σ v = kind l k _ (byte-string-bytes b) _ r σ (addO v σ) (is-text l q) (takes-text input room P sm q b r σ v)
+
+  val-bignum : (l n : ℕ) (minus : Bool) (r : F) (σ : Num) (v : ℕ) → NumberRight n minus → Tk (val (suc l)) (fBox (header-of 10 n [] 0 minus) fEnd fEnd r) r (BIGNUM ∷ bignum-bytes minus n) σ (addO v σ)
+  val-bignum l n minus r σ v h = kind l BIGNUM _ (bignum-bytes minus n) _ r σ (addO v σ) (is-bignum l) (takes-bignum input room P n minus h r σ v)
 
   val-user : (l : ℕ) (b x : List ℕ) (p r : F) (σ σ₁ : Num) (v : ℕ) → Tk like p fEnd x σ σ₁
       → Tk (val (suc l)) (fBox (header-of 8 0 b 0 false) p fEnd r) r (USER-DEFINED ∷ (x ++ byte-string-bytes b)) σ (addO v σ₁)
@@ -252,6 +262,8 @@ module _ (input : List ℕ) (room : Room) (sm : Small room) (limit : ℕ) (P : L
       (load-complete t d (words-after m v))
   load-complete (tText {m = m} {l = l} {k = j} {n = n} {b = b} {x = x} {r = r} q v t) (eBox {v = u} {σ = σ} {σ′ = σ′} a eEnd k eEnd d) w =
       on-value m (suc l) (fBox (header-of n 0 b 0 false) fEnd fEnd r) r (j ∷ byte-string-bytes b) x σ (addO u σ) σ′ v (val-text l q b r σ u) (load-complete t d (words-after m v))
+  load-complete (tBignum {m = m} {l = l} {n = n} {minus = minus} {x = x} {r = r} v h t) (eBox {v = u} {σ = σ} {σ′ = σ′} a eEnd k eEnd d) w =
+      on-value m (suc l) (fBox (header-of 10 n [] 0 minus) fEnd fEnd r) r (BIGNUM ∷ bignum-bytes minus n) x σ (addO u σ) σ′ v (val-bignum l n minus r σ u h) (load-complete t d (words-after m v))
   load-complete (tStringVars {m = m} {l = l} {n = n} {b = b} {x = x} {y = y} {f = f} {r = r} v t₁ t) (eBox {v = u} {σ = σ} {σ₂ = σ₂} {σ′ = σ′} a eEnd k d₁ d) w =
       on-value m (suc (suc l)) (fBox (header-of 7 0 b n true) fEnd f r) r (INSTANCE-VARIABLES ∷ STRING ∷ (byte-string-bytes b ++ integer-bytes n ++ y)) x σ σ₂ σ′ v
       (val-string-vars l n b f r y σ σ₂ u (load-complete t₁ d₁ tt)) (load-complete t d (words-after m v))

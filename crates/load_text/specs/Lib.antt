@@ -6,5 +6,6 @@ pub mod Items
 pub mod Leaves
 pub mod Boxes
 pub mod Strings
+pub mod Bignums
 pub mod Complete
 pub mod Back

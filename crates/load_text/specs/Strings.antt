@@ -4,9 +4,8 @@ use mathlib.Core.Path.{_≡_, refl, ap, subst}
 use mathlib.Core.Path.{sym as psym, _∙_}
 use mathlib.Core.Bool.{Bool, true, false}
 use mathlib.Core.Logic.{inr}
-use mathlib.Core.List.{List, [], _∷_, _++_, append-assoc, append-nil}
+use mathlib.Core.List.{List, [], _∷_, _++_, append-assoc}
 use lib.ListN.{length, getD, length-append}
-use lib.Seq.{set-append-seam}
 use native.Mathlib.Omega.{arith}
 use Rattle.definition.specs.Run.{ok, look}
 use Rattle.definition.specs.Integer.{integer-bytes}
@@ -14,19 +13,19 @@ use Rattle.definition.specs.Node.{Row, nil, string, user, absent, present}
 use Rattle.definition.specs.Arena.{Arena, range}
 use Rattle.definition.specs.Graph.{Header, header-of, header, links, vars-count, vars-present, vars-links}
 use Rattle.definition.specs.Dump.{byte-string-bytes}
-use Rattle.definition.specs.Load.{Room, State, Reader, at-set, nodes-set, fill, read-pairs, read-instance-variables, read-symbol-like, read-text, read-user-defined, read-variables, set-variables, takes-variables}
+use Rattle.definition.specs.Load.{Room, State, Reader, at-set, fill, read-pairs, read-instance-variables, read-symbol-like, read-text, read-user-defined, read-variables, set-variables, takes-variables}
 use Rattle.lists.specs.Lists.{At, at-snoc, len-snoc, getD-at, apart}
 use Rattle.lists.specs.Ranges.{range-more, range-last}
 use Rattle.graph.specs.Forest.{Node, box, Num, addO, F, fEnd, fBox, list-words, Texted, text-string, high-text}
 use Rattle.graph.specs.Build.{pushO, B, bEnd, Ph, Inv, inv-pushO}
 use Rattle.graph.specs.View.{see, text-row, see-text, arena-of, state-seen}
 use Rattle.states.specs.Rows.{Varied, varied-string, varied-user}
-use Rattle.states.specs.States.{ranged-stored, frame-stored, row-seen, Inside, Ranged, Above, Frame, Keeps, with-object-node, with-bytes, with-row, seen-at-set, bytes-node-seen, inside-text, inside-user, inside-varied, above-text, above-user, above-varied, frame-refl, frame-trans, frame-below, frame-at-set, keeps-refl, keeps-trans, keeps-object-node}
+use Rattle.states.specs.States.{ranged-bytes, ranged-stored, frame-bytes, frame-stored, row-seen, Inside, Ranged, Above, Frame, Keeps, with-object-node, with-bytes, with-row, seen-at-set, seen-bytes, bytes-node-seen, inside-text, inside-user, inside-varied, above-text, above-user, above-varied, frame-refl, frame-trans, frame-below, frame-at-set, keeps-refl, keeps-trans, keeps-object-node}
 use Rattle.load_text.specs.Steps.{step, note-runs, add-object-node-runs, add-bytes-runs}
 use Rattle.load_text.specs.Input.{Ahead, ahead-past, ahead-as, first-ahead, read-byte-string-ahead}
 use Rattle.load_text.specs.Items.{Every, Fits, Even, Step, Takes, Items, by-turns}
 use Rattle.load_text.specs.Leaves.{Small}
-use Rattle.load_text.specs.Boxes.{words-pairs, box-step, Told, told-pairs}
+use Rattle.load_text.specs.Boxes.{words-pairs, box-step, node-step, Told, told-pairs}
 
 -- bytes and a row were added, the node put on the object list
 abbrev stored : List ℕ → Row → ℕ → State → State
@@ -104,17 +103,14 @@ module _ (input : List ℕ) (room : Room) (P : List Node) where
   store-step rd {kd} {us} {row} b ss p r σ v s u y n e h b₀ i a fr kp nt ev =
       let hd = header-of kd 0 b 0 false in
       let st = length (u .bytes) in
-      let t = stored b (row st) n u in
-      let k = length (u .nodes) in
-      let q : t ≡ with-row k (row st) t = ap (λ (l : List Row). nodes-set l t) (psym (set-append-seam (u .nodes) (row st) [] (row st))) in
+      let w = with-bytes b (at-set n u) in
+      let q : state-seen w ≡ state-seen u = seen-bytes b (at-set n u) a ∙ seen-at-set n u in
       let l₁ : list-words hd ≡ 0 = words-pairs kd 0 b false (omega (arith, ss .high)) in
-      let l₂ : length (s .nodes) ≤ k = omega (arith, ev .nodes) in
       let l₃ = len-snoc (u .nodes) (row st) in
-      let l₄ = len-snoc (u .objects) k in
+      let l₄ = len-snoc (u .objects) (length (u .nodes)) in
       let l₅ = length-append (u .bytes) b in
-      box-step input room P rd hd p fEnd r (box hd us) (row st) (addO v σ) s u t t us [] y (e ∙ ap (ok k) q) b₀ (stored-ph b ss n u 0 false) (stored-seen b ss n u a) bEnd
-      (stored-sees b ss n u (arena-of t 0) refl ∙ ap (box hd) (psym (append-nil us))) h (stored-inv b ss n u P σ v a i) (stored-ranged b ss n u a)
-      (ss .inside t st (omega arith)) (frame-trans fr (stored-frame b ss n u _)) (keeps-trans kp (stored-keeps b ss n u)) nt (ss .above _ st) l₂
+      node-step input room P rd hd (row st) p r σ v s w us y e (subst (B ⊥ p (state-seen s) us) (psym q) b₀) (ss .high) (stored-sees b ss n u (arena-of w 0) refl) h (subst (Inv P σ) (psym q) i)
+      (ranged-bytes b (at-set n u) a) (ss .inside w st (omega arith)) (ss .above _ st) (frame-trans fr (frame-trans (frame-at-set _ n u) (frame-bytes _ b (at-set n u)))) (keeps-trans kp (keeps-refl u w refl)) nt
       (record {
         nodes = omega (arith, ev .nodes);
         objects = omega (arith, ev .objects);

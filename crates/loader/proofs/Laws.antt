@@ -6,7 +6,7 @@ use mathlib.Core.Bool.{true, false}
 use mathlib.Core.List.{List}
 use lib.ListN.{length, getD}
 use Rattle.definition.specs.Run.{Outcome, ok, refused, pure, refuse, next, _>>=_}
-use Rattle.definition.specs.Node.{Row, nil, bool, fixnum, symbol, array, hash, object, string, user, float, absent, present, words}
+use Rattle.definition.specs.Node.{Row, nil, bool, fixnum, symbol, array, hash, object, string, user, float, bignum, absent, present, words}
 use Rattle.definition.specs.Load.{Room, State, Reader, Lists}
 use Rattle.definition.specs.declared.Refusal.{Refusal}
 use Rattle.loader.specs.Holds.{Holds, Held, Grown, Goes, Refuses, Leads, Meets, Plain, Free, nodes-of, references-of}
@@ -120,6 +120,7 @@ row-plain (object s n c) f = tt
 row-plain (string s l v) f = tt
 row-plain (user s l c v) f = tt
 row-plain (float s l) f = tt
+row-plain (bignum low high m) f = tt
 
 plain-row : (r : Row) → Plain r → getD (words r) 0 0 ≡ 3 → ⊥
 unfolding words
@@ -136,6 +137,8 @@ plain-row (string s l (present q n)) p e = omega arith
 plain-row (user s l c absent) p e = omega arith
 plain-row (user s l c (present q n)) p e = omega arith
 plain-row (float s l) p e = omega arith
+plain-row (bignum low high true) p e = omega arith
+plain-row (bignum low high false) p e = omega arith
 
 module _ {input : List ℕ} {room : Room} {s : State} {T : Lists} {c : List ℕ} (H : Holds input room s T c) (i : ℕ) (l : i < nodes-of c) where
   pub there : i < length (s .nodes)

@@ -6,4 +6,5 @@ pub mod Names
 pub mod Interned
 pub mod Steps
 pub mod Readers
+pub mod Bignums
 pub mod Run

@@ -12,7 +12,7 @@ use lib.Seq.{drop-cons, getD-take, getD-drop, getD-append-seam, take-append-le, 
 use lib.Dec.{eqb}
 use borrow.Author.Tests.{eq-eqb, ne-eqb}
 use Rattle.definition.specs.Run.{pick}
-use Rattle.definition.specs.Node.{Row, nil, bool, fixnum, symbol, array, hash, object, string, user, float, kind, words, equal}
+use Rattle.definition.specs.Node.{Row, nil, bool, fixnum, symbol, array, hash, object, string, user, float, bignum, kind, words, equal}
 use Rattle.definition.specs.Arena.{range, name-of, named, find-symbol, bytes-compared}
 use Rattle.loader.specs.Holds.{Plain, Symbolic, Fit, AllFit, AllSymbolic, Names, find-listed, span}
 
@@ -38,6 +38,7 @@ plain-kind (object s n c) p = refl
 plain-kind (string s l v) p = refl
 plain-kind (user s l c v) p = refl
 plain-kind (float s l) p = refl
+plain-kind (bignum low high m) p = refl
 
 pub symbolic-kind : (r : Row) → Symbolic r → eqb (kind r) 3 ≡ true
 unfolding kind
@@ -51,6 +52,7 @@ symbolic-kind (object s n c) p = absurd p
 symbolic-kind (string s l v) p = absurd p
 symbolic-kind (user s l c v) p = absurd p
 symbolic-kind (float s l) p = absurd p
+symbolic-kind (bignum low high m) p = absurd p
 
 plain-named : (bytes name : List ℕ) (r : Row) → Plain r → named bytes name r ≡ false
 unfolding named
@@ -69,6 +71,7 @@ symbol-name n bytes (object s k c) p f = absurd p
 symbol-name n bytes (string s l v) p f = absurd p
 symbol-name n bytes (user s l c v) p f = absurd p
 symbol-name n bytes (float s l) p f = absurd p
+symbol-name n bytes (bignum low high m) p f = absurd p
 
 pub range-more : (b bs : List ℕ) (s l : ℕ) → s + l ≤ length b → take l (drop s (b ++ bs)) ≡ take l (drop s b)
 range-more b bs s l h =
@@ -88,6 +91,7 @@ named-more b bs name (object s n c) f = refl
 named-more b bs name (string s l v) f = refl
 named-more b bs name (user s l c v) f = refl
 named-more b bs name (float s l) f = refl
+named-more b bs name (bignum low high m) f = refl
 
 fit-any : (n : ℕ) (rows : List Row) (i : ℕ) → AllFit n rows → Fit n (getD rows i nil)
 fit-any n [] i f = tt
@@ -111,6 +115,7 @@ plain-symbolic (object s n c) p q = q
 plain-symbolic (string s l v) p q = q
 plain-symbolic (user s l c v) p q = q
 plain-symbolic (float s l) p q = q
+plain-symbolic (bignum low high m) p q = q
 
 -- ---- the searches
 

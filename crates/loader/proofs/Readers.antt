@@ -13,7 +13,7 @@ use borrow.Author.Tests.{ne-eqb, eq-eqb, lt-ltb, le-ltb, ltb-true, ltb-false, le
 use mir.Syntax.{w32}
 use mir.Val.{Fits}
 use Rattle.definition.specs.Run.{ok, pure, refuse, pick, look, _>>=_}
-use Rattle.definition.specs.Kind.{NIL, TRUE, FALSE, FIXNUM, SYMBOL, SYMBOL-LINK, OBJECT-LINK, INSTANCE-VARIABLES, ARRAY, HASH, HASH-DEFAULT, OBJECT, STRING, USER-DEFINED, FLOAT}
+use Rattle.definition.specs.Kind.{NIL, TRUE, FALSE, FIXNUM, SYMBOL, SYMBOL-LINK, OBJECT-LINK, INSTANCE-VARIABLES, ARRAY, HASH, HASH-DEFAULT, OBJECT, STRING, USER-DEFINED, FLOAT, BIGNUM}
 use Rattle.definition.specs.Node.{Row, nil, symbol, string, float, absent, words, equal}
 use Rattle.definition.specs.Arena.{range, find-symbol, named, bytes-compared, compared-with, compared-among}
 use Rattle.definition.specs.Load.{Room, State, Reader, Lists, at-set, noted, note, compared-more, compare, takes-variables, Head, String, Float, Unknown, head, value-of, read-text, read-string, read-float, read-header, read-value, read-symbol, read-symbol-link, read-symbol-like, read-bytes, intern, intern-as, add-symbol, add-bytes, add-node}
@@ -65,9 +65,9 @@ text-headed {k = k} inner (inr e) q p m =
     headed inner k Float (ap head e) (m float (λ start n. ap (λ (x : ℕ). x ∷ start ∷ n ∷ 0 ∷ 0 ∷ 0 ∷ 0 ∷ []) (sym (p (λ z. omega arith)))) (λ start n. tt))
 
 -- no kind byte
-pub other : (k : ℕ) → Leaf k → (k ≡ FIXNUM → ⊥) → (k ≡ SYMBOL-LINK → ⊥) → ((k ≡ STRING) ⊎ (k ≡ FLOAT) → ⊥) → (k ≡ SYMBOL → ⊥) → (k ≡ NIL → ⊥) → (k ≡ TRUE → ⊥) → (k ≡ FALSE → ⊥) → (k ≡ OBJECT-LINK → ⊥) → (k ≡ USER-DEFINED → ⊥) → head k ≡ Unknown
+pub other : (k : ℕ) → Leaf k → (k ≡ FIXNUM → ⊥) → (k ≡ SYMBOL-LINK → ⊥) → ((k ≡ STRING) ⊎ (k ≡ FLOAT) → ⊥) → (k ≡ SYMBOL → ⊥) → (k ≡ NIL → ⊥) → (k ≡ TRUE → ⊥) → (k ≡ FALSE → ⊥) → (k ≡ OBJECT-LINK → ⊥) → (k ≡ USER-DEFINED → ⊥) → (k ≡ BIGNUM → ⊥) → head k ≡ Unknown
 unfolding head pick
-other k l a b c d e f g h i = simp (ne-eqb k FIXNUM a, ne-eqb k SYMBOL-LINK b, ne-eqb k STRING (λ q. c (inl q)), ne-eqb k FLOAT (λ q. c (inr q)), ne-eqb k SYMBOL d, ne-eqb k NIL e, ne-eqb k TRUE f, ne-eqb k FALSE g, ne-eqb k OBJECT-LINK h, ne-eqb k USER-DEFINED i, ne-eqb k ARRAY (l .array), ne-eqb k HASH (l .hash), ne-eqb k HASH-DEFAULT (l .default), ne-eqb k OBJECT (l .object), ne-eqb k INSTANCE-VARIABLES (l .variables))
+other k l a b c d e f g h i j = simp (ne-eqb k FIXNUM a, ne-eqb k SYMBOL-LINK b, ne-eqb k STRING (λ q. c (inl q)), ne-eqb k FLOAT (λ q. c (inr q)), ne-eqb k SYMBOL d, ne-eqb k NIL e, ne-eqb k TRUE f, ne-eqb k FALSE g, ne-eqb k OBJECT-LINK h, ne-eqb k USER-DEFINED i, ne-eqb k BIGNUM j, ne-eqb k ARRAY (l .array), ne-eqb k HASH (l .hash), ne-eqb k HASH-DEFAULT (l .default), ne-eqb k OBJECT (l .object), ne-eqb k INSTANCE-VARIABLES (l .variables))
 
 -- ---- the header
 

@@ -11,7 +11,7 @@ use lib.Dec.{ltb, eqb}
 use borrow.Author.Tests.{lt-ltb, le-ltb, ltb-true, ltb-false, le-leb, lt-leb, eq-eqb, ne-eqb}
 use Rattle.definition.specs.Run.{Outcome, ok, pure, refuse, next, look, pick, _>>=_}
 use Rattle.definition.specs.Integer.{form, value, integer-bytes}
-use Rattle.definition.specs.Node.{Row, nil, bool, fixnum, symbol, array, hash, object, string, user, float, absent, present, words, flat, equal}
+use Rattle.definition.specs.Node.{Row, nil, bool, fixnum, symbol, array, hash, object, string, user, float, bignum, absent, present, words, flat, equal}
 use Rattle.definition.specs.Arena.{range, name-of, named, bytes-compared, compared-with}
 use Rattle.definition.specs.Load.{Room, Notes, State, Reader, Lists, lists, at-set, nodes-set, references-set, bytes-set, symbols-set, objects-set, noted, copied-more, compared-more, read-byte, read-bytes, read-integer, add-node, reserve, add-bytes, add-symbol, add-object, fill, put-reference, entry, set-variables}
 use Rattle.definition.specs.declared.Refusal.{Refusal}
@@ -39,6 +39,7 @@ fit-more (object s k c) l f = tt
 fit-more (string s k v) l f = tt
 fit-more (user s k c v) l f = tt
 fit-more (float s k) l f = tt
+fit-more (bignum low high m) l f = tt
 
 plain-fit : (n : ℕ) (r : Row) → Plain r → Fit n r
 plain-fit n nil p = tt
@@ -51,6 +52,7 @@ plain-fit n (object s k c) p = tt
 plain-fit n (string s k v) p = tt
 plain-fit n (user s k c v) p = tt
 plain-fit n (float s k) p = tt
+plain-fit n (bignum low high m) p = tt
 
 fit-snoc : (n : ℕ) (r : Row) (l : List Row) → AllFit n l → Fit n r → AllFit n (l ++ (r ∷ []))
 fit-snoc n r [] b g zero lt = g
@@ -487,6 +489,7 @@ varied start n (object s m c) = nil
 varied start n (string s l v) = string s l (present start n)
 varied start n (user s l c v) = user s l c (present start n)
 varied start n (float s l) = nil
+varied start n (bignum low high m) = nil
 
 varied-plain : (start n : ℕ) (r : Row) → Plain (varied start n r)
 varied-plain start n nil = tt
@@ -499,6 +502,7 @@ varied-plain start n (object s m c) = tt
 varied-plain start n (string s l v) = tt
 varied-plain start n (user s l c v) = tt
 varied-plain start n (float s l) = tt
+varied-plain start n (bignum low high m) = tt
 
 varied-words : (h start n : ℕ) (r : Row) → 7 ≤ getD (words r) 0 0 → getD (words r) 0 0 ≤ 8 → (words (varied start n r) ≡ getD (words r) 0 0 ∷ getD (words r) 1 0 ∷ getD (words r) 2 0 ∷ start ∷ n ∷ getD (words r) 5 0 ∷ 1 ∷ []) × (set-variables h start n r ≡ fill h (varied start n r)) × Plain r
 unfolding words set-variables
@@ -515,6 +519,8 @@ varied-words h start n (string s k (present p q)) l m = (refl, refl, tt)
 varied-words h start n (user s k c absent) l m = (refl, refl, tt)
 varied-words h start n (user s k c (present p q)) l m = (refl, refl, tt)
 varied-words h start n (float s k) l m = absurd (omega arith)
+varied-words h start n (bignum low high true) l m = absurd (omega arith)
+varied-words h start n (bignum low high false) l m = absurd (omega arith)
 
 not-varied : (h start n : ℕ) (r : Row) → (getD (words r) 0 0 ≡ 7 → ⊥) → (getD (words r) 0 0 ≡ 8 → ⊥) → set-variables h start n r ≡ refuse NotAnObject
 unfolding words set-variables
@@ -530,6 +536,7 @@ not-varied h start n (string s k (present p m)) a b = absurd (a refl)
 not-varied h start n (user s k c absent) a b = absurd (b refl)
 not-varied h start n (user s k c (present p m)) a b = absurd (b refl)
 not-varied h start n (float s k) a b = refl
+not-varied h start n (bignum low high m) a b = refl
 
 words-same : {a b d e a' b' d' e' : ℕ} (start n : ℕ) → a ≡ a' → b ≡ b' → d ≡ d' → e ≡ e' → _≡_ {A = List ℕ} (a ∷ b ∷ d ∷ start ∷ n ∷ e ∷ 1 ∷ []) (a' ∷ b' ∷ d' ∷ start ∷ n ∷ e' ∷ 1 ∷ [])
 words-same start n p q r t = λ i. p i ∷ q i ∷ r i ∷ start ∷ n ∷ t i ∷ 1 ∷ []

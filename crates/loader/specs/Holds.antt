@@ -10,9 +10,9 @@ use lib.ListN.{length, getD, take, drop}
 use Rattle.definition.specs.Run.{Outcome, refused, pure, pick, look, _>>=_}
 use Rattle.definition.specs.Integer.{form, value, integer-bytes}
 use Rattle.definition.specs.Kind.{FIXNUM, SYMBOL-LINK, INSTANCE-VARIABLES, ARRAY, HASH, HASH-DEFAULT, OBJECT}
-use Rattle.definition.specs.Node.{Row, nil, bool, fixnum, symbol, array, hash, object, string, user, float, kind, equal, flat}
+use Rattle.definition.specs.Node.{Row, nil, bool, fixnum, symbol, array, hash, object, string, user, float, bignum, kind, equal, flat}
 use Rattle.definition.specs.Arena.{named, find-symbol, bytes-compared, compared-with, lowest, bad-nodes, too-long}
-use Rattle.definition.specs.Load.{Room, Notes, State, Reader, Lists, note, takes-variables, read-bytes, intern, intern-as, add-node, add-symbol, put-reference, set-variables}
+use Rattle.definition.specs.Load.{Room, Notes, State, Reader, Lists, note, takes-variables, read-bytes, read-unit-count, read-magnitude, intern, intern-as, add-node, add-symbol, put-reference, set-variables}
 use Rattle.definition.specs.declared.Refusal.{Refusal}
 use Rattle.reader.specs.Answers.{refusal-at}
 use Rattle.reader.specs.Integers.{dumped-at}
@@ -79,6 +79,7 @@ Plain (object s n c) = Unit {0}
 Plain (string s l v) = Unit {0}
 Plain (user s l c v) = Unit {0}
 Plain (float s l) = Unit {0}
+Plain (bignum low high m) = Unit {0}
 
 abbrev pub Symbolic : Row → Type 0
 Symbolic nil = ⊥
@@ -91,6 +92,7 @@ Symbolic (object s n c) = ⊥
 Symbolic (string s l v) = ⊥
 Symbolic (user s l c v) = ⊥
 Symbolic (float s l) = ⊥
+Symbolic (bignum low high m) = ⊥
 
 -- a symbol's bytes are among the first n
 abbrev pub Fit : ℕ → Row → Type 0
@@ -104,6 +106,7 @@ Fit n (object s l c) = Unit {0}
 Fit n (string s l v) = Unit {0}
 Fit n (user s l c v) = Unit {0}
 Fit n (float s l) = Unit {0}
+Fit n (bignum low high m) = Unit {0}
 
 abbrev pub AllFit : ℕ → List Row → Type 0
 AllFit n rows = (i : ℕ) → i < length rows → Fit n (getD rows i nil)
@@ -239,6 +242,10 @@ answered r = pick (ltb r 4294967296) (some r) none
 abbrev pub Ends : List ℕ → ℕ → ℕ → Type 0
 Ends name n last = (length name ≡ n) × (last ≡ getD name (n - 1) 0)
 
+-- the words of node h and the bytes lent say a name of n bytes, of which, if it has any, `last` is the last
+abbrev pub Like : List ℕ → List ℕ → ℕ → ℕ → ℕ → Type 0
+Like nodes bytes h n last = (getD nodes (h * 7 + 2) 0 ≡ n) × ((n ≡ 0 → ⊥) → getD bytes (getD nodes (h * 7 + 1) 0 + (n - 1)) 0 ≡ last)
+
 -- the first r of n bytes are alike, and no more
 pub record Alike (xs ys : List ℕ) (n r : ℕ) : Type 0 where
   pub most : r ≤ n
@@ -276,6 +283,10 @@ read-name input room n = read-bytes input n >>= λ name. intern room name >>= ad
 
 abbrev pub add-name : Room → List ℕ → ℕ → Reader ℕ
 add-name room name r = intern-as room name (answered r) >>= add-symbol room
+
+-- the rest of a Bignum whose sign byte was b
+abbrev pub read-number : List ℕ → Room → ℕ → Reader ℕ
+read-number input room b = read-unit-count input >>= read-magnitude input room b
 
 -- variables are set, or 10
 abbrev pub settle : ℕ → ℕ → ℕ → Reader ℕ

@@ -5,6 +5,9 @@
 use arena_check::first_wrong;
 use arena_check::too_long;
 use arena_check::wrong_table;
+use bignum::fewest_units;
+use bignum::magnitude_at;
+use definition::Bignum;
 use definition::Node;
 use definition::ValueKind;
 use reader::INVALID_KIND;
@@ -15,11 +18,13 @@ use reader::NO_SPACE;
 use reader::NOT_AN_OBJECT;
 use reader::REFUSED;
 use reader::SHORT_INPUT;
+use reader::TOO_BIG;
 use reader::header_at;
 use reader::in_form;
 use reader::integer_at;
 use reader::integer_size;
 use reader::not_a_symbol;
+use reader::sign_byte;
 use reader::small;
 use reader::wide;
 use store::copy_bytes;
@@ -27,18 +32,21 @@ use store::put_node;
 use store::zero_range;
 ghost use mathlib.Core.Path.{_≡_};
 ghost use mathlib.Core.List.{List, [], _∷_};
-ghost use Prim.Native.Nat.{ℕ, _+_, _-_, _*_, _%_, _<_, _≤_};
+ghost use Prim.Native.Nat.{ℕ, _+_, _-_, _*_, _/_, _%_, _<_, _≤_};
 ghost use mathlib.Core.Bool.{true, false};
+ghost use mathlib.Core.Logic.{_⊎_};
+ghost use lib.Dec.{eqb};
 ghost use lib.ListN.{length, getD, set, take, drop};
 ghost use lib.Seq.{sets};
-ghost use Rattle.definition.specs.Integer.{form, value, integer-bytes};
-ghost use Rattle.definition.specs.Kind.{FIXNUM, STRING};
+ghost use Rattle.definition.specs.Integer.{form, value, low-bytes, integer-bytes};
+ghost use Rattle.definition.specs.Kind.{FIXNUM, STRING, PLUS, MINUS};
 ghost use Rattle.definition.specs.Node.{Row, words, nil, equal, width};
+ghost use Rattle.definition.specs.Magnitude.{sign, sign-byte, bignum-row};
 ghost use Rattle.definition.specs.Arena.{named, compared-among};
-ghost use Rattle.definition.specs.Load.{Room, State, Reader, Lists, lists, read-header, read-integer, read-count, read-bytes, read-byte-string, read-fixnum, read-symbol, read-symbol-link, read-object-link, read-symbol-like, read-text, read-user-defined, read-value, value-of, head, add-node, add-bytes, add-symbol, add-object, add-object-node, counted, fill, takes-variables};
+ghost use Rattle.definition.specs.Load.{Room, State, Reader, Lists, lists, read-header, read-integer, read-count, read-bytes, read-byte-string, read-fixnum, read-symbol, read-symbol-link, read-object-link, read-symbol-like, read-text, read-user-defined, read-sign, read-magnitude, read-bignum, add-bignum, read-value, value-of, head, add-node, add-bytes, add-symbol, add-object, add-object-node, counted, fill, takes-variables};
 ghost use Rattle.reader.specs.Answers.{coded};
 ghost use Rattle.reader.specs.Integers.{size-of, word-of, dumped-at};
-ghost use Rattle.loader.specs.Holds.{Held, Holds, Somewhere, Goes, Leads, Meets, Does, Spans, Plain, Symbolic, Found, Alike, Compared, Ends, find-listed, Free, Leaf, Entry, Link, Next, Coming, span, span-of, at-of, nodes-of, references-of, bytes-of, symbols-of, compared-of, new-symbol, read-name, add-name, settle, after-i, slots, wrong, Allowed};
+ghost use Rattle.loader.specs.Holds.{Held, Holds, Somewhere, Goes, Leads, Meets, Does, Spans, Plain, Symbolic, Found, Like, Alike, Compared, Ends, find-listed, Free, Leaf, Entry, Link, Next, Coming, span, span-of, at-of, nodes-of, references-of, bytes-of, symbols-of, compared-of, new-symbol, read-name, add-name, read-number, settle, after-i, slots, wrong, Allowed};
 
 // The places of the eight counts: the offset, then how much of each table and list is used, then whether what was read is
 // in dump form: 0 while all of it is, else 1; last, one more than the bytes compared, or 0 where they are not counted.
@@ -158,16 +166,24 @@ pub fn read_header(input: &[u8], c: &mut [usize; 8]) -> u64
 // ---- the tables and lists
 
 // A node of these words, the others zero: its number.
-fn add_node(nodes: &mut [u32], c: &mut [usize; 8], kind: u32, a: u32, b: u32, name: u32) -> u64
+fn add_node(
+    nodes: &mut [u32],
+    c: &mut [usize; 8],
+    kind: u32,
+    a: u32,
+    b: u32,
+    n: u32,
+    name: u32,
+) -> u64
     requires { ⌜ (length (now nodes) ≤ 2147483647) × (length (now c) ≡ 8) ⌝ }
-    ensures { λ r. ⌜ ((input : List ℕ) (room : Room) (limit : ℕ) (row : Row) (re by sy ob : List ℕ) → words row ≡ kind ∷ a ∷ b ∷ 0 ∷ 0 ∷ name ∷ 0 ∷ [] → Plain row → Meets input room limit (add-node room row) (lists (now (nodes .entry)) re by sy ob) (now (c .entry)) r (lists (now (nodes .exit)) re by sy ob) (now (c .exit))) ⌝ }
+    ensures { λ r. ⌜ ((input : List ℕ) (room : Room) (limit : ℕ) (row : Row) (re by sy ob : List ℕ) → words row ≡ kind ∷ a ∷ b ∷ 0 ∷ n ∷ name ∷ 0 ∷ [] → Plain row → Meets input room limit (add-node room row) (lists (now (nodes .entry)) re by sy ob) (now (c .entry)) r (lists (now (nodes .exit)) re by sy ob) (now (c .exit))) ⌝ }
     ensures { λ r. ⌜ (r < 4294967296 → (r < nodes-of (now (c .exit))) × ((kind ≡ 3 → ⊥) → Free (now (nodes .exit)) r)) ⌝ }
 {
     let at = c[NODES];
     if nodes.len() / Node::WIDTH <= at {
         return NO_SPACE + 1;
     }
-    put_node(nodes, at * Node::WIDTH, kind, a, b, 0, 0, name, 0);
+    put_node(nodes, at * Node::WIDTH, kind, a, b, 0, n, name, 0);
     c[NODES] = at + 1;
     at as u64
 }
@@ -195,13 +211,14 @@ fn add_object_node(
     kind: u32,
     a: u32,
     b: u32,
+    n: u32,
     name: u32,
 ) -> u64
     requires { ⌜ (length (now nodes) ≤ 2147483647) × (length (now c) ≡ 8) ⌝ }
-    ensures { λ r. ⌜ ((input : List ℕ) (room : Room) (limit : ℕ) (row : Row) (re by sy : List ℕ) → words row ≡ kind ∷ a ∷ b ∷ 0 ∷ 0 ∷ name ∷ 0 ∷ [] → Plain row → Meets input room limit (add-object-node room row) (lists (now (nodes .entry)) re by sy (now (objects .entry))) (now (c .entry)) r (lists (now (nodes .exit)) re by sy (now (objects .exit))) (now (c .exit))) ⌝ }
+    ensures { λ r. ⌜ ((input : List ℕ) (room : Room) (limit : ℕ) (row : Row) (re by sy : List ℕ) → words row ≡ kind ∷ a ∷ b ∷ 0 ∷ n ∷ name ∷ 0 ∷ [] → Plain row → Meets input room limit (add-object-node room row) (lists (now (nodes .entry)) re by sy (now (objects .entry))) (now (c .entry)) r (lists (now (nodes .exit)) re by sy (now (objects .exit))) (now (c .exit))) ⌝ }
     ensures { λ r. ⌜ (r < 4294967296 → (r < nodes-of (now (c .exit))) × ((kind ≡ 3 → ⊥) → Free (now (nodes .exit)) r)) ⌝ }
 {
-    let h = add_node(nodes, c, kind, a, b, name);
+    let h = add_node(nodes, c, kind, a, b, n, name);
     if REFUSED <= h {
         return h;
     }
@@ -313,7 +330,7 @@ fn read_fixnum(input: &[u8], nodes: &mut [u32], c: &mut [usize; 8]) -> u64
     if REFUSED <= n {
         return n;
     }
-    add_node(nodes, c, Node::FIXNUM, n as u32, 0, 0)
+    add_node(nodes, c, Node::FIXNUM, n as u32, 0, 0, 0)
 }
 
 // A byte string and its node: a string's, a float's, or a user-defined's with its name.
@@ -338,7 +355,125 @@ fn read_text(
     if REFUSED <= start {
         return start;
     }
-    add_object_node(nodes, objects, c, kind, start as u32, n as u32, name)
+    add_object_node(nodes, objects, c, kind, start as u32, n as u32, 0, name)
+}
+
+// A Bignum's sign byte.
+fn read_sign(input: &[u8], c: &mut [usize; 8]) -> u64
+    requires { ⌜ Somewhere (now input) (now c) ⌝ }
+    ensures { λ r. ⌜ ((room : Room) (limit : ℕ) (T : Lists) → Meets (now (input .entry)) room limit (read-sign (now (input .entry))) T (now (c .entry)) r T (now (c .exit))) ⌝ }
+    ensures { λ r. ⌜ (r < 4294967296 → (r ≡ PLUS) ⊎ (r ≡ MINUS)) ⌝ }
+{
+    let at = c[AT];
+    if input.len() <= at {
+        return SHORT_INPUT;
+    }
+    c[AT] = at + 1;
+    sign_byte(input[at])
+}
+
+// The count of a Bignum's units, which are there and are left; a count that is too great comes before units that are not.
+fn read_units(input: &[u8], c: &mut [usize; 8]) -> u64
+    requires { ⌜ Somewhere (now input) (now c) ⌝ }
+    ensures { λ r. ⌜ ((room : Room) (limit b : ℕ) (T : Lists) → Leads (now (input .entry)) room limit (read-number (now (input .entry)) room b) (read-magnitude (now (input .entry)) room b r) T (now (c .entry)) r T (now (c .exit))) ⌝ }
+    ensures { λ r. ⌜ (r < 4294967296 → (r ≤ 4) × (at-of (now (c .exit)) + r * 2 ≤ length (now (input .entry)))) ⌝ }
+{
+    let n = read_count(&input[..], c);
+    if REFUSED <= n {
+        return n;
+    }
+    if Bignum::UNITS < n {
+        return TOO_BIG + n;
+    }
+    if input.len() - c[AT] < n as usize * 2 {
+        return SHORT_INPUT;
+    }
+    n
+}
+
+// A magnitude's sign as its node has it, by the sign byte: zero is plus.
+fn sign_word(b: u64, m: u64) -> u32
+    ensures { λ r. ⌜ words (bignum-row (eqb b MINUS) m) ≡ 10 ∷ m % 4294967296 ∷ m / 4294967296 ∷ 0 ∷ r ∷ 0 ∷ 0 ∷ [] ⌝ }
+{
+    if b != Bignum::MINUS as u64 {
+        return 0;
+    }
+    if m == 0 {
+        return 0;
+    }
+    1
+}
+
+// Does dump write a magnitude with the sign byte b? Not zero with a minus.
+fn keeps_sign(b: u64, m: u64) -> bool
+    requires { ⌜ (b ≡ PLUS) ⊎ (b ≡ MINUS) ⌝ }
+    ensures { λ r. ⌜ r ≡ eqb b (sign-byte (sign (eqb b MINUS) m)) ⌝ }
+{
+    if b != Bignum::MINUS as u64 {
+        return true;
+    }
+    m != 0
+}
+
+// That dump writes a magnitude with another sign byte than b, or with other units than n, is noted.
+fn note_bignum(c: &mut [usize; 8], b: u64, n: u64, m: u64)
+    requires { ⌜ (b ≡ PLUS) ⊎ (b ≡ MINUS) ⌝ }
+    ensures { λ _. ⌜ ((input : List ℕ) (room : Room) (T : Lists) → Goes input room (add-bignum room b (low-bytes (n * 2) m) m) T (now (c .entry)) (add-object-node room (bignum-row (eqb b MINUS) m)) T (now (c .exit))) ⌝ }
+{
+    if keeps_sign(b, m) & (n == wide(fewest_units(m))) {
+        return;
+    }
+    c[FORM] = 1;
+}
+
+// The node of the magnitude that n units at the offset say, which are passed.
+fn read_magnitude(
+    input: &[u8],
+    nodes: &mut [u32],
+    objects: &mut [u32],
+    c: &mut [usize; 8],
+    b: u64,
+    n: u64,
+) -> u64
+    requires { ⌜ ((b ≡ PLUS) ⊎ (b ≡ MINUS)) × (n ≤ 4) × (at-of (now c) + n * 2 ≤ length (now input)) × ((re : List ℕ) × (by : List ℕ) × (sy : List ℕ) × Held (now input) (lists (now nodes) re by sy (now objects)) (now c)) ⌝ }
+    ensures { λ r. ⌜ ((room : Room) (limit : ℕ) (re by sy : List ℕ) → Meets (now (input .entry)) room limit (read-magnitude (now (input .entry)) room b n) (lists (now (nodes .entry)) re by sy (now (objects .entry))) (now (c .entry)) r (lists (now (nodes .exit)) re by sy (now (objects .exit))) (now (c .exit))) ⌝ }
+    ensures { λ r. ⌜ (r < 4294967296 → r < nodes-of (now (c .exit))) ⌝ }
+{
+    let at = c[AT];
+    let k = n as usize * 2;
+    let m = magnitude_at(&input[..], at, k);
+    if Bignum::TOO_BIG <= m {
+        return TOO_BIG + n;
+    }
+    c[AT] = at + k;
+    note_bignum(c, b, n, m);
+    add_object_node(
+        nodes,
+        objects,
+        c,
+        Node::BIGNUM,
+        (m % REFUSED) as u32,
+        (m / REFUSED) as u32,
+        sign_word(b, m),
+        0,
+    )
+}
+
+// A Bignum: its sign byte, its count of units, its units, and its node.
+fn read_bignum(input: &[u8], nodes: &mut [u32], objects: &mut [u32], c: &mut [usize; 8]) -> u64
+    requires { ⌜ ((re : List ℕ) × (by : List ℕ) × (sy : List ℕ) × Held (now input) (lists (now nodes) re by sy (now objects)) (now c)) ⌝ }
+    ensures { λ r. ⌜ ((room : Room) (limit : ℕ) (re by sy : List ℕ) → Meets (now (input .entry)) room limit (read-bignum (now (input .entry)) room) (lists (now (nodes .entry)) re by sy (now (objects .entry))) (now (c .entry)) r (lists (now (nodes .exit)) re by sy (now (objects .exit))) (now (c .exit))) ⌝ }
+    ensures { λ r. ⌜ (r < 4294967296 → r < nodes-of (now (c .exit))) ⌝ }
+{
+    let b = read_sign(&input[..], c);
+    if REFUSED <= b {
+        return b;
+    }
+    let n = read_units(&input[..], c);
+    if REFUSED <= n {
+        return n;
+    }
+    read_magnitude(&input[..], nodes, objects, c, b, n)
 }
 
 // Are the n bytes from `from` on those from `to` on?
@@ -370,7 +505,7 @@ fn last_byte(input: &[u8], at: usize, n: u32) -> u8
 // Has the symbol h a name of n bytes, of which `last` is the last? Names of one length mostly differ there.
 fn is_like(nodes: &[u32], bytes: &[u8], h: u32, n: u32, last: u8) -> bool
     requires { ⌜ ((room : Room) × (s : State) × (input : List ℕ) × (re : List ℕ) × (sy : List ℕ) × (ob : List ℕ) × (c : List ℕ) × Symbolic (getD (s .nodes) h nil) × Holds input room s (lists (now nodes) re (now bytes) sy ob) c) ⌝ }
-    ensures { λ r. ⌜ (r ≡ true → getD (now (nodes .entry)) (h * width + 2) 0 ≡ n) ⌝ }
+    ensures { λ r. ⌜ (r ≡ true → Like (now (nodes .entry)) (now (bytes .entry)) h n last) ⌝ }
     ensures { λ r. ⌜ ((room : Room) (s : State) (input re sy ob c name : List ℕ) → r ≡ false → Symbolic (getD (s .nodes) h nil) → Holds input room s (lists (now (nodes .entry)) re (now (bytes .entry)) sy ob) c → Ends name n last → false ≡ named (s .bytes) name (getD (s .nodes) h nil)) ⌝ }
 {
     let base = (h as usize) * Node::WIDTH;
@@ -387,7 +522,7 @@ fn is_like(nodes: &[u32], bytes: &[u8], h: u32, n: u32, last: u8) -> bool
     true
 }
 
-// The first entry of the symbol list, from entry `from` to `count`, that may have a name of n bytes, of which `last` is the
+// The first entry of the symbol list, from entry `from` to `count`, that has a name of n bytes, of which `last` is the
 // last; `count` where there is none. Most of a search is here, so it is a loop of its own over little.
 fn next_like(
     nodes: &[u32],
@@ -399,7 +534,7 @@ fn next_like(
     last: u8,
 ) -> usize
     requires { ⌜ (from ≤ count) × ((room : Room) × (s : State) × (input : List ℕ) × (re : List ℕ) × (ob : List ℕ) × (c : List ℕ) × (symbols-of c ≡ count) × Holds input room s (lists (now nodes) re (now bytes) (now symbols) ob) c) ⌝ }
-    ensures { λ r. ⌜ (from ≤ r) × (r ≤ count) × (r < count → getD (now (nodes .entry)) (getD (now (symbols .entry)) r 0 * width + 2) 0 ≡ n) ⌝ }
+    ensures { λ r. ⌜ (from ≤ r) × (r ≤ count) × (r < count → Like (now (nodes .entry)) (now (bytes .entry)) (getD (now (symbols .entry)) r 0) n last) ⌝ }
     ensures { λ r. ⌜ ((room : Room) (s : State) (input re ob c name : List ℕ) → symbols-of c ≡ count → Holds input room s (lists (now (nodes .entry)) re (now (bytes .entry)) (now (symbols .entry)) ob) c → Ends name n last → find-listed (s .bytes) name (s .nodes) (drop from (s .symbols)) ≡ find-listed (s .bytes) name (s .nodes) (drop r (s .symbols))) ⌝ }
 {
     let mut i = from;
@@ -674,13 +809,14 @@ pub fn read_leaf(
             read_text(&input[..], nodes, bytes, objects, c, text_kind(k), 0)
         }
         ValueKind::SYMBOL => read_symbol(&input[..], nodes, bytes, symbols, c),
-        ValueKind::NIL => add_node(nodes, c, Node::NIL, 0, 0, 0),
-        ValueKind::TRUE => add_node(nodes, c, Node::BOOL, 1, 0, 0),
-        ValueKind::FALSE => add_node(nodes, c, Node::BOOL, 0, 0, 0),
+        ValueKind::NIL => add_node(nodes, c, Node::NIL, 0, 0, 0, 0),
+        ValueKind::TRUE => add_node(nodes, c, Node::BOOL, 1, 0, 0, 0),
+        ValueKind::FALSE => add_node(nodes, c, Node::BOOL, 0, 0, 0, 0),
         ValueKind::OBJECT_LINK => read_object_link(&input[..], objects, c),
         ValueKind::USER_DEFINED => {
             read_user_defined(&input[..], nodes, bytes, symbols, objects, c)
         }
+        ValueKind::BIGNUM => read_bignum(&input[..], nodes, objects, c),
         _ => INVALID_KIND + k as u64,
     }
 }
@@ -820,7 +956,7 @@ pub fn open_node(nodes: &mut [u32], objects: &mut [u32], c: &mut [usize; 8]) -> 
     ensures { λ r. ⌜ ((input : List ℕ) (room : Room) (limit : ℕ) (re by sy : List ℕ) → Meets input room limit (add-object-node room nil) (lists (now (nodes .entry)) re by sy (now (objects .entry))) (now (c .entry)) r (lists (now (nodes .exit)) re by sy (now (objects .exit))) (now (c .exit))) ⌝ }
     ensures { λ r. ⌜ (r < 4294967296 → (r < nodes-of (now (c .exit))) × Free (now (nodes .exit)) r) ⌝ }
 {
-    add_object_node(nodes, objects, c, Node::NIL, 0, 0, 0)
+    add_object_node(nodes, objects, c, Node::NIL, 0, 0, 0, 0)
 }
 
 // A count, and so many times `each` reference words more, which are zero: the count.

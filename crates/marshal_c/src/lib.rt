@@ -18,6 +18,7 @@ use load::load;
 use load::load_measured;
 use refusal::answer_numbers;
 use value_arena::create_array;
+use value_arena::create_bignum;
 use value_arena::create_bool;
 use value_arena::create_fixnum;
 use value_arena::create_float;
@@ -41,7 +42,7 @@ ghost use lib.Seq.{sets};
 ghost use Rattle.definition.specs.Refused.{answer-numbers};
 ghost use Rattle.definition.specs.Load.{lists, counts, load-call, measured-call};
 ghost use Rattle.definition.specs.Dump.{dump-call};
-ghost use Rattle.definition.specs.Build.{lent, build-call, new-call, number-done, words-done, name-done, get-words, get-kind, get-name, get-root, exchange-root, create-nil, create-bool, create-fixnum, create-new-symbol, create-symbol, create-array, create-hash, create-object, create-string, create-user-defined, create-float};
+ghost use Rattle.definition.specs.Build.{lent, build-call, new-call, number-done, words-done, name-done, get-words, get-kind, get-name, get-root, exchange-root, create-nil, create-bool, create-fixnum, create-new-symbol, create-symbol, create-array, create-hash, create-object, create-string, create-user-defined, create-float, create-bignum};
 ghost use Rattle.refusal.specs.Shown.{integer};
 ghost use Rattle.marshal_c.specs.Reply.{word, details, flag, count-words, loaded-words, measured-words, dumped-words, begun-words, number-words, node-words, name-words, created-words, tables, reply, tell-load, tell-measured, tell-dump, tell-new, tell-build, tell-number, tell-words, tell-name};
 
@@ -760,5 +761,34 @@ pub extern "C" fn ruby_marshal_create_float(
         root: root,
     };
     let r = create_float(nodes, &references[..], bytes, c, &value[..]);
+    tell_created(answer, r)
+}
+
+#[no_mangle]
+pub extern "C" fn ruby_marshal_create_bignum(
+    nodes: &mut [u32],
+    references: &[u32],
+    bytes: &[u8],
+    node_count: usize,
+    reference_count: usize,
+    byte_count: usize,
+    root: u32,
+    minus: bool,
+    low: u32,
+    high: u32,
+    answer: &mut [u64],
+) -> u32
+    ensures { λ r. ⌜ reply r (now (answer .exit)) (tables (now (nodes .exit)) (now (references .entry)) (now (bytes .entry))) ≡ tell-build (build-call (create-bignum minus low high) (lent (now (nodes .entry)) (now (references .entry)) (now (bytes .entry)) (counts «node_count» «reference_count» «byte_count» root))) (tables (now (nodes .entry)) (now (references .entry)) (now (bytes .entry))) (now (answer .entry)) ⌝ }
+{
+    if answer.len() < CREATED {
+        return BAD_TABLES;
+    }
+    let c = Counts {
+        nodes: node_count,
+        references: reference_count,
+        bytes: byte_count,
+        root: root,
+    };
+    let r = create_bignum(nodes, &references[..], &bytes[..], c, minus, low, high);
     tell_created(answer, r)
 }

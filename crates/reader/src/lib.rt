@@ -1,15 +1,18 @@
 // What stands in the input at an offset: integers and the header; the numbers that readers answer; and the reader, an input
 // with an offset.
 use definition::Answer;
+use definition::Bignum;
 use definition::Refusal;
 use definition::Taken;
 use definition::Text;
 ghost use mathlib.Core.Path.{_≡_};
+ghost use mathlib.Core.Logic.{_⊎_};
 ghost use mathlib.Core.List.{List, [], _∷_};
 ghost use Prim.Native.Nat.{ℕ, _+_, _-_, _*_, _^_, _<_, _≤_};
 ghost use lib.ListN.{length, getD, take, drop};
 ghost use Rattle.definition.specs.Integer.{value, form, low-bytes, integer-bytes};
 ghost use Rattle.definition.specs.Integer as integer;
+ghost use Rattle.definition.specs.Kind.{PLUS, MINUS};
 ghost use Rattle.definition.specs.Load.{read-header};
 ghost use Rattle.definition.specs.Reader.{left, next-byte, next-header, next-integer, next-byte-string};
 ghost use Rattle.reader.specs.Answers.{refusal-at, coded, Reads};
@@ -41,6 +44,10 @@ pub const TOO_DEEP: u64 = 11 * REFUSED;
 
 pub const NO_SPACE: u64 = 12 * REFUSED;
 
+const BAD_SIGN: u64 = 15 * REFUSED;
+
+pub const TOO_BIG: u64 = 16 * REFUSED;
+
 // The refusal that an answer from REFUSED on is, under this limit.
 pub fn refusal_of(r: u64, limit: u32) -> Refusal
     requires { ⌜ 4294967296 ≤ r ⌝ }
@@ -58,6 +65,8 @@ pub fn refusal_of(r: u64, limit: u32) -> Refusal
         9 => Refusal::NotASymbol((detail % 256) as u8),
         10 => Refusal::NotAnObject,
         11 => Refusal::TooDeep(limit),
+        15 => Refusal::BadSign((detail % 256) as u8),
+        16 => Refusal::TooBig(detail),
         _ => Refusal::NoSpace(detail),
     }
 }
@@ -74,6 +83,16 @@ pub fn not_a_symbol(k: u8) -> u64
     ensures { λ r. ⌜ (r ≡ coded 9 k) × (k ≤ 255) ⌝ }
 {
     NOT_A_SYMBOL + k as u64
+}
+
+// A Bignum's sign byte, or the refusal of another.
+pub fn sign_byte(b: u8) -> u64
+    ensures { λ r. ⌜ ((b ≡ PLUS) ⊎ (b ≡ MINUS) → r ≡ b) × (((b ≡ PLUS) ⊎ (b ≡ MINUS) → ⊥) → r ≡ coded 15 b) × (b ≤ 255) ⌝ }
+{
+    match b {
+        Bignum::PLUS | Bignum::MINUS => b as u64,
+        _ => BAD_SIGN + b as u64,
+    }
 }
 
 // ---- integers

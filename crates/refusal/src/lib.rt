@@ -1,4 +1,4 @@
-// The numbers of document 01 for a refusal, for programs that print them.
+// The numbers of documents 01 and 02 for a refusal, for programs that print them.
 use definition::Answer;
 use definition::Fault;
 use definition::Refusal;
@@ -63,6 +63,8 @@ pub fn numbers_of(q: Refusal) -> Numbers
         Refusal::NoSpace(slice) => plain(12, slice, 0),
         Refusal::BadHandle(handle) => plain(13, handle, 0),
         Refusal::WrongKind(handle) => plain(14, handle, 0),
+        Refusal::BadSign(byte) => plain(15, byte as u32, 0),
+        Refusal::TooBig(count) => plain(16, count, 0),
     }
 }
 

@@ -24,7 +24,7 @@ use Rattle.graph.specs.Describe.{E, eEnd, eLeaf, eBox, eRef, eSym, eSymref, e-l
 use Rattle.graph.specs.View.{see, seen, at-see}
 use Rattle.well_formed.specs.Nodes.{at-node}
 use Rattle.well_formed.specs.Right.{Right, RowRight, Fixnums, fault-right, fault-fit}
-use Rattle.dump_forest.specs.Shown.{Shown, nil-shown, false-shown, true-shown, fixnum-shown, symbol-shown, array-shown, hash-shown, default-shown, object-shown, string-shown, string-vars-shown, user-shown, user-vars-shown, float-shown, shown-at}
+use Rattle.dump_forest.specs.Shown.{Shown, nil-shown, false-shown, true-shown, fixnum-shown, symbol-shown, array-shown, hash-shown, default-shown, object-shown, string-shown, string-vars-shown, user-shown, user-vars-shown, float-shown, bignum-shown, shown-at}
 use Rattle.dump_forest.specs.Sound.{dump-sound}
 use Rattle.dump_forest.specs.Same.{one-graph}
 use Rattle.dump_forest.specs.Writers.{num}
@@ -68,6 +68,7 @@ module _ (A : Arena) (m : Small A) where
   row-bounded f h (user-shown {s} {l} {c}) = (omega arith, range-bounded s l (h .0))
   row-bounded f h (user-vars-shown {s} {l} {c} {p} {n}) = (omega (arith, h .2 .list .inside, m .references), range-bounded s l (h .0))
   row-bounded f h (float-shown {s} {l}) = (omega arith, range-bounded s l h)
+  row-bounded f h bignum-shown = (omega arith, omega arith)
 
   node-bounded : Right A → Fixnums A → (v : ℕ) (n : Node) → At (seen A) v n → BoundedNode n
   node-bounded ρ fx v n a =

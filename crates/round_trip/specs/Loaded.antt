@@ -8,7 +8,7 @@ use mathlib.Core.List.{List}
 use native.Mathlib.Omega.{arith}
 use native.Mathlib.Decide.{ℕ-discrete}
 use Rattle.definition.specs.Run.{ok}
-use Rattle.definition.specs.Node.{Row, nil, bool, fixnum, symbol, array, hash, object, string, user, float, kind}
+use Rattle.definition.specs.Node.{Row, nil, bool, fixnum, symbol, array, hash, object, string, user, float, bignum, kind}
 use Rattle.definition.specs.Arena.{Arena, range, fault}
 use Rattle.definition.specs.Graph.{Header, header, links}
 use Rattle.definition.specs.Load.{State, Lists, room-of, load}
@@ -65,6 +65,7 @@ links-box A (object s n c) k v e = refl
 links-box A (string s l y) k v e = refl
 links-box A (user s l c y) k v e = refl
 links-box A (float s l) k v e = refl
+links-box A (bignum low high m) k v e = refl
 
 scalar-leaf : (A : Arena) (x : Row) → kind x < 3 → node-leaf (see A x) ≡ 1
 unfolding see kind
@@ -79,6 +80,7 @@ scalar-leaf A (object s n c) h = absurd (omega arith)
 scalar-leaf A (string s l y) h = absurd (omega arith)
 scalar-leaf A (user s l c y) h = absurd (omega arith)
 scalar-leaf A (float s l) h = absurd (omega arith)
+scalar-leaf A (bignum low high m) h = absurd (omega arith)
 
 module _ (P : List Node) (v : ℕ) where
   -- a box with v weighs at least 1

@@ -9,11 +9,15 @@ use lib.Seq.{take-at, drop-at, drop-append-seam}
 use native.Mathlib.Omega.{arith}
 use Rattle.definition.specs.Run.{pick}
 use Rattle.definition.specs.Integer.{Form, value, data-bytes, form, little, integer-bytes}
-use Rattle.definition.specs.Kind.{NIL, TRUE, FALSE, FIXNUM, SYMBOL, SYMBOL-LINK, OBJECT-LINK, INSTANCE-VARIABLES, ARRAY, HASH, HASH-DEFAULT, OBJECT, STRING, USER-DEFINED, FLOAT}
+use Rattle.definition.specs.Kind.{NIL, TRUE, FALSE, FIXNUM, SYMBOL, SYMBOL-LINK, OBJECT-LINK, INSTANCE-VARIABLES, ARRAY, HASH, HASH-DEFAULT, OBJECT, STRING, USER-DEFINED, FLOAT, BIGNUM, MINUS}
+use Rattle.definition.specs.Magnitude.{fits, fewest-units, sign-byte, unit-bytes, bignum-bytes}
 use Rattle.definition.specs.Dump.{byte-string-bytes}
 use Rattle.definition.specs.Graph.{header-of}
-use Rattle.graph.specs.Forest.{F, fEnd, fLeaf, fBox, fRef, fSym, fSymref, fIv, trees, Mode, values, pairs, value-pairs, name, name-pairs, after, IsValue, Text, tEnd, tEndPairs, tName, tNameLink, tOneName, tOneLink, tClass, tClassLink, tNil, tFalse, tTrue, tFixnum, tSymbol, tSymbolLink, tObjectLink, tArray, tHash, tHashDefault, tObject, Texted, text-string, text-float, tText, tStringVars, tUser, tUserVars}
+use Rattle.graph.specs.Forest.{F, fEnd, fLeaf, fBox, fRef, fSym, fSymref, fIv, trees, Mode, values, pairs, value-pairs, name, name-pairs, after, IsValue, Text, tEnd, tEndPairs, tName, tNameLink, tOneName, tOneLink, tClass, tClassLink, tNil, tFalse, tTrue, tFixnum, tSymbol, tSymbolLink, tObjectLink, tArray, tHash, tHashDefault, tObject, Texted, text-string, text-float, tText, tBignum, tStringVars, tUser, tUserVars}
+use Rattle.lists.specs.Words.{length-low}
+use Rattle.lists.specs.Magnitudes.{few-units, unit-bytes-say}
 use Rattle.load_text.specs.Codec.{Codes, short, long, codes}
+use Rattle.load_text.specs.Bignums.{sign-said}
 
 -- every link, count and length of a byte string has 31 bits, every leaf's value 32
 abbrev pub Bounded : F → Type 0
@@ -61,11 +65,24 @@ str-back b u h =
     let e : int (integer-bytes (length b) ++ b ++ u) ≡ (length b, b ++ u) = ap int (append-assoc (integer-bytes (length b)) b u) ∙ int-back (length b) (b ++ u) (omega arith) in
     rw (e, take-at b u (length b) refl, drop-at b u (length b) refl)
 
+-- a count, then that many units: a magnitude
+unfoldable units : List ℕ → ℕ × List ℕ
+units x = (little (take (int x .0 * 2) (int x .1)) 0, drop (int x .0 * 2) (int x .1))
+
+units-back : (m : ℕ) (u : List ℕ) → fits m ≡ true → units (integer-bytes (fewest-units m) ++ unit-bytes m ++ u) ≡ (m, u)
+unfolding units unit-bytes
+units-back m u h =
+    let n = fewest-units m in
+    let bs = unit-bytes m in
+    let e : int (integer-bytes n ++ bs ++ u) ≡ (n, bs ++ u) = ap int (append-assoc (integer-bytes n) bs u) ∙ int-back n (bs ++ u) (omega (arith, few-units m)) in
+    let l = length-low (n * 2) m in
+    rw (e, take-at bs u (n * 2) l, drop-at bs u (n * 2) l, unit-bytes-say m h)
+
 -- ---- the reader
 
 -- what a kind byte begins; h-text: a byte string and nothing more, of the kind given
 data Head : Type 0 where
-  h-nil h-true h-false h-fixnum h-symbol h-symbol-link h-object-link h-variables h-array h-hash h-hash-default h-object h-user h-other : Head
+  h-nil h-true h-false h-fixnum h-symbol h-symbol-link h-object-link h-variables h-array h-hash h-hash-default h-object h-user h-bignum h-other : Head
   h-text : ℕ → Head
 
 unfoldable head : ℕ → Head
@@ -73,7 +90,7 @@ head b =
     pick (eqb b NIL) h-nil (pick (eqb b TRUE) h-true (pick (eqb b FALSE) h-false (pick (eqb b FIXNUM) h-fixnum
     (pick (eqb b SYMBOL) h-symbol (pick (eqb b SYMBOL-LINK) h-symbol-link (pick (eqb b OBJECT-LINK) h-object-link (pick (eqb b INSTANCE-VARIABLES) h-variables
     (pick (eqb b ARRAY) h-array (pick (eqb b HASH) h-hash (pick (eqb b HASH-DEFAULT) h-hash-default (pick (eqb b OBJECT) h-object
-    (pick (eqb b STRING) (h-text 7) (pick (eqb b USER-DEFINED) h-user (pick (eqb b FLOAT) (h-text 9) h-other))))))))))))))
+    (pick (eqb b STRING) (h-text 7) (pick (eqb b USER-DEFINED) h-user (pick (eqb b FLOAT) (h-text 9) (pick (eqb b BIGNUM) h-bignum h-other)))))))))))))))
 
 -- what is to be read: a mode, where the number of values is known and that of a class's pairs is not
 data Want : Type 0 where
@@ -136,6 +153,7 @@ item p w h-hash-default x = boxed p w (λ t. fBox (header-of 5 0 [] (int x .0) t
 item p w h-object x = boxed p w (λ t. fBox (header-of 6 0 [] (t .number) false) fEnd (t .forest)) (p w-name-pairs x)
 item p w (h-text n) x = on (fBox (header-of n 0 (str x .0) 0 false) fEnd fEnd) (p w (str x .1))
 item p w h-user x = user p w (p w-name x)
+item p w h-bignum x = begins (λ b y. on (fBox (header-of 10 (units y .0) [] 0 (eqb b MINUS)) fEnd fEnd) (p w (units y .1))) x
 item p w h-other x = got 0 fEnd x
 
 -- a name or, where the byte is no symbol's, a link to one, then what is wanted after it
@@ -257,6 +275,10 @@ module _ (p : Reader) (w : Want) (k : ℕ) (r : F) (u : List ℕ) where
   item-text text-string x y b i e = rw (i, e)
   item-text text-float x y b i e = rw (i, e)
 
+  item-bignum : (x y : List ℕ) (n : ℕ) (minus : Bool) → units x ≡ (n, y) → Then y → item p w (head BIGNUM) (sign-byte minus ∷ x) ≡ got 0 (fBox (header-of 10 n [] 0 minus) fEnd fEnd r) u
+  unfolding item head pick begins
+  item-bignum x y n minus i e = rw (i, sign-said minus, e)
+
   item-string-variables : (x y z a b : List ℕ) (n j : ℕ) (f : F) → str x ≡ (b, y) → int y ≡ (n, z) → p (w-pairs n) z ≡ got j f a → Then a
       → item p w (head INSTANCE-VARIABLES) (STRING ∷ x) ≡ got 0 (fBox (header-of 7 0 b n true) fEnd f r) u
   unfolding item head pick begins varied
@@ -358,6 +380,13 @@ module _ (l : ℕ) where
     reads-text {d} q b o u =
         let y = byte-string-bytes b ++ x ++ u in
         turn d _ y u refl (item-text (parse l) w k r u q y (x ++ u) b (str-of b y (x ++ u) o (append-assoc (byte-string-bytes b) x u)) (h u))
+
+    reads-bignum : (n : ℕ) (minus : Bool) → fits n ≡ true → Reads m (suc l) (fBox (header-of 10 n [] 0 minus) fEnd fEnd r) (BIGNUM ∷ bignum-bytes minus n ++ x)
+    unfolding bignum-bytes
+    reads-bignum n minus o u =
+        let c = integer-bytes (fewest-units n) in
+        turn BIGNUM _ (sign-byte minus ∷ (c ++ unit-bytes n ++ x ++ u)) u refl
+        (item-bignum (parse l) w k r u _ (x ++ u) n minus (ap units (append-assoc (c ++ unit-bytes n) x u) ∙ units-back n (x ++ u) o) (h u))
 
     reads-string-variables : (n : ℕ) (b : List ℕ) (f : F) (y : List ℕ) → n < 2147483648 → length b < 2147483648 → Reads (pairs n) l f y
         → Reads m (suc l) (fBox (header-of 7 0 b n true) fEnd f r) (INSTANCE-VARIABLES ∷ STRING ∷ byte-string-bytes b ++ integer-bytes n ++ y ++ x)
@@ -482,6 +511,7 @@ reads (suc l) o c b (tHashDefault {m = m} {n = n} {x = x} {y = y} {f = f} {r = r
 reads (suc l) o c b (tObject {m = m} {n = n} {x = x} {y = y} {f = f} {r = r} v s t) =
     reads-object l m v r x (reads l (omega arith) (after-bounded m v) (b .4) t) n f y (reads l (omega arith) (b .0) (b .3) s)
 reads (suc l) o c b (tText {m = m} {b = s} {x = x} {r = r} q v t) = reads-text l m v r x (reads l (omega arith) (after-bounded m v) (b .4) t) q s (b .1)
+reads (suc l) o c b (tBignum {m = m} {n = n} {minus = minus} {x = x} {r = r} v q t) = reads-bignum l m v r x (reads l (omega arith) (after-bounded m v) (b .4) t) n minus (q .0)
 reads (suc l) o c b (tStringVars {m = m} {n = n} {b = a} {x = x} {y = y} {f = f} {r = r} v s t) =
     reads-string-variables l m v r x (reads l (omega arith) (after-bounded m v) (b .4) t) n a f y (b .0) (b .1) (reads l (omega arith) tt (b .3) s)
 reads (suc l) o c b (tUser {m = m} {b = a} {x = x} {z = z} {p = p} {r = r} v s t) =

@@ -33,6 +33,7 @@ pub use refusal::Numbers;
 pub use refusal::answer_numbers;
 pub use refusal::numbers_of;
 pub use value_arena::create_array;
+pub use value_arena::create_bignum;
 pub use value_arena::create_bool;
 pub use value_arena::create_fixnum;
 pub use value_arena::create_float;

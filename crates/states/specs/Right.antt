@@ -1,18 +1,21 @@
--- A right row: its ranges are inside, its links lead to nodes and its names are symbols; then the definition's test holds.
+-- A right row: its ranges are inside, its links lead to nodes, its names are symbols and its number is right; then the definition's test holds.
 use Prim.Native.Nat.{ℕ, zero, suc, _+_, _*_, _≤_}
 use mathlib.Core.Path.{_≡_, refl, ap}
-use mathlib.Core.Bool.{true}
+use mathlib.Core.Bool.{Bool, true, false, not, _&&_}
 use mathlib.Core.List.{List, [], _∷_, _++_}
+use lib.Dec.{eqb}
 use lib.ListN.{length}
 use native.Mathlib.Omega.{arith}
-use borrow.Author.Tests.{le-leb, lt-ltb}
+use borrow.Author.Tests.{eqb-true, eq-eqb, le-leb, lt-ltb}
 use Rattle.definition.specs.Run.{pick}
-use Rattle.definition.specs.Node.{Row, Vars, nil, bool, fixnum, symbol, array, hash, object, string, user, float, absent, present, kind}
-use Rattle.definition.specs.Arena.{Arena, range, firsts, all-below, is-name, all-names, bytes-right, list-right, pairs-right, vars-right, row-right}
+use Rattle.definition.specs.Node.{Row, Vars, nil, bool, fixnum, symbol, array, hash, object, string, user, float, bignum, absent, present, kind}
+use Rattle.definition.specs.Magnitude.{fits, sign, magnitude}
+use Rattle.definition.specs.Arena.{Arena, range, firsts, all-below, is-name, all-names, bytes-right, list-right, pairs-right, vars-right, number-right, row-right}
 use Rattle.definition.specs.Graph.{links, vars-links, default-link}
 use Rattle.lists.specs.Joined.{yes-and}
-use Rattle.lists.specs.Lists.{At, at-app, Below}
+use Rattle.lists.specs.Lists.{At, at-app, apart, Below}
 use Rattle.well_formed.specs.Nodes.{node-at, Name}
+use Rattle.well_formed.specs.Right.{NumberRight}
 use Rattle.states.specs.Rows.{bytes-start, bytes-length, list-start, list-length, vars-start, vars-length, row-words, Within, vars-links-same, links-same}
 
 -- the names of a row: an object's or a user-defined node's, and the first of each pair
@@ -27,11 +30,17 @@ row-names A (object s n c) = c ∷ firsts (range (A .references) s (n * 2))
 row-names A (string s l v) = firsts (vars-links A v)
 row-names A (user s l c v) = c ∷ firsts (vars-links A v)
 row-names A (float s l) = []
+row-names A (bignum low high m) = []
+
+-- a row that is a Bignum has a right number
+abbrev pub Numbered : Row → Type 0
+Numbered r = (low high : ℕ) (m : Bool) → r ≡ bignum low high m → NumberRight (magnitude low high) m
 
 pub record RightIn (A : Arena) (r : Row) : Type 0 where
   pub inside : Within (A .references) (A .bytes) r
   pub below : Below (length (A .nodes)) (links A r)
   pub names : (k c : ℕ) → At (row-names A r) k c → Name A c
+  pub number : Numbered r
 
 -- a name, and names after it
 pub names-first : (A : Arena) (c : ℕ) (ns : List ℕ) → Name A c → ((k d : ℕ) → At ns k d → Name A d) → (k d : ℕ) → At (c ∷ ns) k d → Name A d
@@ -52,6 +61,7 @@ names-same A B (object s n c) e = ap (λ (l : List ℕ). c ∷ firsts l) e
 names-same A B (string s l v) e = ap firsts (vars-links-same A B v e)
 names-same A B (user s l c v) e = ap (λ (x : List ℕ). c ∷ firsts x) (vars-links-same A B v e)
 names-same A B (float s l) e = refl
+names-same A B (bignum low high m) e = refl
 
 -- from A to B nodes are only added, names stay names, and bytes and words are only added
 pub record Onward (A B : Arena) : Type 0 where
@@ -65,6 +75,7 @@ row-onward A B r o e h = record {
   inside = record { bytes-inside = omega (arith, o .more-bytes, h .inside .bytes-inside); list-inside = omega (arith, o .more-words, h .inside .list-inside) };
   below = λ k v a. omega (arith, o .count, h .below k v (rw (links-same A B r e) at a));
   names = λ k c a. o .names c (h .names k c (rw (names-same A B r e) at a));
+  number = h .number;
 }
 
 -- ---- the definition's test of a row
@@ -110,6 +121,30 @@ above-left : (n : ℕ) (l m : List ℕ) → Below n (l ++ m) → Below n m
 above-left n [] m b k v e = b k v e
 above-left n (x ∷ l) m b k v e = above-left n l m (λ j w a. b (suc j) w a) k v e
 
+-- zero is plus, so the sign of a right number is the one it has
+pub sign-kept : (m : ℕ) (minus : Bool) → NumberRight m minus → sign minus m ≡ minus
+unfolding sign
+sign-kept m false h = refl
+sign-kept m true (f, z) = go (eqb m 0) refl
+  where
+    go : (t : Bool) → eqb m 0 ≡ t → not t ≡ true
+    go true e = let y = z (eqb-true m 0 e) in apart (cc)
+    go false e = refl
+
+-- and with the sign of a magnitude the number is right
+pub sign-right : (m : ℕ) (minus : Bool) → fits m ≡ true → NumberRight m (sign minus m)
+unfolding sign
+sign-right m minus f = (f, λ e. plus minus (eq-eqb m 0 e))
+  where
+    plus : (t : Bool) → eqb m 0 ≡ true → (t && not (eqb m 0)) ≡ false
+    plus false e = refl
+    plus true e = rw e refl
+
+pub number-right-yes : (m : ℕ) (minus : Bool) → NumberRight m minus → number-right m minus ≡ true
+unfolding number-right sign
+number-right-yes m false h = yes-and _ _ (h .0) refl
+number-right-yes m true h = yes-and _ _ (h .0) (sign-kept m true h)
+
 -- a hash's default
 default-below : (A : Arena) (p n d : ℕ) → RightIn A (hash p n d) → d ≤ length (A .nodes)
 unfolding links
@@ -131,3 +166,4 @@ right-yes A (user s l c v) f =
     yes-and _ _ (yes-and _ _ (le-leb _ _ (f .inside .bytes-inside)) (is-name-yes A c (f .names 0 c refl)))
     (vars-right-yes A v (f .inside .list-inside) (λ k w e. f .below (suc k) w e) (λ k w e. f .names (suc k) w e))
 right-yes A (float s l) f = le-leb _ _ (f .inside .bytes-inside)
+right-yes A (bignum low high m) f = number-right-yes (magnitude low high) m (f .number low high m refl)

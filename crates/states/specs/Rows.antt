@@ -2,11 +2,12 @@
 use Prim.Native.Nat.{ℕ, suc, _+_, _*_, _≤_}
 use mathlib.Core.Path.{_≡_, refl, ap}
 use mathlib.Core.Path.{_∙_}
-use mathlib.Core.Bool.{true, false}
+use mathlib.Core.Bool.{Bool, true, false}
 use mathlib.Core.List.{List, [], _∷_, _++_, append-nil}
 use lib.ListN.{length}
 use native.Mathlib.Omega.{arith}
-use Rattle.definition.specs.Node.{Row, Vars, nil, bool, fixnum, symbol, array, hash, object, string, user, float, absent, present}
+use Rattle.definition.specs.Node.{Row, Vars, nil, bool, fixnum, symbol, array, hash, object, string, user, float, bignum, absent, present}
+use Rattle.definition.specs.Magnitude.{magnitude}
 use Rattle.definition.specs.Arena.{Arena, range}
 use Rattle.definition.specs.Graph.{header, header-of, links, vars-links, vars-count, vars-present, default-link, default-present}
 use Rattle.graph.specs.Forest.{sym, box}
@@ -25,6 +26,7 @@ bytes-start (object s n c) = 0
 bytes-start (string s l v) = s
 bytes-start (user s l c v) = s
 bytes-start (float s l) = s
+bytes-start (bignum low high m) = 0
 
 unfoldable pub bytes-length : Row → ℕ
 bytes-length nil = 0
@@ -37,6 +39,7 @@ bytes-length (object s n c) = 0
 bytes-length (string s l v) = l
 bytes-length (user s l c v) = l
 bytes-length (float s l) = l
+bytes-length (bignum low high m) = 0
 
 unfoldable pub vars-start : Vars → ℕ
 vars-start absent = 0
@@ -57,6 +60,7 @@ list-start (object s n c) = s
 list-start (string s l v) = vars-start v
 list-start (user s l c v) = vars-start v
 list-start (float s l) = 0
+list-start (bignum low high m) = 0
 
 unfoldable pub list-length : Row → ℕ
 list-length nil = 0
@@ -69,6 +73,7 @@ list-length (object s n c) = n * 2
 list-length (string s l v) = vars-length v
 list-length (user s l c v) = vars-length v
 list-length (float s l) = 0
+list-length (bignum low high m) = 0
 
 -- a row's ranges lie inside
 pub record Within (references bytes : List ℕ) (r : Row) : Type 0 where
@@ -99,6 +104,7 @@ links-same A B (object s n c) e = ap (λ (l : List ℕ). c ∷ l) e
 links-same A B (string s l v) e = vars-links-same A B v e
 links-same A B (user s l c v) e = ap (λ (x : List ℕ). c ∷ x) (vars-links-same A B v e)
 links-same A B (float s l) e = refl
+links-same A B (bignum low high m) e = refl
 
 pub header-same : (A A′ : Arena) (r : Row) → row-bytes A′ r ≡ row-bytes A r → header A′ r ≡ header A r
 unfolding header bytes-start bytes-length
@@ -113,6 +119,7 @@ header-same A A′ (object s n c) b = refl
 header-same A A′ (string s l v) b = ap (λ (x : List ℕ). header-of 7 0 x (vars-count v) (vars-present v)) b
 header-same A A′ (user s l c v) b = ap (λ (x : List ℕ). header-of 8 0 x (vars-count v) (vars-present v)) b
 header-same A A′ (float s l) b = ap (λ (x : List ℕ). header-of 9 0 x 0 false) b
+header-same A A′ (bignum low high m) b = refl
 
 -- a row is seen alike where its two ranges hold the same
 pub see-same : (A A′ : Arena) (r : Row) → row-bytes A′ r ≡ row-bytes A r → row-words A′ r ≡ row-words A r → see A′ r ≡ see A r
@@ -128,6 +135,7 @@ see-same A A′ (object s n c) b w = rw (header-same A A′ (object s n c) b, li
 see-same A A′ (string s l v) b w = rw (header-same A A′ (string s l v) b, links-same A A′ (string s l v) w)
 see-same A A′ (user s l c v) b w = rw (header-same A A′ (user s l c v) b, links-same A A′ (user s l c v) w)
 see-same A A′ (float s l) b w = rw (header-same A A′ (float s l) b, links-same A A′ (float s l) w)
+see-same A A′ (bignum low high m) b w = rw (header-same A A′ (bignum low high m) b, links-same A A′ (bignum low high m) w)
 
 -- a row whose members are the words from p on
 pub data Listed (p : ℕ) : Row → Type 0 where
@@ -170,6 +178,10 @@ see-user A s l c b e = ap (λ (x : List ℕ). box (header-of 8 0 x 0 false) (c �
 pub see-user-variables : (A : Arena) (s l c p n : ℕ) (b ms : List ℕ) → range (A .bytes) s l ≡ b → range (A .references) p (n * 2) ≡ ms → see A (user s l c (present p n)) ≡ box (header-of 8 0 b n true) (c ∷ ms)
 unfolding see header links vars-count vars-present vars-links
 see-user-variables A s l c p n b ms e w = ap (λ (x : List ℕ). box (header-of 8 0 x n true) (c ∷ range (A .references) p (n * 2))) e ∙ ap (λ (x : List ℕ). box (header-of 8 0 b n true) (c ∷ x)) w
+
+pub see-bignum : (A : Arena) (low high n : ℕ) (m : Bool) → magnitude low high ≡ n → see A (bignum low high m) ≡ box (header-of 10 n [] 0 m) []
+unfolding see header links
+see-bignum A low high n m e = ap (λ (x : ℕ). box (header-of 10 x [] 0 m) []) e
 
 pub see-symbol : (A : Arena) (s l : ℕ) (b : List ℕ) → range (A .bytes) s l ≡ b → see A (symbol s l) ≡ sym b
 unfolding see

@@ -7,7 +7,7 @@ use mathlib.Core.Logic.{_⊎_, inl, inr, _≢_}
 use mathlib.Core.List.{List, [], _∷_, _++_, map, map-append, append-assoc, append-nil}
 use lib.ListN.{length, set, length-set, length-append, length-map, replicate}
 use native.Mathlib.Omega.{arith}
-use Rattle.definition.specs.Node.{Row, nil, bool, fixnum, symbol, hash, object, user, absent}
+use Rattle.definition.specs.Node.{Row, nil, bool, fixnum, symbol, hash, object, user, bignum, absent}
 use Rattle.definition.specs.Arena.{range, compared-among}
 use Rattle.definition.specs.Load.{State, at-set, nodes-set, references-set, bytes-set, symbols-set, objects-set, notes-set, copied-more, compared-more, begin}
 use Rattle.lists.specs.Lists.{At, at-app, at-snoc-inv, at-set-same, at-set-other, at-set-inv, apart, map-set, map-ext, map-at, map-at-inv, len-snoc, at-lt}
@@ -263,6 +263,10 @@ unfolding bytes-start bytes-length list-start list-length vars-start vars-length
 inside-text text-string s a l h = record { bytes-inside = h; list-inside = omega arith }
 inside-text text-float s a l h = record { bytes-inside = h; list-inside = omega arith }
 
+pub inside-bignum : (low high : ℕ) (m : Bool) (s : State) → Inside s (bignum low high m)
+unfolding bytes-start bytes-length list-start list-length
+inside-bignum low high m s = record { bytes-inside = omega arith; list-inside = omega arith }
+
 pub inside-user : (s : State) (a l c : ℕ) → a + l ≤ length (s .bytes) → Inside s (user a l c absent)
 unfolding bytes-start bytes-length list-start list-length vars-start vars-length
 inside-user s a l c h = record { bytes-inside = h; list-inside = omega arith }
@@ -400,6 +404,10 @@ pub above-text : {k n : ℕ} (q : Texted k n) (p a l : ℕ) → Above p (text-ro
 unfolding list-start list-length vars-start vars-length
 above-text text-string p a l = inl refl
 above-text text-float p a l = inl refl
+
+pub above-bignum : (p low high : ℕ) (m : Bool) → Above p (bignum low high m)
+unfolding list-start list-length
+above-bignum p low high m = inl refl
 
 pub above-user : (p a l c : ℕ) → Above p (user a l c absent)
 unfolding list-start list-length vars-start vars-length

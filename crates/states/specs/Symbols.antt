@@ -7,7 +7,7 @@ use mathlib.Core.Option.{Option, none, some}
 use mathlib.Core.List.{List, [], _∷_}
 use native.Mathlib.Omega.{arith}
 use Rattle.definition.specs.Run.{pick}
-use Rattle.definition.specs.Node.{Row, nil, bool, fixnum, symbol, array, hash, object, string, user, float, kind}
+use Rattle.definition.specs.Node.{Row, nil, bool, fixnum, symbol, array, hash, object, string, user, float, bignum, kind}
 use Rattle.definition.specs.Arena.{Arena, range, name-of, named, find-symbol}
 use Rattle.definition.specs.Load.{State}
 use Rattle.lists.specs.Lists.{At, NotIn, apart}
@@ -29,6 +29,7 @@ named-seen s b (object a n c) e = apart (cc)
 named-seen s b (string a l v) e = apart (cc)
 named-seen s b (user a l c v) e = apart (cc)
 named-seen s b (float a l) e = apart (cc)
+named-seen s b (bignum low high m) e = apart (cc)
 
 -- a row that is seen as a symbol
 pub symbol-of : (A : Arena) (b : List ℕ) (r : Row) → see A r ≡ sym b → (a : ℕ) × (l : ℕ) × (r ≡ symbol a l) × (range (A .bytes) a l ≡ b)
@@ -44,6 +45,7 @@ symbol-of A b (object a n c) e = apart (cc)
 symbol-of A b (string a l v) e = apart (cc)
 symbol-of A b (user a l c v) e = apart (cc)
 symbol-of A b (float a l) e = apart (cc)
+symbol-of A b (bignum low high m) e = apart (cc)
 
 named-symbol : (bytes b : List ℕ) (a l : ℕ) → range bytes a l ≡ b → named bytes b (symbol a l) ≡ true
 unfolding named kind name-of

@@ -13,7 +13,7 @@ use Rattle.definition.specs.declared.Refusal.{Refusal}
 use Rattle.definition.specs.declared.Refusal.the-variants.{ShortInput}
 use Rattle.definition.specs.Run.{Outcome, ok, refused, pure, refuse, next, _>>=_, look, pick}
 use Rattle.definition.specs.Integer.{Form, value, data-bytes, form}
-use Rattle.definition.specs.Node.{Row, nil, bool, fixnum, symbol, array, hash, object, string, user, float}
+use Rattle.definition.specs.Node.{Row, nil, bool, fixnum, symbol, array, hash, object, string, user, float, bignum}
 use Rattle.definition.specs.Arena.{range, find-symbol}
 use Rattle.definition.specs.Load as L
 use Rattle.definition.specs.Load.{State, Room, Reader, Head, at-set, noted, takes-variables, begin}
@@ -180,6 +180,7 @@ module _ {n : ℕ} where
   set-variables h start k (string s l v) = fill _ _
   set-variables h start k (user s l c v) = fill _ _
   set-variables h start k (float s l) = stop _
+  set-variables h start k (bignum low high m) = stop _
 
 -- ---- the input, and more behind it
 
@@ -235,6 +236,14 @@ module _ (input more : List ℕ) where
   unfolding L.read-count
   read-count = then read-integer λ w. either _ (give w) (stop _)
 
+  read-sign : Reads L.read-sign
+  unfolding L.read-sign
+  read-sign = then read-byte λ b. either _ (give b) (stop _)
+
+  read-unit-count : Reads L.read-unit-count
+  unfolding L.read-unit-count
+  read-unit-count = then read-count λ k. either _ (give k) (stop _)
+
   read-byte-string : Reads L.read-byte-string
   unfolding L.read-byte-string
   read-byte-string = then read-count read-bytes
@@ -267,6 +276,14 @@ module _ (input more : List ℕ) where
     read-user-defined : Reads (λ i. L.read-user-defined i room)
     unfolding L.read-user-defined
     read-user-defined = then read-symbol-like λ c. read-text _
+
+    read-magnitude : (b k : ℕ) → Reads (λ i. L.read-magnitude i room b k)
+    unfolding L.read-magnitude L.add-bignum
+    read-magnitude b k = then (read-bytes (k * 2)) λ bs. either _ (then (note _) λ _. add-object-node room _) (stop _)
+
+    read-bignum : Reads (λ i. L.read-bignum i room)
+    unfolding L.read-bignum
+    read-bignum = then read-sign λ b. then read-unit-count (read-magnitude b)
 
     counted : {A : Type 0} (each : ℕ) {f g : ℕ → ℕ → Reader A} → ((start k : ℕ) → GoesOn n (f start k) (g start k)) → GoesOn n (L.counted input room each f) (L.counted all room each g)
     unfolding L.counted
@@ -336,6 +353,7 @@ module _ (input more : List ℕ) where
       value-of k Head.String = read-text _
       value-of k Head.UserDefined = read-user-defined
       value-of k Head.Float = read-text _
+      value-of k Head.Bignum = read-bignum
       value-of k Head.Unknown = stop _
 
     -- SHORT-INPUT, or TOO-DEEP with no level left

@@ -2,6 +2,7 @@
 use Prim.Native.Nat.{ℕ, zero, suc, _+_, _-_, _*_, _/_, _≤_, _<_, zero-le}
 use native.Mathlib.Omega.{arith}
 use native.Mathlib.Nat.{add-zero}
+use mathlib.Core.Bool.{Bool, true, false}
 use mathlib.Core.List.{List, [], _∷_}
 use mathlib.Core.Option.{Option, none, some}
 use mathlib.Core.Path.{_≡_, refl, sym, ap, _∙_, subst}
@@ -9,7 +10,7 @@ use lib.ListN.{length, getD, take, drop, replicate}
 use lib.Seq.{sets}
 use borrow.Author.Tests.{lt-ltb, le-ltb, le-leb, lt-leb}
 use Rattle.definition.specs.Run.{Run, Outcome, ok, refused, pure, next, _>>=_, look, pick}
-use Rattle.definition.specs.Node.{Row, words}
+use Rattle.definition.specs.Node.{Row, bool, bignum, words}
 use Rattle.definition.specs.Arena.{Tables, arena, find-symbol, zeroed}
 use Rattle.definition.specs.Build.{Lent, lent, BuildCall, build-done, build-call, number-done, words-done, name-done, new-call, new-if, wrong, check, check-handles, check-names, check-space, handle-checked, words-at, get-words, get-kind, get-name, get-root, set-root, exchange-root, append, add, held, add-symbol, known-or-new}
 use Rattle.definition.specs.declared.Answer.{Answer}
@@ -176,6 +177,12 @@ unfolding build-done append
 append-done nodes references bytes c bs ms row ws e =
     λ i. built (record { answer = Accepted; handle = c .nodes; counts = record { nodes = c .nodes + 1; references = c .references + length ms; bytes = c .bytes + length bs; root = c .root } })
     (sets nodes (c .nodes * 7) (sym e i)) (sets references (c .references) ms) (sets bytes (c .bytes) bs)
+
+-- a Bignum's sign is a bool's word
+pub signed : (low high : ℕ) (minus : Bool) {w : ℕ} → words (bool minus) ≡ 1 ∷ w ∷ 0 ∷ 0 ∷ 0 ∷ 0 ∷ 0 ∷ [] → words (bignum low high minus) ≡ 10 ∷ low ∷ high ∷ 0 ∷ w ∷ 0 ∷ 0 ∷ []
+unfolding words
+signed low high true e = ap (λ (ws : List ℕ). 10 ∷ low ∷ high ∷ 0 ∷ getD ws 1 0 ∷ 0 ∷ 0 ∷ []) e
+signed low high false e = ap (λ (ws : List ℕ). 10 ∷ low ∷ high ∷ 0 ∷ getD ws 1 0 ∷ 0 ∷ 0 ∷ []) e
 
 -- ---- new
 

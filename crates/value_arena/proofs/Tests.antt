@@ -1,4 +1,4 @@
--- What each test of a call says: 1, 2, 13 and 14.
+-- What each test of a call says: 1, 2, 13, 14 and 16.
 use Prim.Native.Nat.{ℕ, zero, suc, _+_, _-_, _*_, _≤_, _<_}
 use native.Mathlib.Omega.{arith}
 use native.Mathlib.Numerals.{add-one}
@@ -12,11 +12,12 @@ use native.Mathlib.Decide.{decLt}
 use borrow.Author.Tests.{lt-ltb, le-ltb}
 use Rattle.definition.specs.Run.{Outcome, ok, refused, pure, refuse, next, _>>=_, look, pick}
 use Rattle.definition.specs.Node.{rows}
+use Rattle.definition.specs.Magnitude.{fits}
 use Rattle.definition.specs.Arena.{arena, firsts, is-name, lowest, allowed, sound, fault}
-use Rattle.definition.specs.Build.{Lent, held, wrong, check, check-handles, check-names, default-handle}
+use Rattle.definition.specs.Build.{Lent, held, wrong, check, check-handles, check-names, check-magnitude, default-handle}
 use Rattle.definition.specs.declared.Fault.{Fault}
 use Rattle.definition.specs.declared.Refusal.{Refusal}
-use Rattle.definition.specs.declared.Refusal.the-variants.{BadTables, BadArena, BadHandle, WrongKind}
+use Rattle.definition.specs.declared.Refusal.the-variants.{BadTables, BadArena, BadHandle, WrongKind, TooBig}
 
 -- a refusal is no acceptance
 abbrev Ok : {S A : Type 0} → Outcome S A → Type 0
@@ -85,6 +86,17 @@ module _ (L : Lent) (h : ℕ) (hs : List ℕ) where
 pub no-names : (L : Lent) → check-names [] L ≡ ok tt L
 unfolding check-names pure
 no-names L = refl
+
+-- ---- 16
+
+module _ (L : Lent) (m : ℕ) where
+  pub magnitude-on : m < 9223372036854775808 → check-magnitude m L ≡ ok tt L
+  unfolding check-magnitude fits pick pure
+  magnitude-on l = rw (lt-ltb m 9223372036854775808 l) refl
+
+  pub magnitude-not : 9223372036854775808 ≤ m → check-magnitude m L ≡ refused (TooBig 4)
+  unfolding check-magnitude fits pick refuse
+  magnitude-not l = rw (le-ltb m 9223372036854775808 l) refl
 
 -- ---- lists of handles and of names
 

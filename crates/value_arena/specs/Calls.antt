@@ -51,6 +51,10 @@ made r n e b = record { answer = r; tables = tables n e b }
 abbrev pub refusal : Refusal → Counts → Created
 refusal q c = record { answer = Refused q; handle = 0; counts = c }
 
+-- the arena tested, then a value by m; then its row added, with neither bytes nor a list
+unfoldable pub plain : Run Lent (Unit {0}) → Row → Run Lent ℕ
+plain m row = check [] >>= λ _. m >>= λ _. add [] [] λ b r. row
+
 -- a byte string tested, then added with its row
 unfoldable pub text : List ℕ → (ℕ → ℕ → Row) → Run Lent ℕ
 text bs row = check (byte-slice bs ∷ []) >>= λ _. add bs [] row

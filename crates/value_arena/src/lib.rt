@@ -6,8 +6,10 @@ use arena_check::is_name_at;
 use arena_check::size;
 use arena_check::too_long;
 use arena_check::wrong_table;
+use bignum::magnitude_of;
 use definition::Answer;
 use definition::Begun;
+use definition::Bignum;
 use definition::Counts;
 use definition::Created;
 use definition::Name;
@@ -25,12 +27,13 @@ ghost use mathlib.Core.Bool.{Bool, true, false};
 ghost use mathlib.Core.List.{List, [], _∷_};
 ghost use Prim.Native.Nat.{ℕ, _+_, _-_, _*_, _/_, _<_, _≤_};
 ghost use lib.ListN.{length, take, drop};
+ghost use Rattle.definition.specs.Run.{Run};
 ghost use Rattle.definition.specs.Node.{width, Row, bool, words, rows, equal};
 ghost use Rattle.definition.specs.Arena.{Arena, node, named, firsts, lowest, find-symbol};
-ghost use Rattle.definition.specs.Build.{Lent, lent, build-call, number-done, words-done, name-done, new-call, check-handles, check-names, get-words, get-kind, get-name, get-root, exchange-root, bits, create-nil, create-bool, create-fixnum, create-new-symbol, create-symbol, create-array, create-hash, create-object, create-string, create-user-defined, create-float};
+ghost use Rattle.definition.specs.Build.{Lent, lent, build-call, number-done, words-done, name-done, new-call, check-handles, check-names, get-words, get-kind, get-name, get-root, exchange-root, bits, create-nil, create-bool, create-fixnum, create-new-symbol, create-symbol, create-array, create-hash, create-object, create-string, create-user-defined, create-float, create-bignum};
 ghost use Rattle.definition.specs.Build as B;
 ghost use Rattle.arena_check.specs.Held.{tables};
-ghost use Rattle.value_arena.specs.Calls.{Says, FitsIf, Below, built, made, refusal, text, entries, found, SymbolsIn};
+ghost use Rattle.value_arena.specs.Calls.{Says, FitsIf, Below, built, made, refusal, plain, text, entries, found, SymbolsIn};
 
 // ---- what is tested
 
@@ -104,6 +107,17 @@ fn check_pair_names(nodes: &[u32], count: usize, pairs: &[u32]) -> Answer
         }
     }
     Answer::Accepted
+}
+
+// 16 for a magnitude that is too great.
+fn check_magnitude(m: u64) -> Answer
+    ensures { λ r. ⌜ ((L : Lent) → Says r (B.check-magnitude m) L) ⌝ }
+{
+    if m < Bignum::TOO_BIG {
+        Answer::Accepted
+    } else {
+        Answer::Refused(Refusal::TooBig(Bignum::UNITS as u32))
+    }
 }
 
 // 1, 2, then the handle.
@@ -285,24 +299,24 @@ pub fn new(nodes: &mut [u32], references: &mut [u32], bytes: &mut [u8]) -> Begun
     }
 }
 
-// A node of kind k with word 1, and neither bytes nor a list.
-fn add_plain(nodes: &mut [u32], counts: Counts, k: u32, a: u32) -> Created
+// A node of kind k with words 1, 2 and 4, and neither bytes nor a list.
+fn add_plain(nodes: &mut [u32], counts: Counts, k: u32, a: u32, b: u32, n: u32) -> Created
     requires { ⌜ (counts .nodes * width ≤ length (now nodes)) × (length (now nodes) ≤ 2147483647) ⌝ }
-    ensures { λ r. ⌜ ((re by : List ℕ) (row : Row) → words row ≡ k ∷ a ∷ 0 ∷ 0 ∷ 0 ∷ 0 ∷ 0 ∷ [] → built r (now (nodes .exit)) re by ≡ build-call (B.add [] [] (λ b l. row)) (lent (now (nodes .entry)) re by counts)) ⌝ }
+    ensures { λ r. ⌜ ((re by : List ℕ) (row : Row) → words row ≡ k ∷ a ∷ b ∷ 0 ∷ n ∷ 0 ∷ 0 ∷ [] → built r (now (nodes .exit)) re by ≡ build-call (B.add [] [] (λ b l. row)) (lent (now (nodes .entry)) re by counts)) ⌝ }
 {
     let at = counts.nodes;
-    let r = counts.references;
-    let b = counts.bytes;
+    let references = counts.references;
+    let bytes = counts.bytes;
     let root = counts.root;
     if at < nodes.len() / Node::WIDTH {
-        put_node(nodes, at * Node::WIDTH, k, a, 0, 0, 0, 0, 0);
+        put_node(nodes, at * Node::WIDTH, k, a, b, 0, n, 0, 0);
         Created {
             answer: Answer::Accepted,
             handle: at as u32,
             counts: Counts {
                 nodes: at + 1,
-                references: r,
-                bytes: b,
+                references: references,
+                bytes: bytes,
                 root: root,
             },
         }
@@ -538,15 +552,45 @@ fn check_object_names(nodes: &[u32], count: usize, name: u32, pairs: &[u32]) -> 
     }
 }
 
-// ---- creators: 1, 2, 13, 14, then 12
+// ---- creators: 1, 2, 13, 14, 16, then 12
+
+// A node of kind k with words 1, 2 and 4 alone: 1, 2, what a test of the value answered, then 12.
+fn create_plain(
+    nodes: &mut [u32],
+    references: &[u32],
+    bytes: &[u8],
+    counts: Counts,
+    test: Answer,
+    k: u32,
+    a: u32,
+    b: u32,
+    n: u32,
+) -> Created
+    ensures { λ r. ⌜ ((m : Run Lent (Unit {0})) (row : Row) → Says test m (lent (now (nodes .entry)) (now (references .entry)) (now (bytes .entry)) counts) → words row ≡ k ∷ a ∷ b ∷ 0 ∷ n ∷ 0 ∷ 0 ∷ [] → built r (now (nodes .exit)) (now (references .entry)) (now (bytes .entry)) ≡ build-call (plain m row) (lent (now (nodes .entry)) (now (references .entry)) (now (bytes .entry)) counts)) ⌝ }
+{
+    match begin(nodes, &references[..], &bytes[..], counts, 0) {
+        Answer::Accepted => match test {
+            Answer::Accepted => add_plain(nodes, counts, k, a, b, n),
+            Answer::Refused(q) => refused(q, counts),
+        },
+        Answer::Refused(q) => refused(q, counts),
+    }
+}
 
 pub fn create_nil(nodes: &mut [u32], references: &[u32], bytes: &[u8], counts: Counts) -> Created
     ensures { λ r. ⌜ built r (now (nodes .exit)) (now (references .entry)) (now (bytes .entry)) ≡ build-call create-nil (lent (now (nodes .entry)) (now (references .entry)) (now (bytes .entry)) counts) ⌝ }
 {
-    match begin(nodes, &references[..], &bytes[..], counts, 0) {
-        Answer::Accepted => add_plain(nodes, counts, Node::NIL, 0),
-        Answer::Refused(q) => refused(q, counts),
-    }
+    create_plain(
+        nodes,
+        &references[..],
+        &bytes[..],
+        counts,
+        Answer::Accepted,
+        Node::NIL,
+        0,
+        0,
+        0,
+    )
 }
 
 pub fn create_bool(
@@ -558,11 +602,17 @@ pub fn create_bool(
 ) -> Created
     ensures { λ r. ⌜ built r (now (nodes .exit)) (now (references .entry)) (now (bytes .entry)) ≡ build-call (create-bool value) (lent (now (nodes .entry)) (now (references .entry)) (now (bytes .entry)) counts) ⌝ }
 {
-    let word = word_of(value);
-    match begin(nodes, &references[..], &bytes[..], counts, 0) {
-        Answer::Accepted => add_plain(nodes, counts, Node::BOOL, word),
-        Answer::Refused(q) => refused(q, counts),
-    }
+    create_plain(
+        nodes,
+        &references[..],
+        &bytes[..],
+        counts,
+        Answer::Accepted,
+        Node::BOOL,
+        word_of(value),
+        0,
+        0,
+    )
 }
 
 pub fn create_fixnum(
@@ -574,11 +624,43 @@ pub fn create_fixnum(
 ) -> Created
     ensures { λ r. ⌜ built r (now (nodes .exit)) (now (references .entry)) (now (bytes .entry)) ≡ build-call (create-fixnum value) (lent (now (nodes .entry)) (now (references .entry)) (now (bytes .entry)) counts) ⌝ }
 {
-    let word = bits_of(value);
-    match begin(nodes, &references[..], &bytes[..], counts, 0) {
-        Answer::Accepted => add_plain(nodes, counts, Node::FIXNUM, word),
-        Answer::Refused(q) => refused(q, counts),
-    }
+    create_plain(
+        nodes,
+        &references[..],
+        &bytes[..],
+        counts,
+        Answer::Accepted,
+        Node::FIXNUM,
+        bits_of(value),
+        0,
+        0,
+    )
+}
+
+// A minus or not, and the magnitude's low and high word; zero is plus.
+pub fn create_bignum(
+    nodes: &mut [u32],
+    references: &[u32],
+    bytes: &[u8],
+    counts: Counts,
+    minus: bool,
+    low: u32,
+    high: u32,
+) -> Created
+    ensures { λ r. ⌜ built r (now (nodes .exit)) (now (references .entry)) (now (bytes .entry)) ≡ build-call (create-bignum minus low high) (lent (now (nodes .entry)) (now (references .entry)) (now (bytes .entry)) counts) ⌝ }
+{
+    let m = magnitude_of(low, high);
+    create_plain(
+        nodes,
+        &references[..],
+        &bytes[..],
+        counts,
+        check_magnitude(m),
+        Node::BIGNUM,
+        low,
+        high,
+        word_of(minus & (m != 0)),
+    )
 }
 
 // A byte string as a node of kind k, with words 1 and 2 alone: 1, 2, then 12.

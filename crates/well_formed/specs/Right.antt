@@ -2,16 +2,17 @@
 use Prim.Native.Nat.{ℕ, zero, suc, _+_, _*_, _/_, _≤_, _<_}
 use mathlib.Core.Path.{_≡_, refl, ap}
 use mathlib.Core.Path.{sym as psym, _∙_}
-use mathlib.Core.Bool.{Bool, true, false, _&&_}
+use mathlib.Core.Bool.{Bool, true, false, not, _&&_}
 use mathlib.Core.Option.{none, some}
 use mathlib.Core.List.{List, [], _∷_}
-use lib.Dec.{ltb, leb, T}
+use lib.Dec.{ltb, leb, eqb, T}
 use lib.ListN.{length, getD}
 use lib.Seq.{length-take-le}
 use native.Mathlib.Omega.{arith}
-use borrow.Author.Tests.{eqb-true, leb-true, ltb-true}
-use Rattle.definition.specs.Node.{Row, Vars, nil, bool, fixnum, symbol, array, hash, object, string, user, float, absent, present, width, kind, row, rows, is-row}
-use Rattle.definition.specs.Arena.{Tables, Arena, arena, node, range, firsts, all-below, is-name, all-names, bytes-right, list-right, pairs-right, vars-right, row-right, node-right, counts-fit, fault}
+use borrow.Author.Tests.{eqb-true, eq-eqb, leb-true, ltb-true}
+use Rattle.definition.specs.Node.{Row, Vars, nil, bool, fixnum, symbol, array, hash, object, string, user, float, bignum, absent, present, width, kind, row, rows, is-row}
+use Rattle.definition.specs.Magnitude.{fits, magnitude}
+use Rattle.definition.specs.Arena.{Tables, Arena, arena, node, range, firsts, all-below, is-name, all-names, bytes-right, list-right, pairs-right, vars-right, number-right, row-right, node-right, counts-fit, fault}
 use Rattle.definition.specs.Graph.{links, vars-links, default-link}
 use Rattle.definition.specs.declared.Counts.{Counts}
 use Rattle.lists.specs.Joined.{and-left, and-right, pick-true}
@@ -49,6 +50,10 @@ abbrev pub VarsRight : Arena → Vars → Type 0
 VarsRight A absent = Unit {0}
 VarsRight A (present s n) = PairsIn A s n
 
+-- a Bignum's magnitude fits, and zero is plus
+abbrev pub NumberRight : ℕ → Bool → Type 0
+NumberRight m minus = (fits m ≡ true) × (m ≡ 0 → minus ≡ false)
+
 abbrev pub RowRight : Arena → Row → Type 0
 RowRight A nil = Unit {0}
 RowRight A (bool b) = Unit {0}
@@ -60,6 +65,7 @@ RowRight A (object s n c) = Name A c × PairsIn A s n
 RowRight A (string s l v) = BytesIn A s l × VarsRight A v
 RowRight A (user s l c v) = BytesIn A s l × Name A c × VarsRight A v
 RowRight A (float s l) = BytesIn A s l
+RowRight A (bignum low high m) = NumberRight (magnitude low high) m
 
 -- a well-formed arena, said without tables
 pub record Right (A : Arena) : Type 0 where
@@ -93,6 +99,7 @@ module _ (A : Arena) where
       one (string s l v) e = absurd (omega arith)
       one (user s l c v) e = absurd (omega arith)
       one (float s l) e = absurd (omega arith)
+      one (bignum low high m) e = absurd (omega arith)
 
       go : (l : List Row) (k : ℕ) → kind (getD l k nil) ≡ 3 → (s : ℕ) × (n : ℕ) × At l k (symbol s n)
       go [] k e = absurd (omega arith)
@@ -125,6 +132,14 @@ module _ (A : Arena) where
   vars-of absent e = tt
   vars-of (present s n) e = pairs-of s n e
 
+  number-of : (m : ℕ) (minus : Bool) → number-right m minus ≡ true → NumberRight m minus
+  unfolding number-right
+  number-of m minus e = (and-left (fits m) (not (minus && eqb m 0)) e, λ z. plus minus (eq-eqb m 0 z) (and-right (fits m) (not (minus && eqb m 0)) e))
+    where
+      plus : (t : Bool) → eqb m 0 ≡ true → not (t && eqb m 0) ≡ true → t ≡ false
+      plus true q e = apart (cc)
+      plus false q e = refl
+
   pub right-of : (r : Row) → row-right A r ≡ true → RowRight A r
   unfolding row-right bytes-right
   right-of nil e = tt
@@ -150,6 +165,7 @@ module _ (A : Arena) where
       let h = and-left (p && q) (vars-right A v) e in
       (leb-true _ _ (and-left p q h), name-of-test c (and-right p q h), vars-of v (and-right (p && q) (vars-right A v) e))
   right-of (float s l) e = leb-true _ _ e
+  right-of (bignum low high m) e = number-of (magnitude low high) m e
 
 -- what the counts of a well-formed arena say
 pub record Fit (T : Tables) (c : Counts) : Type 0 where
@@ -230,6 +246,7 @@ module _ (A : Arena) where
   links-below (string s l v) h k u e = vars-below v (h .1) k u e
   links-below (user s l c v) h k u e = below-first _ c (vars-links A v) (name-below A c (h .1)) (vars-below v (h .2)) k u e
   links-below (float s l) h k v e = apart (cc)
+  links-below (bignum low high m) h k v e = apart (cc)
 
   -- every link of a well-formed arena's node leads to a node
   pub node-links-below : Right A → (v : ℕ) → v < length (A .nodes) → Below (length (A .nodes)) (links A (node A v))

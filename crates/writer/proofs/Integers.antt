@@ -1,16 +1,17 @@
--- The bytes of an integer: storing its data bytes, and how many bytes it takes.
-use Prim.Native.Nat.{ℕ, zero, suc, _+_, _-_, _/_, _%_, _≤_, _<_}
+-- The bytes of an integer: storing its data bytes, and how many bytes it takes; the bytes of a Bignum's number.
+use Prim.Native.Nat.{ℕ, zero, suc, _+_, _-_, _*_, _/_, _%_, _≤_, _<_}
 use native.Mathlib.Omega.{arith}
 use native.Mathlib.Numerals.{add-one}
 use native.Mathlib.Nat.{add-zero, sub-zero}
 use mathlib.Core.Bool.{Bool, true, false}
 use mathlib.Core.Path.{_≡_, refl, sym, ap, _∙_}
-use mathlib.Core.List.{List, [], _∷_}
+use mathlib.Core.List.{List, [], _∷_, _++_}
 use lib.Dec.{leb, ltb}
 use lib.ListN.{length, set}
 use lib.Seq.{sets}
 use borrow.Author.Tests.{leb-true, leb-false, ltb-true, ltb-false}
 use Rattle.definition.specs.Integer.{integer-bytes, low-bytes, fewest}
+use Rattle.definition.specs.Magnitude.{fewest-units, sign-byte, unit-bytes, bignum-bytes}
 use Rattle.lists.specs.Words.{length-low}
 pub use Rattle.lists.specs.Integers.{fewest-most, fewest-some, bytes-zero, bytes-small, bytes-last, large-as, negative-as}
 
@@ -70,3 +71,8 @@ stored-after out at k bs e = e ∙ ap (λ (i : ℕ). sets (set out at k) i bs) (
 -- one byte stored where that is the integer
 pub stored-as : {x : ℕ} {out' : List ℕ} (w : ℕ) (out : List ℕ) (at : ℕ) → integer-bytes w ≡ x ∷ [] → out' ≡ set out at x → (out' ≡ sets out at (integer-bytes w)) × (1 ≡ length (integer-bytes w))
 stored-as w out at e p = (p ∙ ap (sets out at) (sym e), sym (ap length e))
+
+-- a Bignum's number: its sign and the count, then the units
+pub number-parts : (minus : Bool) {m x n w k : ℕ} → x ≡ m → n ≡ fewest-units x → w ≡ n → k ≡ sign-byte minus → bignum-bytes minus m ≡ (k ∷ integer-bytes n) ++ low-bytes (w * 2) x
+unfolding bignum-bytes unit-bytes
+number-parts minus p q r s = rw (← p, r, q, s) refl

@@ -1,5 +1,8 @@
-// Dump's writers of bytes, integers, symbols and scalars, and the numbers that writers answer.
+// Dump's writers of bytes, integers, Bignums' numbers, symbols and scalars, and the numbers that writers answer.
 use arena_check::size;
+use bignum::fewest_units;
+use bignum::magnitude_of;
+use definition::Bignum;
 use definition::Node;
 use definition::ValueKind;
 use store::copy_bytes;
@@ -9,6 +12,7 @@ ghost use Prim.Native.Nat.{ℕ, suc, _+_, _-_, _*_, _<_, _≤_};
 ghost use lib.ListN.{length, getD, take, drop};
 ghost use lib.Seq.{sets};
 ghost use Rattle.definition.specs.Integer.{integer-bytes, low-bytes, fewest};
+ghost use Rattle.definition.specs.Magnitude.{magnitude, sign-byte, bignum-bytes};
 ghost use Rattle.definition.specs.Node.{width, kind};
 ghost use Rattle.definition.specs.Arena.{Arena, node, range};
 ghost use Rattle.definition.specs.Dump.{Writer, write, write-name, write-elements, write-row, write-value};
@@ -47,7 +51,7 @@ pub fn write_byte(output: &mut [u8], c: &mut [usize; 3], b: u8) -> u32
 }
 
 // The lowest n bytes of v, lowest first, from byte `at` on.
-fn store_low(output: &mut [u8], at: usize, n: usize, v: u32)
+fn store_low(output: &mut [u8], at: usize, n: usize, v: u64)
     requires { ⌜ at + n ≤ length (now output) ⌝ }
     ensures { λ _. ⌜ now (output .exit) ≡ sets (now (output .entry)) at (low-bytes n v) ⌝ }
 {
@@ -91,7 +95,7 @@ fn store_data(output: &mut [u8], at: usize, k: u8, n: usize, v: u32) -> usize
     ensures { λ r. ⌜ r ≡ n + 1 ⌝ }
 {
     output[at] = k;
-    store_low(output, at + 1, n, v);
+    store_low(output, at + 1, n, v as u64);
     n + 1
 }
 
@@ -185,6 +189,42 @@ pub fn write_byte_string(
         }
     }
     FULL
+}
+
+// ---- a Bignum's number
+
+// The lowest n bytes of v.
+fn write_low(output: &mut [u8], c: &mut [usize; 3], n: usize, v: u64) -> u32
+    ensures { λ r. ⌜ ((A : Arena) (room limit : ℕ) (sc : List ℕ) → Meets A room limit (write room (low-bytes n v)) (buffers sc (now (output .entry))) (now (c .entry)) r (buffers sc (now (output .exit))) (now (c .exit))) ⌝ }
+{
+    let at = c[WRITTEN];
+    if n <= output.len() {
+        if at <= output.len() - n {
+            store_low(output, at, n, v);
+            c[WRITTEN] = at + n;
+            return DONE;
+        }
+    }
+    FULL
+}
+
+fn sign_byte(minus: bool) -> u8
+    ensures { λ r. ⌜ r ≡ sign-byte minus ⌝ }
+{
+    if minus { Bignum::MINUS } else { Bignum::PLUS }
+}
+
+// The sign, how many units the magnitude has, and the units.
+pub fn write_bignum(output: &mut [u8], c: &mut [usize; 3], minus: bool, low: u32, high: u32) -> u32
+    ensures { λ r. ⌜ ((A : Arena) (room limit : ℕ) (sc : List ℕ) → Meets A room limit (write room (bignum-bytes minus (magnitude low high))) (buffers sc (now (output .entry))) (now (c .entry)) r (buffers sc (now (output .exit))) (now (c .exit))) ⌝ }
+{
+    let m = magnitude_of(low, high);
+    let n = fewest_units(m);
+    let w = write_tagged(output, c, sign_byte(minus), n);
+    if w != DONE {
+        return w;
+    }
+    write_low(output, c, size(n) * 2, m)
 }
 
 // ---- symbols and scalars

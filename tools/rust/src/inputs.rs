@@ -105,6 +105,40 @@ pub fn setpoints(size: usize, kind: u8) -> Vec<u8> {
     })
 }
 
+// A Bignum of three units, or as many bytes of another kind of byte string.
+fn counter(kind: u8, n: u64, out: &mut Vec<u8>) {
+    match kind {
+        b'l' => out.extend(b"l+\x08"),
+        _ => out.extend([kind, 5 + 7, b'+']),
+    }
+    out.extend(&n.to_le_bytes()[..6]);
+}
+
+/// Counters: recipes with two Bignums, a link to the second, and an integer; with another kind of byte string in their place
+/// where that is given.
+pub fn counters(size: usize, kind: u8) -> Vec<u8> {
+    list(size, |count, members| {
+        members.push(b'{');
+        integer(4, members);
+        for (i, name) in ["total", "sand", "last", "runs"].iter().enumerate() {
+            named(name, i, count, members);
+            match i {
+                0 => counter(kind, 8_437_275_000 + count as u64 * 1001, members),
+                1 => counter(kind, 5_231_110_500 + count as u64 * 617, members),
+                2 => {
+                    // the array has number 0, each recipe takes three
+                    members.push(b'@');
+                    integer(3 * count + 3, members);
+                }
+                _ => {
+                    members.push(b'i');
+                    integer((count * 37) % 70000, members);
+                }
+            }
+        }
+    })
+}
+
 /// Objects: an array of objects of one class with three variables, one of them an array.
 pub fn objects(size: usize) -> Vec<u8> {
     list(size, |count, members| {

@@ -1,4 +1,5 @@
 // Our load and dump, over tables of their own, for the programs that run them beside the Rust crate.
+pub mod bignum;
 pub mod inputs;
 pub mod measure;
 pub mod random;

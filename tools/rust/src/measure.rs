@@ -93,6 +93,12 @@ impl<'a> Walk<'a> {
             b'i' | b';' | b'@' => self.integer().map(|_| ()),
             b':' => self.symbol(),
             b'"' | b'f' => self.text(),
+            b'l' => {
+                self.byte()?;
+                let units = self.integer()?;
+                self.at += 2 * units as usize;
+                (self.at <= self.input.len()).then_some(())
+            }
             b'u' => {
                 self.name()?;
                 self.text()

@@ -1,10 +1,14 @@
 // Random inputs, the same in every run: values from a grammar, deep chains, and damage.
 
 /// The kind bytes and bytes that are integers of interest.
-pub const ALPHABET: &[u8] = b"0TFi:;@I[{}o\"uf\x00\x01\x05\x06\x07\x08\xFA\xFB\xFF";
+pub const ALPHABET: &[u8] = b"0TFi:;@I[{}o\"ufl+-\x00\x01\x05\x06\x07\x08\xFA\xFB\xFF";
 
 const NAMES: &[&[u8]] = &[b"a", b"b", b"ab", b"E", b"@x", b"", b"encoding", &[b'n'; 130]];
 const FLOATS: &[&[u8]] = &[b"1.25", b"0.35", b"1", b"1e2", b"-0", b"inf", b"nan", b""];
+const MAGNITUDES: &[u64] = &[
+    0, 1, 0xFF, 0x100, 0xFFFF, 0x1_0000, 0x3FFF_FFFF, 0x4000_0000, 0xFFFF_FFFF, 0x1_0000_0000, 0xFFFF_FFFF_FFFF, 0x1_0000_0000_0000,
+    i64::MAX as u64, 1 << 63,
+];
 const NUMBERS: &[i32] = &[
     0, 1, 2, -1, 121, 122, 123, 124, -122, -123, -124, -125, 127, 128, -128, -129, 255, 256, 257, -255, -256, -257, 65535, 65536,
     -65536, -65537, 16777215, 16777216, -16777216, -16777217, 1073741823, 1073741824, -1073741825, i32::MAX, i32::MIN,
@@ -60,7 +64,8 @@ struct Maker<'a> {
     symbols: usize,
     /// for each object, whether it takes variables
     objects: Vec<bool>,
-    floats: bool,
+    /// the kinds besides the Rust's
+    later: &'static [u8],
 }
 
 impl Maker<'_> {
@@ -135,6 +140,25 @@ impl Maker<'_> {
         self.objects.push(false);
     }
 
+    // One in five with units that it does not need; seldom a wrong sign or count.
+    fn bignum(&mut self) {
+        self.out.push(b'l');
+        let sign = if self.random.one_in(60) { self.random.next() as u8 } else { self.random.pick(b"+-") };
+        self.out.push(sign);
+        if self.random.one_in(60) {
+            let wrong = self.random.pick(&[-1, 5, 6, i32::MAX, i32::MIN]);
+            self.integer(wrong);
+        } else {
+            let any = self.random.next() >> self.random.below(64);
+            let magnitude = if self.random.one_in(2) { self.random.pick(MAGNITUDES) } else { any };
+            let fewest = (64 - magnitude.leading_zeros() as usize).div_ceil(16);
+            let units = if self.random.one_in(5) { fewest + self.random.below(5 - fewest) } else { fewest };
+            self.integer(units as i32);
+            self.out.extend(&magnitude.to_le_bytes()[..2 * units]);
+        }
+        self.objects.push(false);
+    }
+
     fn user_defined(&mut self) {
         self.out.push(b'u');
         self.name();
@@ -185,8 +209,8 @@ impl Maker<'_> {
     }
 
     fn value(&mut self, depth: usize) {
-        if self.floats && self.random.one_in(6) {
-            return self.float();
+        if !self.later.is_empty() && self.random.one_in(6) {
+            return if self.random.pick(self.later) == b'f' { self.float() } else { self.bignum() };
         }
         let leaf = depth == 0 || self.out.len() > 600;
         let kind = self.random.pick(if leaf { b"0TFi:;@\"u" } else { b"0Fi:@\"uII[[[{{}}oo" });
@@ -263,9 +287,9 @@ impl Maker<'_> {
     }
 }
 
-/// A value from the grammar, with or without Floats; one in 32 is deep.
-pub fn value(random: &mut Random, floats: bool) -> Vec<u8> {
-    let mut maker = Maker { random, out: vec![4, 8], symbols: 0, objects: vec![], floats };
+/// A value from the grammar, with Floats (`f`) and Bignums (`l`) where they are given as later kinds; one in 32 is deep.
+pub fn value(random: &mut Random, later: &'static [u8]) -> Vec<u8> {
+    let mut maker = Maker { random, out: vec![4, 8], symbols: 0, objects: vec![], later };
     if maker.random.one_in(32) {
         maker.deep();
     } else {

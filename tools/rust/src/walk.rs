@@ -55,6 +55,7 @@ pub fn ours(arena: &Arena, open: &mut Vec<Handle>) -> Met {
                 }
             }
             Ours::Float(float) => met.sum += float.bytes().len() as u64,
+            Ours::Bignum(value) => met.sum = met.sum.wrapping_add(value as u64),
             Ours::UserDefined(user) => {
                 met.sum += user.bytes().len() as u64;
                 open.push(user.name_node().handle());

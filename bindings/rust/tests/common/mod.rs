@@ -202,16 +202,20 @@ pub const LATER: &str = "load";
 
 /// The cases of a file in the corpus's folders, which RUBY_MARSHAL_CORPUS names; none where it is not set.
 ///
-/// A folder's cases are added to those of the folders before it, of which its changed.jsonl replaces some, or removes (`gone`).
+/// A folder's cases are added to those of the folders before it, of which its changed.jsonl replaces some, or removes (`gone`),
+/// and so does the file of its name in tools/changed, with cases of the folders between.
 pub fn corpus(file: &str) -> Vec<Case> {
     let Some(folders) = std::env::var_os("RUBY_MARSHAL_CORPUS") else {
         println!("{file}: RUBY_MARSHAL_CORPUS is not set");
         return Vec::new();
     };
-    let mut all: Vec<Case> = Vec::new();
+    let (mut all, mut names): (Vec<Case>, Vec<String>) = (Vec::new(), Vec::new());
     for folder in std::env::split_paths(&folders) {
-        for changed in cases(&folder.join("changed.jsonl")) {
-            if changed.field("file").text() != file {
+        let name = folder.file_name().expect("a folder's name").to_string_lossy().into_owned();
+        let own = Path::new(env!("CARGO_MANIFEST_DIR")).join(format!("../../tools/changed/{name}.jsonl"));
+        for changed in cases(&folder.join("changed.jsonl")).into_iter().chain(cases(&own)) {
+            let of = changed.field("file").text();
+            if of != file && !names.iter().any(|name| of == format!("{name}/{file}")) {
                 continue;
             }
             let at = all.iter().position(|case| case.id() == changed.id());
@@ -223,6 +227,7 @@ pub fn corpus(file: &str) -> Vec<Case> {
             }
         }
         all.extend(cases(&folder.join(format!("{file}.jsonl"))));
+        names.push(name);
     }
     assert!(!all.is_empty() || file == LATER, "{file}: no cases in {folders:?}");
     all

@@ -2,7 +2,7 @@
 use borrow.Author.Needs.{needs}
 use mathlib.Core.Path.{_∙_}
 use mathlib.Core.Logic.{inl, inr}
-use Rattle.arena_check.proofs.Rows.{of-kind, row-0, row-1, row-1-not, row-text, row-4, row-5, row-6, row-7-absent, row-7-present, row-7-not, row-8-absent, row-8-present, row-not}
+use Rattle.arena_check.proofs.Rows.{of-kind, row-0, row-1, row-1-not, row-text, row-4, row-5, row-6, row-7-absent, row-7-present, row-7-not, row-8-absent, row-8-present, row-10, row-10-not, row-not}
 use Rattle.arena_check.proofs.is_row_of.Statement.{statement}
 use Rattle.arena_check.proofs.is_row_of.Tie as tie
 
@@ -32,6 +32,9 @@ all-zero-requires-8 c κs = search needs
 
 all-zero-requires-9 : tie.Need-all-zero-requires-9
 all-zero-requires-9 c κs = search needs
+
+all-zero-requires-10 : tie.Need-all-zero-requires-10
+all-zero-requires-10 c κs = search needs
 
 returns : tie.Need-returns
 returns c = of-kind _ (c .before .match .keys1) (c .all-zero .ensures ∙ row-0 _ _ _ _ _ _)
@@ -73,9 +76,15 @@ returns-13 : tie.Need-returns-13
 returns-13 c = c .all-zero9 .ensures ∙ row-text _ _ _ _ _ _ (inr (c .before .match .keys9))
 
 returns-14 : tie.Need-returns-14
-returns-14 c =
+returns-14 c = of-kind _ (c .before .before .match .keys10) (c .all-zero10 .ensures ∙ row-10 _ _ _ _ _ _ (c .before .if5 .taken))
+
+returns-15 : tie.Need-returns-15
+returns-15 c = of-kind _ (c .before .match .keys10) (row-10-not _ _ _ _ _ _ (c .if5 .left))
+
+returns-16 : tie.Need-returns-16
+returns-16 c =
     let n = c .match .rest in
-    row-not _ _ _ _ _ _ _ (n .0 .0 .0 .0 .0 .0 .0 .0 .1) (n .0 .0 .0 .0 .0 .0 .0 .1) (c .before .pre) (n .0 .0 .0 .0 .0 .0 .1) (n .0 .0 .0 .0 .0 .1) (n .0 .0 .0 .0 .1) (n .0 .0 .0 .1) (n .0 .0 .1) (n .0 .1) (n .1)
+    row-not _ _ _ _ _ _ _ (n .0 .0 .0 .0 .0 .0 .0 .0 .0 .1) (n .0 .0 .0 .0 .0 .0 .0 .0 .1) (c .before .pre) (n .0 .0 .0 .0 .0 .0 .0 .1) (n .0 .0 .0 .0 .0 .0 .1) (n .0 .0 .0 .0 .0 .1) (n .0 .0 .0 .0 .1) (n .0 .0 .0 .1) (n .0 .0 .1) (n .0 .1) (n .1)
 
 pub is-row-of-spec : {M : Type 1} → statement M
 is-row-of-spec =
@@ -90,6 +99,7 @@ is-row-of-spec =
     all-zero-requires-7
     all-zero-requires-8
     all-zero-requires-9
+    all-zero-requires-10
     returns
     returns-2
     returns-3
@@ -103,4 +113,6 @@ is-row-of-spec =
     returns-11
     returns-12
     returns-13
-    returns-14)
+    returns-14
+    returns-15
+    returns-16)

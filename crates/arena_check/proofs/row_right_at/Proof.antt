@@ -9,7 +9,7 @@ use lib.ListN.{length}
 use Rattle.definition.specs.Node.{vars}
 use Rattle.definition.specs.Arena.{bytes-right, list-right, pairs-right, vars-right, is-name}
 use Rattle.lists.specs.Tables.{length-rows}
-use Rattle.arena_check.proofs.Rights.{right-text, right-4, right-5, right-6, right-7, right-8, right-else, and-in, and-out}
+use Rattle.arena_check.proofs.Rights.{right-text, right-4, right-5, right-6, right-7, right-8, right-10, right-else, and-in, and-out}
 use Rattle.arena_check.proofs.row_right_at.Statement.{statement}
 use Rattle.arena_check.proofs.row_right_at.Tie as tie
 
@@ -57,6 +57,9 @@ vars-right-at-requires-2 c κs = search needs
 
 bytes-right-at-requires-4 : tie.Need-bytes-right-at-requires-4
 bytes-right-at-requires-4 c κs = search needs
+
+number-right-at-requires : tie.Need-number-right-at-requires
+number-right-at-requires c κs = search needs
 
 returns : tie.Need-returns
 returns c =
@@ -136,9 +139,14 @@ returns-12 c =
 
 returns-13 : tie.Need-returns-13
 returns-13 c =
+    let a = c .before .before .before .before .args in
+    λ A H. c .number-right-at .ensures ∙ right-10 A (a .a) (a .b) (a .s) (a .n) (a .c) (a .f) (a .k) (c .before .match .keys8)
+
+returns-14 : tie.Need-returns-14
+returns-14 c =
     let a = c .before .before .before .args in
     let n = c .match .rest in
-    λ A H. right-else A (a .a) (a .b) (a .s) (a .n) (a .c) (a .f) (a .k) (n .0 .0 .0 .0 .0 .0 .1) (n .0 .0 .0 .0 .0 .1) (n .0 .0 .0 .0 .1) (n .0 .0 .0 .1) (n .0 .0 .1) (n .0 .1) (n .1)
+    λ A H. right-else A (a .a) (a .b) (a .s) (a .n) (a .c) (a .f) (a .k) (n .0 .0 .0 .0 .0 .0 .0 .1) (n .0 .0 .0 .0 .0 .0 .1) (n .0 .0 .0 .0 .0 .1) (n .0 .0 .0 .0 .1) (n .0 .0 .0 .1) (n .0 .0 .1) (n .0 .1) (n .1)
 
 pub row-right-at-spec : {M : Type 1} → statement M
 row-right-at-spec =
@@ -159,6 +167,7 @@ row-right-at-spec =
     is-name-at-requires-2
     vars-right-at-requires-2
     bytes-right-at-requires-4
+    number-right-at-requires
     returns
     returns-2
     returns-3
@@ -171,4 +180,5 @@ row-right-at-spec =
     returns-10
     returns-11
     returns-12
-    returns-13)
+    returns-13
+    returns-14)

@@ -1,7 +1,6 @@
 -- The proof of open_list.
-use Rattle.writer.specs.Laws.{lead-first}
-use Rattle.dumper.specs.Laws.{lead-head, head-as, head-after, head-goes, head-keep}
-use Rattle.dumper.proofs.Openings.{list-same}
+use Rattle.definition.specs.Integer.{integer-bytes}
+use Rattle.dumper.proofs.Openings.{opened-stops, opened-then}
 use borrow.Author.Needs.{needs}
 use Rattle.dumper.proofs.open_list.Statement.{statement}
 use Rattle.dumper.proofs.open_list.Tie as tie
@@ -19,7 +18,7 @@ returns : tie.Need-returns
 returns c =
     let a = c .before .before .before .before .before .before .before .before .before .before .before .args in
     let open-object = c .before .before .before .before .before .open-object in
-    λ A room limit o rest. head-as (list-same room (a .v) (a .k) (a .n) rest) (head-keep (c .if1 .taken) (open-object .ensures A room limit o _))
+    λ A room limit o. opened-stops (a .v) (a .k) (integer-bytes (a .n)) (open-object .ensures A room limit o) (c .if1 .taken)
 
 write-fixnum-requires : tie.Need-write-fixnum-requires
 write-fixnum-requires c κs = search needs
@@ -36,7 +35,7 @@ returns-2 c =
     let if1 = c .before .before .before .before .before .if1 in
     let open-object = c .before .before .before .before .before .before .before .before .before .before .open-object in
     let write-fixnum = c .before .before .write-fixnum in
-    λ A room limit o rest. head-as (list-same room (a .v) (a .k) (a .n) rest) (head-after (head-goes (if1 .left) (open-object .ensures A room limit o _)) (lead-head (lead-first rest (write-fixnum .ensures A room limit _))))
+    λ A room limit o. opened-then (a .v) (a .k) (integer-bytes (a .n)) (open-object .ensures A room limit o) (if1 .left) (write-fixnum .ensures A room limit _)
 
 pub open-list-spec : {M : Type 1} → statement M
 open-list-spec =

@@ -4,7 +4,7 @@ use Rattle.definition.specs.Dump.{write-level, write-value}
 use Rattle.writer.specs.Laws.{ready-as}
 use Rattle.dumper.specs.Laws.{lead-head, head-as, head-whole}
 use Rattle.dumper.proofs.Heads.{is-object, array-row, hash-row, low-kind, array-open, hash-open, default-byte, in-array, in-hash}
-use Rattle.dumper.proofs.Bodies.{Here, here, answers-as, text-ready, float-inside, float-first}
+use Rattle.dumper.proofs.Bodies.{Here, here, answers-as, text-ready, float-inside, float-first, bignum-first}
 use borrow.Author.Needs.{needs}
 use Rattle.dumper.proofs.open_value.Statement.{statement}
 use Rattle.dumper.proofs.open_value.Tie as tie
@@ -92,11 +92,19 @@ open-text-requires c κs =
 whole-requires : tie.Need-whole-requires
 whole-requires c κs = search needs
 
-write-scalar-requires : tie.Need-write-scalar-requires
-write-scalar-requires c κs = search needs
+open-bignum-requires : tie.Need-open-bignum-requires
+open-bignum-requires c κs =
+    let s = c .before .before .before .before .before .before .before .before .before .before in
+    ready-as (λ A f. (f .0 .noded, f .1)) (text-ready (place s) 10 (c .before .before .before .match .keys7) (omega arith) (omega arith) (s .pre))
 
 whole-requires-2 : tie.Need-whole-requires-2
 whole-requires-2 c κs = search needs
+
+write-scalar-requires : tie.Need-write-scalar-requires
+write-scalar-requires c κs = search needs
+
+whole-requires-3 : tie.Need-whole-requires-3
+whole-requires-3 c κs = search needs
 
 same-length : tie.Need-same-length
 same-length c = search needs
@@ -190,13 +198,27 @@ same-length-14 c = search needs
 
 returns-7 : tie.Need-returns-7
 returns-7 c =
+    let h = place (c .before .before .before .before .before .before .before .before .before .before .before .before .before .before .before .before) in
+    let kinds = c .before .before .before .before .before .before .before .before .before .match in
+    let open-bignum = c .before .before .before .before .before .open-bignum in
+    let w = c .whole2 .ensures in
+    (λ A room limit l li b. head-whole (w .0 .0) (w .0 .1) (bignum-first h (kinds .keys7) (open-bignum .ensures) A room limit l li b), λ A l b e. absurd (w .1 e))
+
+same-length-15 : tie.Need-same-length-15
+same-length-15 c = search needs
+
+same-length-16 : tie.Need-same-length-16
+same-length-16 c = search needs
+
+returns-8 : tie.Need-returns-8
+returns-8 c =
     let a = c .before .before .before .before .before .before .before .before .before .before .before .before .before .before .before .before .args in
     let r = c .before .before .before .before .before .before .before .before .before .match .rest in
     let write-scalar = c .before .before .before .before .before .write-scalar in
-    let w = c .whole2 .ensures in (
+    let w = c .whole3 .ensures in (
       λ A room limit l li b.
           head-whole (w .0 .0) (w .0 .1)
-          (lead-head (write-scalar .ensures A room limit (write-level limit (a .levels)) (write-value room A limit (a .levels)) l b (low-kind (l .noded) (a .v) b (r .0 .0 .0 .0 .0 .1) (r .0 .0 .0 .0 .1) (r .0 .0 .0 .1) (r .0 .0 .1) (r .0 .1) (r .1)))),
+          (lead-head (write-scalar .ensures A room limit (write-level limit (a .levels)) (write-value room A limit (a .levels)) l b (low-kind (l .noded) (a .v) b (r .0 .0 .0 .0 .0 .0 .1) (r .0 .0 .0 .0 .0 .1) (r .0 .0 .0 .0 .1) (r .0 .0 .0 .1) (r .0 .0 .1) (r .0 .1) (r .1)))),
       λ A l b e. absurd (w .1 e),
     )
 
@@ -226,8 +248,10 @@ open-value-spec =
     open-user-defined-requires
     open-text-requires
     whole-requires
-    write-scalar-requires
+    open-bignum-requires
     whole-requires-2
+    write-scalar-requires
+    whole-requires-3
     same-length
     same-length-2
     returns
@@ -248,4 +272,7 @@ open-value-spec =
     returns-6
     same-length-13
     same-length-14
-    returns-7)
+    returns-7
+    same-length-15
+    same-length-16
+    returns-8)

@@ -65,7 +65,7 @@ is-named-requires : tie.Need-is-named-requires Inv-loop μ-loop
 is-named-requires c κs =
     let p = c .before .before .before .before .before .before .before .before .before .before .pre in
     let H = p .2 .6 in
-    (p .0, p .1, c .before .before .next-like .ensures .0 .2 (c .before .if1 .left), (p .2 .0, p .2 .1, p .2 .2, _, p .2 .3, p .2 .4, entry-symbolic _ H (omega (arith, p .2 .5, c .before .if1 .left)), H))
+    (p .0, p .1, c .before .before .next-like .ensures .0 .2 (c .before .if1 .left) .0, (p .2 .0, p .2 .1, p .2 .2, _, p .2 .3, p .2 .4, entry-symbolic _ H (omega (arith, p .2 .5, c .before .if1 .left)), H))
 
 wide-requires : tie.Need-wide-requires Inv-loop μ-loop
 wide-requires c κs = search needs

@@ -30,7 +30,7 @@ returns c =
 
 returns-2 : tie.Need-returns-2
 returns-2 c =
-    (λ e. c .before .if1 .left, λ room s input re sy ob k name e y G E. untrue (sym e))
+    ((λ e. (c .before .if1 .left, λ f. absurd (f (c .if2 .taken)))), λ room s input re sy ob k name e y G E. untrue (sym e))
 
 add-to : tie.Need-add-to
 add-to c = search needs
@@ -74,7 +74,7 @@ returns-3 c =
 
 returns-4 : tie.Need-returns-4
 returns-4 c =
-    (λ e. c .before .before .before .before .if1 .left, λ room s input re sy ob k name e y G E. untrue (sym e))
+    ((λ e. (c .before .before .before .before .if1 .left, λ f. c .if3 .left)), λ room s input re sy ob k name e y G E. untrue (sym e))
 
 pub is-like-spec : {M : Type 1} → statement M
 is-like-spec =

@@ -5,7 +5,7 @@ use mathlib.Core.Bool.{true, false}
 use mathlib.Core.Path.{refl, ap}
 use Rattle.definition.specs.Run.{pick}
 use Rattle.definition.specs.Node.{nil, bool, words}
-use Rattle.definition.specs.Load.{head, value-of, Nil, True, False, Fixnum, Symbol, SymbolLink, ObjectLink, UserDefined, Unknown}
+use Rattle.definition.specs.Load.{head, value-of, Nil, True, False, Fixnum, Symbol, SymbolLink, ObjectLink, UserDefined, Bignum, Unknown}
 use Rattle.definition.specs.declared.Refusal.the-variants.{InvalidKind}
 use Rattle.reader.specs.Answers.{at-kind}
 use Rattle.loader.proofs.Laws.{refuses}
@@ -42,6 +42,9 @@ read-object-link-requires c κs = search needs
 
 read-user-defined-requires : tie.Need-read-user-defined-requires
 read-user-defined-requires c κs = search needs
+
+read-bignum-requires : tie.Need-read-bignum-requires
+read-bignum-requires c κs = search needs
 
 add-result : tie.Need-add-result
 add-result c = search needs
@@ -168,16 +171,31 @@ returns-9 c =
     let c20 = c14 .before .before .before .before .before .before in
     (λ room limit inner re l. headed inner (c20 .args .k) UserDefined (ap head (c14 .match .keys9)) (c-read-user-defined .ensures .0 room limit _), c-read-user-defined .ensures .1)
 
+same-length-17 : tie.Need-same-length-17
+same-length-17 c = search needs
+
+same-length-18 : tie.Need-same-length-18
+same-length-18 c = search needs
+
 returns-10 : tie.Need-returns-10
-unfolding value-of
+unfolding head pick value-of
 returns-10 c =
+    let c4 = c .before .before .before .before in
+    let c-read-bignum = c4 .read-bignum in
+    let c8 = c4 .before .before .before .before in
+    let c14 = c8 .before .before .before .before .before .before in
+    (λ room limit inner re l. headed inner (c14 .args .k) Bignum (ap head (c8 .match .keys10)) (c-read-bignum .ensures .0 room limit _ _ _), c-read-bignum .ensures .1)
+
+returns-11 : tie.Need-returns-11
+unfolding value-of
+returns-11 c =
     let c6 = c .before .before .before .before .before .before in
     let c-args = c6 .args in
     let r = c .match .rest in (
       λ room limit inner re l.
           headed inner (c-args .k) Unknown
-          (other (c-args .k) l (r .0 .0 .0 .0 .0 .0 .0 .0 .1) (r .0 .0 .0 .0 .0 .0 .0 .1) (r .0 .0 .0 .0 .0 .0 .1) (r .0 .0 .0 .0 .0 .1)
-          (r .0 .0 .0 .0 .1) (r .0 .0 .0 .1) (r .0 .0 .1) (r .0 .1) (r .1))
+          (other (c-args .k) l (r .0 .0 .0 .0 .0 .0 .0 .0 .0 .1) (r .0 .0 .0 .0 .0 .0 .0 .0 .1) (r .0 .0 .0 .0 .0 .0 .0 .1) (r .0 .0 .0 .0 .0 .0 .1)
+          (r .0 .0 .0 .0 .0 .1) (r .0 .0 .0 .0 .1) (r .0 .0 .0 .1) (r .0 .0 .1) (r .0 .1) (r .1))
           (refuses (InvalidKind (c-args .k)) (omega arith) (at-kind limit (c-args .k) (omega arith))),
       λ l. absurd (omega arith),
     )
@@ -196,6 +214,7 @@ read-leaf-spec =
     add-node-requires-3
     read-object-link-requires
     read-user-defined-requires
+    read-bignum-requires
     add-result
     same-length
     returns
@@ -222,4 +241,7 @@ read-leaf-spec =
     same-length-15
     same-length-16
     returns-9
-    returns-10)
+    same-length-17
+    same-length-18
+    returns-10
+    returns-11)

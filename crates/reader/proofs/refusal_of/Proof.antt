@@ -21,6 +21,9 @@ cast-t13 c = search needs
 cast-t15 : tie.Need-cast-t15
 cast-t15 c = search needs
 
+cast-t17 : tie.Need-cast-t17
+cast-t17 c = search needs
+
 returns : tie.Need-returns
 unfolding refusal-at refusal-of pick
 returns c =
@@ -76,9 +79,21 @@ returns-9 c =
     rw e refl
 
 returns-10 : tie.Need-returns-10
+unfolding refusal-at refusal-of pick
 returns-10 c =
+    let e = c .match .keys10 in
+    rw e refl
+
+returns-11 : tie.Need-returns-11
+unfolding refusal-at refusal-of pick
+returns-11 c =
+    let e = c .match .keys11 in
+    rw e refl
+
+returns-12 : tie.Need-returns-12
+returns-12 c =
     let r = c .match .rest in
-    refusal-last _ _ (r .0 .0 .0 .0 .0 .0 .0 .0 .1) (r .0 .0 .0 .0 .0 .0 .0 .1) (r .0 .0 .0 .0 .0 .0 .1) (r .0 .0 .0 .0 .0 .1) (r .0 .0 .0 .0 .1) (r .0 .0 .0 .1) (r .0 .0 .1) (r .0 .1) (r .1)
+    refusal-last _ _ (r .0 .0 .0 .0 .0 .0 .0 .0 .0 .0 .1) (r .0 .0 .0 .0 .0 .0 .0 .0 .0 .1) (r .0 .0 .0 .0 .0 .0 .0 .0 .1) (r .0 .0 .0 .0 .0 .0 .0 .1) (r .0 .0 .0 .0 .0 .0 .1) (r .0 .0 .0 .0 .0 .1) (r .0 .0 .0 .0 .1) (r .0 .0 .0 .1) (r .0 .0 .1) (r .0 .1) (r .1)
 
 pub refusal-of-spec : {M : Type 1} → statement M
 refusal-of-spec =
@@ -89,6 +104,7 @@ refusal-of-spec =
     cast-t11
     cast-t13
     cast-t15
+    cast-t17
     returns
     returns-2
     returns-3
@@ -98,4 +114,6 @@ refusal-of-spec =
     returns-7
     returns-8
     returns-9
-    returns-10)
+    returns-10
+    returns-11
+    returns-12)

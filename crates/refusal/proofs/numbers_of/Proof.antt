@@ -60,11 +60,11 @@ enum-known-q-5 c = search needs
 plain-requires-6 : tie.Need-plain-requires-6
 plain-requires-6 c κs = search needs
 
-sub-t23 : tie.Need-sub-t23
-sub-t23 c = search needs
+sub-t25 : tie.Need-sub-t25
+sub-t25 c = search needs
 
-add-t24 : tie.Need-add-t24
-add-t24 c = search needs
+add-t26 : tie.Need-add-t26
+add-t26 c = search needs
 
 enum-known-q-6 : tie.Need-enum-known-q-6
 enum-known-q-6 c = search needs
@@ -116,6 +116,21 @@ enum-known-q-12 c = search needs
 
 plain-requires-14 : tie.Need-plain-requires-14
 plain-requires-14 c κs = search needs
+
+enum-known-q-13 : tie.Need-enum-known-q-13
+enum-known-q-13 c = search needs
+
+cast-plain-5 : tie.Need-cast-plain-5
+cast-plain-5 c = search needs
+
+plain-requires-15 : tie.Need-plain-requires-15
+plain-requires-15 c κs = search needs
+
+enum-known-q-14 : tie.Need-enum-known-q-14
+enum-known-q-14 c = search needs
+
+plain-requires-16 : tie.Need-plain-requires-16
+plain-requires-16 c κs = search needs
 
 returns : tie.Need-returns
 unfolding numbers signed place pick
@@ -197,6 +212,16 @@ unfolding numbers signed place pick
 returns-16 c =
     ap shown (c .plain14 .ensures) ∙ ap numbers (sym (c .before .before .q12 .given .1))
 
+returns-17 : tie.Need-returns-17
+unfolding numbers signed place pick
+returns-17 c =
+    ap shown (c .plain15 .ensures) ∙ ap numbers (sym (c .before .before .q13 .given .1))
+
+returns-18 : tie.Need-returns-18
+unfolding numbers signed place pick
+returns-18 c =
+    ap shown (c .plain16 .ensures) ∙ ap numbers (sym (c .before .before .q14 .given .1))
+
 pub numbers-of-spec : {M : Type 1} → statement M
 numbers-of-spec =
     tie.close
@@ -218,8 +243,8 @@ numbers-of-spec =
     plain-requires-5
     enum-known-q-5
     plain-requires-6
-    sub-t23
-    add-t24
+    sub-t25
+    add-t26
     enum-known-q-6
     plain-requires-7
     enum-known-q-7
@@ -237,6 +262,11 @@ numbers-of-spec =
     plain-requires-13
     enum-known-q-12
     plain-requires-14
+    enum-known-q-13
+    cast-plain-5
+    plain-requires-15
+    enum-known-q-14
+    plain-requires-16
     returns
     returns-2
     returns-3
@@ -252,4 +282,6 @@ numbers-of-spec =
     returns-13
     returns-14
     returns-15
-    returns-16)
+    returns-16
+    returns-17
+    returns-18)

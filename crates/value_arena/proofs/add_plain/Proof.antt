@@ -12,11 +12,11 @@ mul-put-node c = search needs
 put-node-requires : tie.Need-put-node-requires
 put-node-requires c κs = search needs
 
-cast-t18 : tie.Need-cast-t18
-cast-t18 c = search needs
+cast-t20 : tie.Need-cast-t20
+cast-t20 c = search needs
 
-add-t16 : tie.Need-add-t16
-add-t16 c = search needs
+add-t18 : tie.Need-add-t18
+add-t18 c = search needs
 
 refused-requires : tie.Need-refused-requires
 refused-requires c κs = search needs
@@ -40,8 +40,8 @@ add-plain-spec =
     (tie.spec
     mul-put-node
     put-node-requires
-    cast-t18
-    add-t16
+    cast-t20
+    add-t18
     refused-requires
     same-length
     returns

@@ -7,9 +7,11 @@
 //
 // Allowed, and counted apart: ours refuses with 11 an input of more bytes than the limit has levels (the Rust has no limit),
 // or with 12 counts of more references than the larger table has, where the Rust refuses later. Left out of the comparison,
-// and counted apart: inputs in which load comes to a Float, which the Rust refuses as an unknown kind. What can be asked of
-// them: with strings for its Floats such an input is compared, and ours must answer to both alike but for the kind and for `I`;
-// with empty arrays for them, on which `I` is refused as on a Float, the Rust must give our answer.
+// and counted apart: inputs in which load comes to a Float or a Bignum, which the Rust refuses as an unknown kind. What can be
+// asked of them: with strings for both such an input is compared, and ours must answer to both alike but for the node, the form
+// of a Bignum and `I`; with empty arrays for them, on which `I` is refused as on both, the Rust must give our answer; and where
+// load comes to a Bignum that is refused, ours must give the answer of a reader of Bignums written after the document.
+use beside_rust::bignum::{bignum, Bignum};
 use beside_rust::measure::{integer, measures};
 use beside_rust::random::{damaged, value, Random, ALPHABET};
 use beside_rust::room::Room;
@@ -30,8 +32,10 @@ const STACK: usize = 512 << 20;
 const LETTERS: &[u8] = b"0i:;@I[}o\"uf\x00\x06\x07\xFA";
 const PIECES: &[&[u8]] = &[
     b"0", b"T", b"i\x06", b":\x06a", b":\x06b", b";\x00", b";\x06", b"@\x00", b"@\x06", b"I", b"[\x06", b"[\x07", b"{\x06", b"}\x00",
-    b"o", b"\"\x06x", b"u", b"f\x061", b"\x00", b"\x06",
+    b"o", b"\"\x06x", b"u", b"f\x061", b"l-\x06\x01\x00", b"\x00", b"\x06",
 ];
+// A Bignum's bytes, and what may stand around it.
+const AROUND: &[u8] = b"l+-0[@I\x00\x01\x06\x07\x0A\xFA";
 
 // How an input came out where nothing disagrees.
 #[derive(Clone, Copy, PartialEq)]
@@ -41,8 +45,8 @@ enum Outcome {
     Refused(u64),
     TooDeep,
     NoSpace,
-    /// load comes to a Float: the number of our answer, and whether it is in dump form
-    Float(u64, bool),
+    /// load comes to a Float or a Bignum: the kind of the first, the number of our answer, and whether it is in dump form
+    Later(u8, u64, bool),
     Panic,
 }
 
@@ -186,35 +190,87 @@ impl Held {
         }
     }
 
-    // Strings for Floats; how many they were.
-    fn exchange_floats(&mut self) -> usize {
-        self.written = with_strings(&self.written);
-        let floats = self.nodes.iter_mut().step_by(7).filter(|kind| **kind == FLOAT_NODE);
-        floats.map(|kind| *kind = STRING_NODE).count()
+    // Strings for Floats and Bignums, as `with_strings` has them, in nodes, bytes and dump; how many they were. None where a
+    // node is not as load makes it: its bytes after those of the nodes before it.
+    fn exchange(&mut self) -> Option<[usize; 2]> {
+        self.written = with_strings(&self.written).ok()?.input;
+        let (mut bytes, mut at, mut count) = (Vec::new(), 0, [0; 2]);
+        for words in self.nodes.chunks_mut(7) {
+            let start = bytes.len() as u32;
+            match words[0] {
+                SYMBOL_NODE | STRING_NODE | USER_DEFINED_NODE | FLOAT_NODE => {
+                    let end = at + words[2] as usize;
+                    bytes.extend(self.bytes.get(at..end).filter(|_| words[1] as usize == at)?);
+                    words[1] = start;
+                    at = end;
+                    if words[0] == FLOAT_NODE {
+                        words[0] = STRING_NODE;
+                        count[0] += 1;
+                    }
+                }
+                BIGNUM_NODE => {
+                    let text = Bignum::of_words(words)?.text();
+                    words.copy_from_slice(&[STRING_NODE, start, text.len() as u32, 0, 0, 0, 0]);
+                    bytes.extend(text);
+                    count[1] += 1;
+                }
+                _ => (),
+            }
+        }
+        self.counts[2] = bytes.len();
+        let old = std::mem::replace(&mut self.bytes, bytes);
+        (at == old.len()).then_some(count)
     }
 }
 
-// The input, changed at each Float that load comes to until there is none: the Rust stops right after the kind byte.
-fn exchanged(input: &[u8], exchange: impl Fn(&mut Vec<u8>, usize)) -> Vec<u8> {
-    let mut out = input.to_vec();
+// An input with other values for its Floats and Bignums: how many they were, and whether each Bignum was as dump writes it.
+struct Exchanged {
+    input: Vec<u8>,
+    count: [usize; 2],
+    form: bool,
+}
+
+// The input, changed at each Float and Bignum that load comes to until there is none: the Rust stops right after the kind byte.
+// What load must answer, where it comes to a Bignum that is refused.
+fn exchanged(
+    input: &[u8],
+    float: impl Fn(&mut Vec<u8>, usize),
+    other: impl Fn(Bignum) -> Vec<u8>,
+) -> Result<Exchanged, Answer> {
+    let (mut out, mut count, mut form) = (input.to_vec(), [0; 2], true);
     loop {
         let mut rest = &out[..];
-        let Err(Error::InvalidValueKind { kind: FLOAT }) = ruby_marshal::load(&mut rest) else { return out };
+        let Err(Error::InvalidValueKind { kind: kind @ (FLOAT | BIGNUM) }) = ruby_marshal::load(&mut rest) else {
+            return Ok(Exchanged { input: out, count, form });
+        };
         let place = out.len() - rest.len() - 1;
-        exchange(&mut out, place);
+        if kind == FLOAT {
+            float(&mut out, place);
+        } else {
+            let (found, end, in_form) = bignum(&out, place + 1)?;
+            out.splice(place..end, other(found));
+            form &= in_form;
+        }
+        count[(kind == BIGNUM) as usize] += 1;
     }
 }
 
-fn with_strings(input: &[u8]) -> Vec<u8> {
-    exchanged(input, |out, place| out[place] = STRING)
+// For a Bignum a string of its sign and its fewest units: never longer, and another for another number.
+fn with_strings(input: &[u8]) -> Result<Exchanged, Answer> {
+    let string = |found: Bignum| {
+        let text = found.text();
+        [&[STRING, text.len() as u8 + 5], &text[..]].concat()
+    };
+    exchanged(input, |out, place| out[place] = STRING, string)
 }
 
 // Empty arrays; a string where the Float is not whole, since load ends there.
-fn with_arrays(input: &[u8]) -> Vec<u8> {
-    exchanged(input, |out, place| match byte_string_end(out, place + 1) {
+fn with_arrays(input: &[u8]) -> Result<Exchanged, Answer> {
+    let float = |out: &mut Vec<u8>, place| match byte_string_end(out, place + 1) {
         Some(end) => drop(out.splice(place..end, *b"[\x00")),
         None => out[place] = STRING,
-    })
+    };
+    exchanged(input, float, |_| b"[\x00".to_vec())
 }
 
 // Where the byte string at a place ends, if it is whole.
@@ -225,9 +281,13 @@ fn byte_string_end(input: &[u8], place: usize) -> Option<usize> {
 }
 
 const FLOAT: u8 = b'f';
+const BIGNUM: u8 = b'l';
 const STRING: u8 = b'"';
-const FLOAT_NODE: u32 = 9;
+const SYMBOL_NODE: u32 = 3;
 const STRING_NODE: u32 = 7;
+const USER_DEFINED_NODE: u32 = 8;
+const FLOAT_NODE: u32 = 9;
+const BIGNUM_NODE: u32 = 10;
 const ACCEPTED: Answer = Answer { number: 0, first: 0, second: 0 };
 const NOT_AN_OBJECT: Answer = Answer { number: 10, first: 0, second: 0 };
 const TOO_DEEP: Answer = Answer { number: 11, first: LIMIT as i64, second: 0 };
@@ -242,14 +302,17 @@ struct Run {
     compared: [u64; 2],
     /// nodes compared, by kind
     kinds: [usize; 9],
-    /// Floats in accepted inputs
-    floats: usize,
+    /// Floats and Bignums in accepted inputs
+    later: [usize; 2],
     /// refusals that agree, by number
     refused: [usize; 11],
+    /// refusals of inputs that left the comparison, by number
+    later_refused: [usize; 17],
     inputs: usize,
     disagree: usize,
-    /// of the class: inputs, accepted, refused, too deep, no space, with a Float, panics, disagreeing; those in dump form
-    row: [usize; 9],
+    /// of the class: inputs, accepted, refused, too deep, no space, with a Float, with a Bignum, panics, disagreeing; those in
+    /// dump form
+    row: [usize; 10],
 }
 
 impl Run {
@@ -272,7 +335,7 @@ impl Run {
         });
         match loaded {
             Err(_) => Ok(Outcome::Panic),
-            Ok((Err(Error::InvalidValueKind { kind: FLOAT }), _)) => self.compare_floats(input, room, ours),
+            Ok((Err(Error::InvalidValueKind { kind: kind @ (FLOAT | BIGNUM) }), _)) => self.compare_later(kind, input, room, ours),
             _ if ours == TOO_DEEP && input.len() > LIMIT as usize => Ok(Outcome::TooDeep),
             Ok((Err(_), _)) if ours == NO_REFERENCES => Ok(Outcome::NoSpace),
             Ok((Err(e), _)) if refusal(&e, ours) == Some(ours) => Ok(Outcome::Refused(ours.number)),
@@ -300,39 +363,48 @@ impl Run {
         Ok(())
     }
 
-    // What ours answers to an input with Floats, beside the same input with strings and with empty arrays for them.
-    fn compare_floats(&mut self, input: &[u8], room: usize, ours: Answer) -> Result<Outcome, String> {
+    // What ours answers to an input with Floats or Bignums, beside the same input with strings and with empty arrays for them.
+    fn compare_later(&mut self, kind: u8, input: &[u8], room: usize, ours: Answer) -> Result<Outcome, String> {
         let held = (ours.number == 0).then(|| Held::of(&mut self.lent[room].tables));
-        let form = self.lent[room].tables.dump_form;
+        let outcome = Outcome::Later(kind, ours.number, self.lent[room].tables.dump_form);
         let made = catch_unwind(|| {
-            let arrays = ruby_marshal::load(&with_arrays(input)[..]).map(|_| ());
+            let arrays = with_arrays(input).map(|arrays| ruby_marshal::load(&arrays.input[..]).map(|_| ()));
             (with_strings(input), arrays)
         });
         let Ok((plain, arrays)) = made else { return Ok(Outcome::Panic) };
-        let known = ours == TOO_DEEP || ours == NO_REFERENCES;
-        let theirs = arrays.map_or_else(|e| refusal(&e, ours), |()| Some(ACCEPTED));
+        let known = ours == TOO_DEEP && input.len() > LIMIT as usize || ours == NO_REFERENCES;
+        let theirs = arrays.map_or_else(Some, |loaded| loaded.map_or_else(|e| refusal(&e, ours), |()| Some(ACCEPTED)));
         if theirs != Some(ours) && !known {
-            return Err(format!("load: {ours:?}, the Rust with arrays for Floats {theirs:?}"));
+            return Err(format!("load: {ours:?}, the Rust with arrays for Floats and Bignums {theirs:?}"));
         }
-        if self.compare(&plain)? == Outcome::Panic {
+        // A Bignum that is refused is the end.
+        let Ok(plain) = plain else { return Ok(outcome) };
+        if self.compare(&plain.input)? == Outcome::Panic {
             return Ok(Outcome::Panic);
         }
-        let answer = self.lent[room].load(&plain);
+        let answer = self.lent[room].fit(input.len()).load(&plain.input, LIMIT);
         if ours != answer && ours != NOT_AN_OBJECT {
-            return Err(format!("load: {ours:?}, with strings for Floats {answer:?}"));
+            return Err(format!("load: {ours:?}, with strings for Floats and Bignums {answer:?}"));
         }
         if let Some(mut held) = held {
             if held.dumped.number == 0 {
                 self.comes_back(&held.written)?;
             }
-            let floats = held.exchange_floats();
-            self.floats += floats;
-            let exchanged = input.iter().zip(&plain).filter(|(a, b)| a != b).count();
-            if floats != exchanged || held != Held::of(&mut self.lent[room].tables) {
-                return Err(format!("tables, dump or its form: not as with strings for Floats; {floats} Floats of {exchanged}"));
+            let strings = Held::of(&mut self.lent[room].tables);
+            if held.dump_form != (strings.dump_form && plain.form) {
+                return Err(format!("dump form: {}, with strings for Floats and Bignums {}", held.dump_form, strings.dump_form));
+            }
+            let count = held.exchange();
+            held.dump_form = strings.dump_form;
+            held.used -= input.len() - plain.input.len();
+            if count != Some(plain.count) || held != strings {
+                return Err(format!("tables or dump: not as with strings for Floats and Bignums; {count:?} of {:?}", plain.count));
+            }
+            for (sum, n) in self.later.iter_mut().zip(plain.count) {
+                *sum += n;
             }
         }
-        Ok(Outcome::Float(ours.number, form))
+        Ok(outcome)
     }
 
     fn compare_accepted(&mut self, mut arena: ValueArena, used: &[u8], room: usize) -> Result<Outcome, String> {
@@ -424,13 +496,16 @@ impl Run {
             }
             Ok(Outcome::TooDeep) => 3,
             Ok(Outcome::NoSpace) => 4,
-            Ok(Outcome::Float(..)) => 5,
-            Ok(Outcome::Panic) => 6,
-            Err(_) => 7,
+            Ok(Outcome::Later(kind, n, _)) => {
+                self.later_refused[n as usize] += 1;
+                if kind == FLOAT { 5 } else { 6 }
+            }
+            Ok(Outcome::Panic) => 7,
+            Err(_) => 8,
         };
         self.row[0] += 1;
         self.row[column] += 1;
-        self.row[8] += matches!(outcome, Ok(Outcome::Accepted(true) | Outcome::Float(_, true))) as usize;
+        self.row[9] += matches!(outcome, Ok(Outcome::Accepted(true) | Outcome::Later(_, _, true))) as usize;
         self.inputs += 1;
         if let Err(what) = &outcome {
             self.disagree += 1;
@@ -443,8 +518,9 @@ impl Run {
 
     // The class that was run, as a line of the table.
     fn end_class(&mut self, name: &str) {
-        let [all, accepted, refused, deep, space, floats, panics, disagree, formed] = std::mem::take(&mut self.row);
-        println!("{name:<34}{all:>9}{accepted:>9}{refused:>9}{deep:>9}{space:>9}{floats:>9}{panics:>7}{disagree:>9}{formed:>10}");
+        let [all, accepted, refused, deep, space, floats, bignums, panics, disagree, formed] = std::mem::take(&mut self.row);
+        print!("{name:<34}{all:>9}{accepted:>9}{refused:>9}{deep:>9}{space:>9}{floats:>9}{bignums:>9}");
+        println!("{panics:>7}{disagree:>9}{formed:>10}");
     }
 
     // Every word of that length over the letters, after what is there.
@@ -466,7 +542,7 @@ impl Run {
         for piece in pieces {
             row.extend(*piece);
             let outcome = self.input(row);
-            if most > 1 && matches!(outcome, Some(Outcome::Refused(4) | Outcome::Float(4, _))) {
+            if most > 1 && matches!(outcome, Some(Outcome::Refused(4) | Outcome::Later(_, 4, _))) {
                 self.undecided(row, pieces, most - 1);
             }
             row.truncate(length);
@@ -493,15 +569,27 @@ impl Run {
             }
         }
         self.end_class("integers of 1 to 4 bytes");
+        for sign in b"+-" {
+            for units in 0..=4 {
+                let count = if units == 0 { 0 } else { units as u8 + 5 };
+                for length in 0..=2 * units {
+                    self.words(&mut vec![4, 8, BIGNUM, *sign, count], b"\x00\x01\x7F\x80\xFF", length);
+                }
+            }
+        }
+        self.end_class("Bignums of 0 to 4 units");
         for length in 0..=5 {
             self.words(&mut vec![4, 8], ALPHABET, length);
         }
-        self.end_class("5 of 24 bytes");
+        self.end_class("5 of 27 bytes");
         let letters: Vec<&[u8]> = LETTERS.chunks(1).collect();
         self.undecided(&mut vec![4, 8], &letters, 7);
         self.end_class("7 of 16 bytes, till decided");
         self.undecided(&mut vec![4, 8], PIECES, 7);
-        self.end_class("7 of 20 pieces, till decided");
+        self.end_class("7 of 21 pieces, till decided");
+        let around: Vec<&[u8]> = AROUND.chunks(1).collect();
+        self.undecided(&mut vec![4, 8], &around, 7);
+        self.end_class("7 of 13 bytes around l, likewise");
     }
 
     // Inputs as they are, then each damaged that many times.
@@ -537,7 +625,7 @@ fn saved(path: &str) -> Vec<Vec<u8>> {
 
 fn made() -> Vec<Vec<u8>> {
     let mut all = vec![inputs::recipes(300), inputs::batches(300), inputs::objects(300), inputs::names(130)];
-    all.push(inputs::setpoints(300, FLOAT));
+    all.extend([inputs::setpoints(300, FLOAT), inputs::counters(300, BIGNUM)]);
     all.extend(["arrays", "hashes", "defaults", "objects", "variables"].map(inputs::nested));
     all
 }
@@ -545,16 +633,18 @@ fn made() -> Vec<Vec<u8>> {
 fn run(corpora: Vec<String>) -> usize {
     let [lent, measured] = [REFERENCES, REFERENCES].map(|sizes| sizes.map(Lent::new));
     let again = Lent::new(REFERENCES[0]);
-    let (compared, kinds, floats, refused, row) = ([0; 2], [0; 9], 0, [0; 11], [0; 9]);
-    let mut run = Run { lent, measured, again, compared, kinds, floats, refused, inputs: 0, disagree: 0, row };
+    let (compared, kinds, later, refused, later_refused, row) = ([0; 2], [0; 9], [0; 2], [0; 11], [0; 17], [0; 10]);
+    let mut run = Run { lent, measured, again, compared, kinds, later, refused, later_refused, inputs: 0, disagree: 0, row };
     let mut random = Random(48);
     println!(
-        "{:<34}{:>9}{:>9}{:>9}{:>9}{:>9}{:>9}{:>7}{:>9}{:>10}",
-        "", "inputs", "accepted", "refused", "too deep", "no space", "Float", "panics", "disagree", "dump form"
+        "{:<34}{:>9}{:>9}{:>9}{:>9}{:>9}{:>9}{:>9}{:>7}{:>9}{:>10}",
+        "", "inputs", "accepted", "refused", "too deep", "no space", "Float", "Bignum", "panics", "disagree", "dump form"
     );
     run.exhaustive();
-    for (name, number, floats) in [("random", 400_000, false), ("random with Floats", 100_000, true)] {
-        let values: Vec<Vec<u8>> = (0..number).map(|_| value(&mut random, floats)).collect();
+    let classes: [(_, _, &[u8]); 3] =
+        [("random", 400_000, b""), ("random with Floats", 100_000, b"f"), ("random with Bignums too", 100_000, b"fll")];
+    for (name, number, later) in classes {
+        let values: Vec<Vec<u8>> = (0..number).map(|_| value(&mut random, later)).collect();
         run.with_damage(name, &values, 4, &mut random);
     }
     run.with_damage("made", &made(), 20_000, &mut random);
@@ -566,8 +656,8 @@ fn run(corpora: Vec<String>) -> usize {
             }
         }
     }
-    println!("nodes compared, kinds 0 to 8: {:?}; Floats as strings: {}", run.kinds, run.floats);
-    println!("refusals 3 to 10 that agree: {:?}", &run.refused[3..]);
+    println!("nodes compared, kinds 0 to 8: {:?}; Floats and Bignums as strings: {:?}", run.kinds, run.later);
+    println!("refusals 3 to 10 that agree: {:?}; with Floats or Bignums, 3 to 16: {:?}", &run.refused[3..], &run.later_refused[3..]);
     let [inputs, bytes] = run.compared;
     println!("bytes compared in searches for names: {bytes}, in {inputs} loads");
     println!("{} inputs, {} disagree", run.inputs, run.disagree);

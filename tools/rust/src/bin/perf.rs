@@ -1,7 +1,7 @@
 // Times load and dump of the Rattle crates and of the Rust crate on the same inputs, and a walk over what they filled, in one
 // run; rounds of the two alternate. Beside load stands what it does at least: tables and lists set to zero and the input copied.
 // The measuring load stands beside load.
-// Floats, which the Rust refuses, are run by ours alone, and beside them the same recipes with strings in their place.
+// Floats and Bignums, which the Rust refuses, are run by ours alone, and beside them the same recipes with strings in their place.
 //
 // usage: perf                    the tables of times
 //        perf names              the bytes that a load copies and compares for recipes of 10, 100 and 1,000 names
@@ -193,6 +193,8 @@ fn main() {
         ("1,000 names", names(1000)),
         ("100 KB, setpoints", setpoints(100_000, b'f')),
         ("the same as strings", setpoints(100_000, b'"')),
+        ("100 KB, counters", counters(100_000, b'l')),
+        ("the same as strings", counters(100_000, b'"')),
     ];
     println!("{:<24}{:>9}{:>9}{:>11}{:>15}{:>11}{:>8}", "load", "bytes", "nodes", "ours µs", "zero and copy", "Rust µs", "faster");
     for (name, input) in &inputs {
