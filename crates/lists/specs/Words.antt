@@ -7,7 +7,7 @@ use mathlib.Core.List.{List, [], _∷_, _++_}
 use lib.Dec.{eqb}
 use lib.ListN.{length, length-append}
 use native.Mathlib.Omega.{arith}
-use native.Mathlib.Nat.{pow-suc, mul-assoc}
+use native.Mathlib.Nat.{zero-add, suc-add, pow-suc, mul-assoc}
 use borrow.Author.Tests.{eqb-true, eq-eqb}
 use Rattle.definition.specs.Run.{pick}
 use Rattle.definition.specs.Integer.{little, low-bytes}
@@ -46,6 +46,12 @@ pub little-low : (n w : ℕ) → little (low-bytes n w) (above n w) ≡ w
 unfolding little low-bytes
 little-low zero w = refl
 little-low (suc n) w = omega (arith, little-low n (w / 256))
+
+-- the low bytes in two parts
+pub low-append : (n k w : ℕ) → low-bytes (n + k) w ≡ low-bytes n w ++ low-bytes k (above n w)
+unfolding low-bytes
+low-append zero k w = ap (λ (n : ℕ). low-bytes n w) (zero-add k)
+low-append (suc n) k w = ap (λ (m : ℕ). low-bytes m w) (suc-add n k) ∙ ap (λ (l : List ℕ). (w % 256) ∷ l) (low-append n k (w / 256))
 
 -- bytes are the low bytes of what they say
 pub low-little : (bs : List ℕ) (over : ℕ) → Below 256 bs → low-bytes (length bs) (little bs over) ≡ bs

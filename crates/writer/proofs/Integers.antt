@@ -12,7 +12,7 @@ use lib.Seq.{sets}
 use borrow.Author.Tests.{leb-true, leb-false, ltb-true, ltb-false}
 use Rattle.definition.specs.Integer.{integer-bytes, low-bytes, fewest}
 use Rattle.definition.specs.Magnitude.{fewest-units, sign-byte, unit-bytes, bignum-bytes}
-use Rattle.lists.specs.Words.{length-low}
+use Rattle.lists.specs.Words.{length-low, above, low-append}
 pub use Rattle.lists.specs.Integers.{fewest-most, fewest-some, bytes-zero, bytes-small, bytes-last, large-as, negative-as}
 
 -- ---- storing the low bytes
@@ -72,7 +72,32 @@ stored-after out at k bs e = e ∙ ap (λ (i : ℕ). sets (set out at k) i bs) (
 pub stored-as : {x : ℕ} {out' : List ℕ} (w : ℕ) (out : List ℕ) (at : ℕ) → integer-bytes w ≡ x ∷ [] → out' ≡ set out at x → (out' ≡ sets out at (integer-bytes w)) × (1 ≡ length (integer-bytes w))
 stored-as w out at e p = (p ∙ ap (sets out at) (sym e), sym (ap length e))
 
--- a Bignum's number: its sign and the count, then the units
-pub number-parts : (minus : Bool) {m x n w k : ℕ} → x ≡ m → n ≡ fewest-units x → w ≡ n → k ≡ sign-byte minus → bignum-bytes minus m ≡ (k ∷ integer-bytes n) ++ low-bytes (w * 2) x
+-- ---- a Bignum's number
+
+-- stores one after the other
+stored-append : (xs ys l : List ℕ) (i : ℕ) → sets (sets l i xs) (i + length xs) ys ≡ sets l i (xs ++ ys)
+stored-append [] ys l i = ap (λ (k : ℕ). sets l k ys) (add-zero i)
+stored-append (x ∷ xs) ys l i =
+    let e : i + suc (length xs) ≡ suc i + length xs = omega arith in
+    ap (λ (k : ℕ). sets (sets (set l i x) (suc i) xs) k ys) e ∙ stored-append xs ys (set l i x) (suc i)
+
+-- one unit more, after k of them
+pub unit-stored : (k m : ℕ) (out : List ℕ) {prev out' : List ℕ} (at u : ℕ) → prev ≡ sets out at (low-bytes (k * 2) m) → u ≡ above (k * 2) m → out' ≡ sets prev (at + k * 2) (low-bytes 2 u) → out' ≡ sets out at (low-bytes (suc k * 2) m)
+unit-stored k m out at u p e q =
+    let l : k * 2 ≡ length (low-bytes (k * 2) m) = sym (length-low (k * 2) m) in
+    let z : k * 2 + 2 ≡ suc k * 2 = omega arith in
+    q ∙ ap (λ (x : List ℕ). sets x (at + k * 2) (low-bytes 2 u)) p
+    ∙ ap (λ (j : ℕ). sets (sets out at (low-bytes (k * 2) m)) (at + j) (low-bytes 2 u)) l
+    ∙ stored-append (low-bytes (k * 2) m) (low-bytes 2 u) out at
+    ∙ ap (λ (x : ℕ). sets out at (low-bytes (k * 2) m ++ low-bytes 2 x)) e
+    ∙ ap (sets out at) (sym (low-append (k * 2) 2 m))
+    ∙ ap (λ (j : ℕ). sets out at (low-bytes j m)) z
+
+-- so many units are n of them
+pub units-stored : (k n m : ℕ) (out : List ℕ) {out' : List ℕ} (at : ℕ) → n ≡ k → out' ≡ sets out at (low-bytes (k * 2) m) → out' ≡ sets out at (low-bytes (n * 2) m)
+units-stored k n m out at e p = p ∙ ap (λ (j : ℕ). sets out at (low-bytes (j * 2) m)) (sym e)
+
+-- its sign and the count, then the units
+pub number-parts : (minus : Bool) {m x n k : ℕ} → x ≡ m → n ≡ fewest-units x → k ≡ sign-byte minus → bignum-bytes minus m ≡ (k ∷ integer-bytes n) ++ low-bytes (n * 2) x
 unfolding bignum-bytes unit-bytes
-number-parts minus p q r s = rw (← p, r, q, s) refl
+number-parts minus p q s = rw (← p, q, s) refl

@@ -51,7 +51,7 @@ pub fn write_byte(output: &mut [u8], c: &mut [usize; 3], b: u8) -> u32
 }
 
 // The lowest n bytes of v, lowest first, from byte `at` on.
-fn store_low(output: &mut [u8], at: usize, n: usize, v: u64)
+fn store_low(output: &mut [u8], at: usize, n: usize, v: u32)
     requires { ⌜ at + n ≤ length (now output) ⌝ }
     ensures { λ _. ⌜ now (output .exit) ≡ sets (now (output .entry)) at (low-bytes n v) ⌝ }
 {
@@ -95,7 +95,7 @@ fn store_data(output: &mut [u8], at: usize, k: u8, n: usize, v: u32) -> usize
     ensures { λ r. ⌜ r ≡ n + 1 ⌝ }
 {
     output[at] = k;
-    store_low(output, at + 1, n, v as u64);
+    store_low(output, at + 1, n, v);
     n + 1
 }
 
@@ -193,15 +193,50 @@ pub fn write_byte_string(
 
 // ---- a Bignum's number
 
-// The lowest n bytes of v.
-fn write_low(output: &mut [u8], c: &mut [usize; 3], n: usize, v: u64) -> u32
-    ensures { λ r. ⌜ ((A : Arena) (room limit : ℕ) (sc : List ℕ) → Meets A room limit (write room (low-bytes n v)) (buffers sc (now (output .entry))) (now (c .entry)) r (buffers sc (now (output .exit))) (now (c .exit))) ⌝ }
+// A unit from byte `at` on: its low byte, then its high one.
+fn store_unit(output: &mut [u8], at: usize, u: u64)
+    requires { ⌜ at + 2 ≤ length (now output) ⌝ }
+    ensures { λ _. ⌜ now (output .exit) ≡ sets (now (output .entry)) at (low-bytes 2 u) ⌝ }
+{
+    output[at] = (u % 256) as u8;
+    output[at + 1] = (u / 256 % 256) as u8;
+}
+
+// The lowest n units of a magnitude, the lowest first, from byte `at` on. One after the other: with a loop here the compiler
+// has fewer registers for all that dump writes.
+fn store_units(output: &mut [u8], at: usize, n: u32, m: u64)
+    requires { ⌜ (n ≤ 4) × (at + n * 2 ≤ length (now output)) ⌝ }
+    ensures { λ _. ⌜ now (output .exit) ≡ sets (now (output .entry)) at (low-bytes (n * 2) m) ⌝ }
+{
+    if n == 0 {
+        return;
+    }
+    store_unit(output, at, m);
+    if n == 1 {
+        return;
+    }
+    store_unit(output, at + 2, m / 65536);
+    if n == 2 {
+        return;
+    }
+    store_unit(output, at + 4, m / 4294967296);
+    if n == 3 {
+        return;
+    }
+    store_unit(output, at + 6, m / 281474976710656);
+}
+
+// The lowest n units of a magnitude.
+fn write_units(output: &mut [u8], c: &mut [usize; 3], n: u32, m: u64) -> u32
+    requires { ⌜ n ≤ 4 ⌝ }
+    ensures { λ r. ⌜ ((A : Arena) (room limit : ℕ) (sc : List ℕ) → Meets A room limit (write room (low-bytes (n * 2) m)) (buffers sc (now (output .entry))) (now (c .entry)) r (buffers sc (now (output .exit))) (now (c .exit))) ⌝ }
 {
     let at = c[WRITTEN];
-    if n <= output.len() {
-        if at <= output.len() - n {
-            store_low(output, at, n, v);
-            c[WRITTEN] = at + n;
+    let k = size(n) * 2;
+    if k <= output.len() {
+        if at <= output.len() - k {
+            store_units(output, at, n, m);
+            c[WRITTEN] = at + k;
             return DONE;
         }
     }
@@ -224,7 +259,7 @@ pub fn write_bignum(output: &mut [u8], c: &mut [usize; 3], minus: bool, low: u32
     if w != DONE {
         return w;
     }
-    write_low(output, c, size(n) * 2, m)
+    write_units(output, c, n, m)
 }
 
 // ---- symbols and scalars

@@ -1,9 +1,9 @@
 -- The proof of write_bignum.
-use mathlib.Core.Path.{refl, ap}
+use borrow.Author.Needs.{needs}
+use mathlib.Core.Path.{ap}
 use Rattle.definition.specs.Dump.{write}
 use Rattle.writer.specs.Laws.{lead-as, part-stop, part-after}
 use Rattle.writer.proofs.Integers.{number-parts}
-use borrow.Author.Needs.{needs}
 use Rattle.writer.proofs.write_bignum.Statement.{statement}
 use Rattle.writer.proofs.write_bignum.Tie as tie
 
@@ -24,25 +24,26 @@ same-length c = search needs
 
 returns : tie.Need-returns
 returns c =
-    let e = number-parts (c .before .before .before .before .before .before .before .before .before .before .args .minus) (c .before .before .before .before .before .before .before .before .magnitude-of .ensures) (c .before .before .before .before .before .before .before .fewest-units .ensures .0) refl (c .before .before .before .before .sign-byte .ensures) in
+    let c4 = c .before .before .before .before in
+    let c7 = c4 .before .before .before in
+    let c10 = c7 .before .before .before in
+    let e = number-parts (c10 .args .minus) (c7 .before .magnitude-of .ensures) (c7 .fewest-units .ensures .0) (c4 .sign-byte .ensures) in
     λ A room limit sc. lead-as (ap (write room) e) (part-stop _ _ (c .if1 .taken) (c .before .before .before .write-tagged .ensures A room limit sc))
 
-size-requires : tie.Need-size-requires
-size-requires c κs = search needs
-
-mul-write-low : tie.Need-mul-write-low
-mul-write-low c = search needs
-
-write-low-requires : tie.Need-write-low-requires
-write-low-requires c κs = search needs
+write-units-requires : tie.Need-write-units-requires
+write-units-requires c κs = search needs
 
 same-length-2 : tie.Need-same-length-2
 same-length-2 c = search needs
 
 returns-2 : tie.Need-returns-2
 returns-2 c =
-    let e = number-parts (c .before .before .before .before .before .before .before .before .before .before .before .before .before .before .before .before .args .minus) (c .before .before .before .before .before .before .before .before .before .before .before .before .before .before .magnitude-of .ensures) (c .before .before .before .before .before .before .before .before .before .before .before .before .before .fewest-units .ensures .0) (c .before .before .before .size .ensures) (c .before .before .before .before .before .before .before .before .before .before .sign-byte .ensures) in
-    λ A room limit sc. lead-as (ap (write room) e) (part-after _ _ (c .before .before .before .before .before .before .if1 .left) (c .before .before .before .before .before .before .before .before .before .write-tagged .ensures A room limit sc) (c .before .before .write-low .ensures A room limit sc))
+    let c5 = c .before .before .before .before .before in
+    let c9 = c5 .before .before .before .before in
+    let c12 = c9 .before .before .before in
+    let c15 = c12 .before .before .before in
+    let e = number-parts (c15 .args .minus) (c12 .before .magnitude-of .ensures) (c12 .fewest-units .ensures .0) (c9 .sign-byte .ensures) in
+    λ A room limit sc. lead-as (ap (write room) e) (part-after _ _ (c5 .if1 .left) (c5 .before .before .before .write-tagged .ensures A room limit sc) (c .before .before .write-units .ensures A room limit sc))
 
 pub write-bignum-spec : {M : Type 1} → statement M
 write-bignum-spec =
@@ -54,8 +55,6 @@ write-bignum-spec =
     write-tagged-requires
     same-length
     returns
-    size-requires
-    mul-write-low
-    write-low-requires
+    write-units-requires
     same-length-2
     returns-2)
