@@ -1,6 +1,7 @@
 // The library that users link: load, dump, the reader of an input, and the arena's getters and builder.
 pub use definition::Answer;
 pub use definition::Begun;
+pub use definition::Bignum;
 pub use definition::Counts;
 pub use definition::Created;
 pub use definition::Dumped;
