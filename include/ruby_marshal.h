@@ -1,5 +1,5 @@
 /*
- * Ruby Marshal 4.8 in lent tables: load, dump, and the arena's getters and builder. For C11 and C++.
+ * Ruby Marshal 4.8 in lent tables: load, dump, the arena's getters, its weighing and its builder. For C11 and C++.
  *
  * Link libmarshal_c.a, which `rt staticlib marshal_c` writes to target/staticlib (x86-64 Linux). It allocates nothing, keeps
  * nothing between calls, and needs of the C library at most memcpy, memmove, memset and memcmp.
@@ -11,7 +11,8 @@
  *   - It is never null, and aligned for its entries, also where the number is 0 (it need refer to nothing then).
  *   - A slice that is not const overlaps no other slice of the call. Slices that are const may overlap each other.
  *   - During the call nothing else writes a slice, and nothing else reads one that is not const.
- *   - A bool is true or false.
+ *   - A bool is true or false. A double is IEEE 754's binary64, and the thread's rounding mode is to nearest, in which every
+ *     program starts (FE_TONEAREST).
  * The linker does not compare these declarations with the library: header and archive must be of one version. (tools/bindings
  * compares them with the source.)
  *
@@ -48,7 +49,9 @@ enum ruby_marshal_refusal {
     RUBY_MARSHAL_BAD_HANDLE = 13,     /* (handle) not below node count */
     RUBY_MARSHAL_WRONG_KIND = 14,     /* (handle) symbol wanted */
     RUBY_MARSHAL_BAD_SIGN = 15,       /* (byte) bignum's sign, neither + nor - */
-    RUBY_MARSHAL_TOO_BIG = 16         /* (units) bignum of more than 4 units of 16 bits, or of 2^63 and more */
+    RUBY_MARSHAL_TOO_BIG = 16,        /* (units) bignum of more than 4 units of 16 bits, or of 2^63 and more */
+    RUBY_MARSHAL_NOT_A_WEIGHT = 17,   /* (node) no number, or a dry weight below 0 */
+    RUBY_MARSHAL_BAD_MOISTURE = 18    /* moisture below 0 or above 0.5 */
 };
 
 /* The slices that BAD_TABLES and NO_SPACE name; the lowest wrong one is named. No slice has more than 2147483647 entries. */
@@ -71,10 +74,11 @@ enum ruby_marshal_slice {
 /* ---- the answer words ----
  *
  * The last slice of every function. Words 0 and 1 are the two details, 0 where the call is accepted; then comes what else
- * the call answers, 0 where it is refused unless said. Words past those stay as they were.
+ * the call answers, 0 where it is refused unless said. Words past those stay as they were. The two functions that answer
+ * doubles write them into a slice before it; doubles past those stay as they were too.
  *
- * Fewer words than a function writes: it returns BAD_TABLES, and nothing at all is written, so that no detail names the
- * slice. The number of words is the caller's own, so a caller that passes what is stated here never sees this.
+ * Fewer words or doubles than a function writes: it returns BAD_TABLES, and nothing at all is written, so that no detail
+ * names the slice. Their number is the caller's own, so a caller that passes what is stated here never sees this.
  */
 #define RUBY_MARSHAL_ANSWER_WORDS 10u /* enough for every function */
 #define RUBY_MARSHAL_LOAD_WORDS 8u
@@ -85,6 +89,10 @@ enum ruby_marshal_slice {
 #define RUBY_MARSHAL_KIND_WORDS 3u
 #define RUBY_MARSHAL_GET_WORDS 9u
 #define RUBY_MARSHAL_GET_SYMBOL_WORDS 4u
+#define RUBY_MARSHAL_READING_WORDS 4u
+#define RUBY_MARSHAL_READING_DOUBLES 1u
+#define RUBY_MARSHAL_WET_WEIGHT_WORDS 2u
+#define RUBY_MARSHAL_WET_WEIGHT_DOUBLES 3u
 #define RUBY_MARSHAL_CREATE_WORDS 7u /* every create_ function, and replace_root */
 
 enum ruby_marshal_answer {
@@ -103,7 +111,23 @@ enum ruby_marshal_answer {
     RUBY_MARSHAL_VALUE = 2,      /* root: the root's node; kind: the node's kind */
     RUBY_MARSHAL_WORDS = 2,      /* get: the node's seven words, 2 to 8 */
     RUBY_MARSHAL_START = 2,      /* get_symbol: where the name's bytes start, */
-    RUBY_MARSHAL_LENGTH = 3      /*             and how many they are */
+    RUBY_MARSHAL_LENGTH = 3,     /*             and how many they are */
+    RUBY_MARSHAL_READS_AS = 2,   /* reading: enum ruby_marshal_reading, */
+    RUBY_MARSHAL_WHOLE = 3       /*          and the whole number, in two's complement: ruby_marshal_whole */
+};
+
+/* What a node reads as. */
+enum ruby_marshal_reading {
+    RUBY_MARSHAL_READS_NOTHING = 0, /* not a number */
+    RUBY_MARSHAL_READS_WHOLE = 1,   /* a fixnum */
+    RUBY_MARSHAL_READS_DOUBLE = 2   /* a float whose text is a number */
+};
+
+/* A weighing's doubles. */
+enum ruby_marshal_weighing {
+    RUBY_MARSHAL_DRY = 0,
+    RUBY_MARSHAL_MOISTURE = 1,
+    RUBY_MARSHAL_WET = 2
 };
 
 /* ---- the arena ----
@@ -247,6 +271,49 @@ uint32_t ruby_marshal_get_symbol(
     const uint8_t *bytes, size_t bytes_length,
     size_t node_count, size_t reference_count, size_t byte_count, uint32_t root,
     uint32_t handle,
+    uint64_t *answer, size_t answer_length);
+
+/* ---- numbers and weighings ----
+ *
+ * A fixnum reads as a whole number. A float reads as a double where its text is an optional minus, then 1 to 15 digits, with
+ * at most one point among them and a digit on each side of it: the double nearest to that decimal; "-0" is negative zero.
+ * Nothing else reads as a number: not a bignum, however small, nor a text with an exponent. Ruby writes 100.0 as 1e2 and
+ * 1200.0 as 1.2e3, so a round weight that Ruby saved as a float is no weight here; saved as a fixnum it is one.
+ */
+
+/*
+ * Reads a node as a number. Tests the tables (1, slices 1 2 3), the whole arena (2), then its handle (13). That a node is no
+ * number is an answer and no refusal.
+ *
+ * Answers: details, what the node reads as (enum ruby_marshal_reading), the whole number; and the double.
+ * The whole number is 0, and the double positive zero, unless the node reads as one.
+ */
+uint32_t ruby_marshal_reading(
+    const uint32_t *nodes, size_t nodes_length,
+    const uint32_t *references, size_t references_length,
+    const uint8_t *bytes, size_t bytes_length,
+    size_t node_count, size_t reference_count, size_t byte_count, uint32_t root,
+    uint32_t handle,
+    double *number, size_t number_length,
+    uint64_t *answer, size_t answer_length);
+
+/*
+ * Wet weight from the nodes of a dry weight and a moisture: dry / (1 - moisture), rounded at each of the two operations.
+ *
+ * Answers: details; and the weighing's three doubles, dry, moisture and wet (enum ruby_marshal_weighing). Dry and moisture are
+ * what the nodes read as, whole numbers converted exactly. Negative zero is not below 0: a dry weight of "-0" is accepted, and
+ * dry and wet are negative zero then.
+ * Tests the tables (1, slices 1 2 3), the whole arena (2), both handles, dry before moisture (13); then the dry node, its kind,
+ * text and sign, and after it the moisture node's kind and text (17, with the node); then the moisture (18).
+ * Refused: the three doubles are positive zeros, unless too few words or doubles are lent.
+ */
+uint32_t ruby_marshal_wet_weight(
+    const uint32_t *nodes, size_t nodes_length,
+    const uint32_t *references, size_t references_length,
+    const uint8_t *bytes, size_t bytes_length,
+    size_t node_count, size_t reference_count, size_t byte_count, uint32_t root,
+    uint32_t dry, uint32_t moisture,
+    double *weighing, size_t weighing_length,
     uint64_t *answer, size_t answer_length);
 
 /* ---- builder ---- */
@@ -417,6 +484,13 @@ static inline int64_t ruby_marshal_detail(const uint64_t *answer)
     return word <= INT64_MAX ? (int64_t)word : -(int64_t)~word - 1;
 }
 
+/* The whole number that a node reads as. */
+static inline int32_t ruby_marshal_whole(const uint64_t *answer)
+{
+    uint64_t word = answer[RUBY_MARSHAL_WHOLE];
+    return word <= INT32_MAX ? (int32_t)word : -(int32_t)~word - 1;
+}
+
 /* A fixnum's word 1 as a number. */
 static inline int32_t ruby_marshal_fixnum(uint32_t word)
 {
@@ -451,6 +525,8 @@ static inline const char *ruby_marshal_name(uint32_t returned)
     case RUBY_MARSHAL_WRONG_KIND: return "WRONG-KIND";
     case RUBY_MARSHAL_BAD_SIGN: return "BAD-SIGN";
     case RUBY_MARSHAL_TOO_BIG: return "TOO-BIG";
+    case RUBY_MARSHAL_NOT_A_WEIGHT: return "NOT-A-WEIGHT";
+    case RUBY_MARSHAL_BAD_MOISTURE: return "BAD-MOISTURE";
     default: return "?";
     }
 }

@@ -4,14 +4,19 @@ A corpus is a folder of *.jsonl files, a case a line. Several are read in order:
 changed.jsonl gives cases of the folders before it, named by `file` and `id`, as they are from then on; `gone` takes one out.
 A request's changed.jsonl speaks of the first folder alone. Cases of the folders between that answer otherwise from a request on
 are in tools/changed, in a file of the request's name, by hand from the documents; `file` there is the folder's name and the file's.
+Cases of the folder `functions` are marked where they are of requests that may be in or not; `runs` reads the marks.
 """
-import json, os, struct
+import json, os, re, struct
 
 TOP = os.path.dirname(os.path.dirname(os.path.abspath(__file__)))
 CHANGED = os.path.join(TOP, "tools", "changed")
 
 # The files of a corpus, by the call that their cases are of.
-FILES = {"load": ["load-tight", "load-list", "saved", "load"], "dump": ["dump"], "build": ["build"], "pairs": ["pairs"]}
+FILES = {"load": ["load-tight", "load-list", "saved", "load"], "dump": ["dump"], "build": ["build"], "pairs": ["pairs"],
+         "weigh": ["weigh"]}
+
+# The requests of document 02 that are in, as the marks name them.
+IN = {"2.1", "2.2", "2.3", "2.4", "2.5"}
 
 
 def name_of(label):
@@ -166,6 +171,44 @@ def forms(pair):
         yield text, found
 
 
+def reading(case, handle):
+    """What a node of the arena reads as, after 2.5: 0 for no number, 1 for a whole one, 2 for a double, and the number."""
+    kind, first, length = case["nodes"][7 * handle:7 * handle + 3]
+    if kind == 2:
+        return 1, first - (first >> 31 << 32)
+    text = bytes.fromhex(case["bytes"])[first:first + length]
+    found = re.fullmatch(rb"(-?)([0-9]+)(?:\.([0-9]+))?", text) if kind == 9 else None
+    whole, part = (found[2], found[3] or b"") if found else (b"", b"")
+    if not 1 <= len(whole + part) <= 15:
+        return 0, 0
+    size = int(whole + part) / 10 ** len(part)
+    return 2, -size if found[1] else size
+
+
+def bits(x):
+    """A double's 64 bits."""
+    return struct.unpack("<Q", struct.pack("<d", x))[0]
+
+
+def read(case, handle):
+    """What reading answers of a handle: three numbers, and what the node reads as, no number where it is refused."""
+    if case["answer"][0] in (1, 2):
+        return case["answer"], (0, 0)
+    if handle >= case["counts"][0]:
+        return [13, handle, 0], (0, 0)
+    return [0, 0, 0], reading(case, handle)
+
+
+def settle_weighing(case):
+    """A weighing's bits as numbers. What a case says must be what its nodes read as, and what Python's doubles make of that."""
+    case["weighing"] = [int(x, 16) for x in case["weighing"]]
+    if case["answer"][0] == 0:
+        dry, moisture = (float(reading(case, case[x])[1]) for x in ("dry", "moisture"))
+        found = [bits(x) for x in (dry, moisture, dry / (1 - moisture))]
+        if found != case["weighing"]:
+            raise SystemExit("%s: weighing %s, worked out %s" % (case["id"], case["weighing"], found))
+
+
 def by_file(folders):
     """The cases of each file: by its name for the first folder, after the folder's name for the others."""
     found = {}
@@ -184,6 +227,8 @@ def by_file(folders):
             settle(c)
             if call(label) == "load":
                 settle_noted(c)
+            if call(label) == "weigh":
+                settle_weighing(c)
     return found
 
 
@@ -193,8 +238,12 @@ def later(label, case):
 
 
 def runs(case):
-    """Can the call be made? Not where a slice's length alone is given (huge), nor without sizes, which is a case of a program."""
-    return not case.get("huge") and ("in" not in case or "sizes" in case)
+    """Can the call be made? Not where a slice's length alone is given (huge), nor without sizes, which is a case of a program; and
+    does the case hold with the requests that are in?"""
+    if case.get("huge") or "in" in case and "sizes" not in case:
+        return False
+    of_later = case.get("all") or case.get("width") == 8 or set(case.get("needs", [])) - IN
+    return not of_later and not set(case.get("changes", [])) & IN
 
 
 def of(wanted, folders):

@@ -1,6 +1,6 @@
 /*
  * Calls every function, and tests what it returns, the answer words, and what is lent: accepted, refused, with every wrong
- * length of tables, and with too few answer words. Prints how many calls were made.
+ * length of tables, and with too few answer words or doubles. Prints how many calls were made.
  *
  * Each slice ends where a page ends that nothing may touch, so that an entry past the slice stops the program. (POSIX)
  */
@@ -53,6 +53,7 @@ struct bytes {
 static uint32_t *word_room[5];
 static uint8_t *byte_room[3];
 static uint64_t *answer_room;
+static double *double_room;
 
 static struct words words(int which, size_t length)
 {
@@ -86,6 +87,8 @@ struct lent {
     struct bytes output;
     uint64_t *answer;
     size_t answer_length;
+    double *doubles;
+    size_t doubles_length;
     struct ruby_marshal_counts counts;
 };
 
@@ -102,19 +105,22 @@ static struct lent lend(size_t input, size_t nodes, size_t references, size_t by
     l.output = bytes(OUTPUT, output);
     l.answer = answer_room + ROOM - RUBY_MARSHAL_ANSWER_WORDS;
     l.answer_length = RUBY_MARSHAL_ANSWER_WORDS;
+    l.doubles_length = RUBY_MARSHAL_WET_WEIGHT_DOUBLES + 1;
+    l.doubles = double_room + ROOM - l.doubles_length;
     memset(&l.counts, 0, sizeof l.counts);
     return l;
 }
 
 /* What all rooms hold, to be compared with later. */
-static uint8_t kept[5 * ROOM * 4 + 3 * ROOM + ROOM * 8];
+static uint8_t kept[5 * ROOM * 4 + 3 * ROOM + 2 * ROOM * 8];
 
 static size_t each_room(uint8_t *to, const uint8_t *other)
 {
     size_t at = 0, differ = 0;
     int i;
-    for (i = 0; i < 9; i++) {
-        const uint8_t *room = i < 5 ? (const uint8_t *)word_room[i] : i < 8 ? byte_room[i - 5] : (const uint8_t *)answer_room;
+    for (i = 0; i < 10; i++) {
+        const uint8_t *room = i < 5 ? (const uint8_t *)word_room[i]
+            : i < 8 ? byte_room[i - 5] : i < 9 ? (const uint8_t *)answer_room : (const uint8_t *)double_room;
         size_t size = i < 5 ? ROOM * 4 : i < 8 ? ROOM : ROOM * 8;
         if (to != NULL)
             memcpy(to + at, room, size);
@@ -138,23 +144,25 @@ static bool untouched(void)
 /* ---- each function over what is lent ---- */
 
 enum call {
-    LOAD, LOAD_MEASURED, DUMP, ROOT, KIND, GET, GET_SYMBOL, NEW, REPLACE_ROOT, CREATE_NIL, CREATE_BOOL, CREATE_FIXNUM,
+    LOAD, LOAD_MEASURED, DUMP, ROOT, KIND, GET, GET_SYMBOL, READING, WET_WEIGHT, NEW, REPLACE_ROOT, CREATE_NIL, CREATE_BOOL, CREATE_FIXNUM,
     CREATE_SYMBOL, CREATE_NEW_SYMBOL, CREATE_ARRAY, CREATE_HASH, CREATE_OBJECT, CREATE_STRING, CREATE_USER_DEFINED,
     CREATE_FLOAT, CREATE_BIGNUM, CALLS
 };
 
 static const size_t answer_words[CALLS] = {
     RUBY_MARSHAL_LOAD_WORDS, RUBY_MARSHAL_LOAD_MEASURED_WORDS, RUBY_MARSHAL_DUMP_WORDS, RUBY_MARSHAL_ROOT_WORDS,
-    RUBY_MARSHAL_KIND_WORDS, RUBY_MARSHAL_GET_WORDS, RUBY_MARSHAL_GET_SYMBOL_WORDS, RUBY_MARSHAL_NEW_WORDS,
+    RUBY_MARSHAL_KIND_WORDS, RUBY_MARSHAL_GET_WORDS, RUBY_MARSHAL_GET_SYMBOL_WORDS, RUBY_MARSHAL_READING_WORDS,
+    RUBY_MARSHAL_WET_WEIGHT_WORDS, RUBY_MARSHAL_NEW_WORDS,
     RUBY_MARSHAL_CREATE_WORDS, RUBY_MARSHAL_CREATE_WORDS, RUBY_MARSHAL_CREATE_WORDS, RUBY_MARSHAL_CREATE_WORDS,
     RUBY_MARSHAL_CREATE_WORDS, RUBY_MARSHAL_CREATE_WORDS, RUBY_MARSHAL_CREATE_WORDS, RUBY_MARSHAL_CREATE_WORDS,
     RUBY_MARSHAL_CREATE_WORDS, RUBY_MARSHAL_CREATE_WORDS, RUBY_MARSHAL_CREATE_WORDS, RUBY_MARSHAL_CREATE_WORDS,
     RUBY_MARSHAL_CREATE_WORDS
 };
 
-/* What the functions take besides: a limit or handle, a number, a bignum, words, bytes. */
+/* What the functions take besides: a limit or handle, a second handle, a number, a bignum, words, bytes. */
 struct given {
     uint32_t number;
+    uint32_t other;
     int32_t value;
     bool minus;
     uint64_t magnitude;
@@ -169,6 +177,7 @@ struct given {
 #define LISTS l->symbols.at, l->symbols.length, l->objects.at, l->objects.length
 #define COUNTS l->counts.nodes, l->counts.references, l->counts.bytes, l->counts.root
 #define ANSWER l->answer, l->answer_length
+#define DOUBLES l->doubles, l->doubles_length
 
 static uint32_t call(enum call which, const struct lent *l, struct given g)
 {
@@ -182,6 +191,8 @@ static uint32_t call(enum call which, const struct lent *l, struct given g)
     case KIND: return ruby_marshal_kind(TABLES, COUNTS, g.number, ANSWER);
     case GET: return ruby_marshal_get(TABLES, COUNTS, g.number, ANSWER);
     case GET_SYMBOL: return ruby_marshal_get_symbol(TABLES, COUNTS, g.number, ANSWER);
+    case READING: return ruby_marshal_reading(TABLES, COUNTS, g.number, DOUBLES, ANSWER);
+    case WET_WEIGHT: return ruby_marshal_wet_weight(TABLES, COUNTS, g.number, g.other, DOUBLES, ANSWER);
     case NEW: return ruby_marshal_new(TABLES, ANSWER);
     case REPLACE_ROOT: return ruby_marshal_replace_root(TABLES, COUNTS, g.number, ANSWER);
     case CREATE_NIL: return ruby_marshal_create_nil(TABLES, COUNTS, ANSWER);
@@ -212,6 +223,13 @@ static struct given give(uint32_t number)
     g.number = number;
     g.list = no_words;
     g.string = (const uint8_t *)"";
+    return g;
+}
+
+static struct given give_two(uint32_t number, uint32_t other)
+{
+    struct given g = give(number);
+    g.other = other;
     return g;
 }
 
@@ -431,6 +449,75 @@ static void bignums(void)
     }
 }
 
+/* The same double, the sign of zero too. */
+static bool same(double a, double b)
+{
+    return memcmp(&a, &b, sizeof a) == 0;
+}
+
+/* What nodes read as, and weighings of them. */
+static void weighings(void)
+{
+    static const struct {
+        const char *text;
+        uint64_t reads_as;
+        double number;
+    } texts[] = {
+        { "0.25", RUBY_MARSHAL_READS_DOUBLE, 0.25 },
+        { "-0", RUBY_MARSHAL_READS_DOUBLE, -0.0 },
+        { "0.3", RUBY_MARSHAL_READS_DOUBLE, 0.3 },
+        { "-12.50", RUBY_MARSHAL_READS_DOUBLE, -12.5 },
+        { "999999999999999", RUBY_MARSHAL_READS_DOUBLE, 999999999999999.0 },
+        { "9999999999999999", RUBY_MARSHAL_READS_NOTHING, 0.0 },
+        { "1e2", RUBY_MARSHAL_READS_NOTHING, 0.0 },
+        { ".5", RUBY_MARSHAL_READS_NOTHING, 0.0 },
+        { "5.", RUBY_MARSHAL_READS_NOTHING, 0.0 },
+        { "", RUBY_MARSHAL_READS_NOTHING, 0.0 },
+    };
+    struct lent l = lend(0, 16 * 7, 0, 80, 0, 0, 0);
+    uint32_t nil, least, kilograms, big, text[10];
+    size_t i;
+
+    accepted(NEW, &l, give(0));
+    nil = made(CREATE_NIL, &l, give(0));
+    least = made(CREATE_FIXNUM, &l, give_value(INT32_MIN));
+    kilograms = made(CREATE_FIXNUM, &l, give_value(600));
+    big = made(CREATE_BIGNUM, &l, give_bignum(false, 1));
+    l.doubles[RUBY_MARSHAL_READING_DOUBLES] = 7.5;
+    for (i = 0; i < sizeof texts / sizeof texts[0]; i++) {
+        text[i] = made(CREATE_FLOAT, &l, give_string(0, texts[i].text));
+        accepted(READING, &l, give(text[i]));
+        EXPECT(l.answer[RUBY_MARSHAL_READS_AS] == texts[i].reads_as && l.answer[RUBY_MARSHAL_WHOLE] == 0);
+        EXPECT(same(l.doubles[0], texts[i].number) && l.doubles[RUBY_MARSHAL_READING_DOUBLES] == 7.5);
+    }
+    accepted(READING, &l, give(least));
+    EXPECT(l.answer[RUBY_MARSHAL_READS_AS] == RUBY_MARSHAL_READS_WHOLE && ruby_marshal_whole(l.answer) == INT32_MIN);
+    accepted(READING, &l, give(kilograms));
+    EXPECT(l.answer[RUBY_MARSHAL_READS_AS] == RUBY_MARSHAL_READS_WHOLE && ruby_marshal_whole(l.answer) == 600);
+    EXPECT(same(l.doubles[0], 0.0));
+    accepted(READING, &l, give(big));
+    EXPECT(l.answer[RUBY_MARSHAL_READS_AS] == RUBY_MARSHAL_READS_NOTHING);
+    refused(READING, &l, give(99), RUBY_MARSHAL_BAD_HANDLE, 99, 0);
+    EXPECT(zero(l.answer + RUBY_MARSHAL_READS_AS, 2 * 8));
+
+    l.doubles[RUBY_MARSHAL_WET_WEIGHT_DOUBLES] = 7.5;
+    accepted(WET_WEIGHT, &l, give_two(kilograms, text[0]));
+    EXPECT(same(l.doubles[RUBY_MARSHAL_DRY], 600) && same(l.doubles[RUBY_MARSHAL_MOISTURE], 0.25));
+    EXPECT(same(l.doubles[RUBY_MARSHAL_WET], 800));
+    accepted(WET_WEIGHT, &l, give_two(text[1], text[1]));
+    EXPECT(same(l.doubles[RUBY_MARSHAL_DRY], -0.0) && same(l.doubles[RUBY_MARSHAL_MOISTURE], -0.0));
+    EXPECT(same(l.doubles[RUBY_MARSHAL_WET], -0.0));
+    refused(WET_WEIGHT, &l, give_two(99, 98), RUBY_MARSHAL_BAD_HANDLE, 99, 0);
+    refused(WET_WEIGHT, &l, give_two(text[3], nil), RUBY_MARSHAL_NOT_A_WEIGHT, text[3], 0);
+    refused(WET_WEIGHT, &l, give_two(kilograms, nil), RUBY_MARSHAL_NOT_A_WEIGHT, nil, 0);
+    refused(WET_WEIGHT, &l, give_two(big, kilograms), RUBY_MARSHAL_NOT_A_WEIGHT, big, 0);
+    refused(WET_WEIGHT, &l, give_two(kilograms, text[3]), RUBY_MARSHAL_BAD_MOISTURE, 0, 0);
+    refused(WET_WEIGHT, &l, give_two(kilograms, kilograms), RUBY_MARSHAL_BAD_MOISTURE, 0, 0);
+    EXPECT(zero(l.doubles, RUBY_MARSHAL_WET_WEIGHT_DOUBLES * 8) && l.doubles[RUBY_MARSHAL_WET_WEIGHT_DOUBLES] == 7.5);
+    EXPECT(strcmp(ruby_marshal_name(RUBY_MARSHAL_NOT_A_WEIGHT), "?") != 0);
+    EXPECT(strcmp(ruby_marshal_name(RUBY_MARSHAL_BAD_MOISTURE), "?") != 0);
+}
+
 /* An array that is its own member: a pass over the nodes ends, and so does dump. */
 static void cycle(void)
 {
@@ -594,7 +681,31 @@ static void few_words(void)
     }
 }
 
-/* Tables of every wrong length: of every function that takes them, nothing but the answer is touched. */
+/* Of the two that answer doubles: too few of them touch nothing; the number stated is enough. */
+static void few_doubles(void)
+{
+    int which;
+    size_t n;
+    for (which = READING; which <= WET_WEIGHT; which++) {
+        size_t enough = which == READING ? RUBY_MARSHAL_READING_DOUBLES : RUBY_MARSHAL_WET_WEIGHT_DOUBLES;
+        for (n = 0; n <= enough; n++) {
+            struct lent l = lend(0, 7, 0, 0, 0, 0, 0);
+            memset(l.nodes.at, 0, l.nodes.length * 4);
+            l.counts.nodes = 1;
+            l.doubles = double_room + ROOM - n;
+            l.doubles_length = n;
+            keep();
+            if (n < enough) {
+                EXPECT(call((enum call)which, &l, give(0)) == RUBY_MARSHAL_BAD_TABLES);
+                EXPECT(untouched());
+            } else {
+                EXPECT(call((enum call)which, &l, give(0)) != RUBY_MARSHAL_BAD_TABLES);
+            }
+        }
+    }
+}
+
+/* Tables of every wrong length: of every function that takes them, nothing but the answer is touched, doubles are zeros. */
 static void lengths(void)
 {
     int which;
@@ -607,6 +718,7 @@ static void lengths(void)
             memset(l.nodes.at, 0, n * 4);
             l.counts.nodes = 1;
             memset(l.answer, 0, RUBY_MARSHAL_ANSWER_WORDS * 8);
+            memset(l.doubles, 0, l.doubles_length * 8);
             keep();
             returned = call((enum call)which, &l, give(which <= DUMP ? 1 : 0));
             if (n == 0 || n % RUBY_MARSHAL_NODE_WORDS != 0) {
@@ -639,13 +751,16 @@ int main(void)
     for (i = 0; i < 3; i++)
         byte_room[i] = (uint8_t *)slice(ROOM);
     answer_room = (uint64_t *)slice(ROOM * 8);
+    double_room = (double *)slice(ROOM * 8);
     build_dump_load();
     bignums();
+    weighings();
     cycle();
     dump_form();
     measured();
     refusals();
     few_words();
+    few_doubles();
     lengths();
     printf("%d functions, %lu calls\n", CALLS, calls);
     return 0;

@@ -1,6 +1,6 @@
 //! Tables that are lent, and the arena that they hold.
 use crate::value::{Node, Nodes};
-use crate::{calls, Counts, Handle, Measures, Refusal, NODE_WORDS};
+use crate::{calls, Counts, Handle, Measures, Reading, Refusal, Weighing, NODE_WORDS};
 use core::fmt;
 
 /// An arena's three tables, lent.
@@ -133,6 +133,23 @@ impl<'t> Arena<'t> {
     /// The byte table, whole.
     pub fn byte_table(&self) -> &'t [u8] {
         self.bytes
+    }
+
+    /// What a node reads as. Refused is only a handle of no node.
+    pub fn reading(&self, handle: Handle) -> Result<Reading, Refusal> {
+        calls::reading(self.node_table(), self.references, self.bytes, self.counts, handle.number())
+    }
+
+    /// The weighing of a dry and a moisture node: dry ÷ (1 − moisture), rounded at each of the two operations.
+    ///
+    /// Refused, in this order: a handle of no node, dry before moisture ([`Refusal::BadHandle`]); a dry node that reads as no
+    /// number or as one below 0, then a moisture node that reads as none ([`Refusal::NotAWeight`]); a moisture below 0 or above
+    /// 0.5 ([`Refusal::BadMoisture`]). Negative zero is not below 0.
+    ///
+    /// Ruby writes 100.0 as `1e2`, which is no weight; see [`Reading`].
+    pub fn wet_weight(&self, dry: Handle, moisture: Handle) -> Result<Weighing, Refusal> {
+        let (dry, moisture) = (dry.number(), moisture.number());
+        calls::wet_weight(self.node_table(), self.references, self.bytes, self.counts, dry, moisture)
     }
 
     /// How many words [`Arena::dump`] wants of scratch: one for each node that the node table can hold.

@@ -2,7 +2,7 @@
 //!
 //! They take whatever the slices and counts hold: tables that are no arena are refused. Every call but [`load`],
 //! [`load_measured`] and [`new`] looks through the whole arena first; an [`Arena`](crate::Arena) is read without that.
-use crate::{sys, Counts, Measures, Refusal};
+use crate::{sys, Counts, Measures, Reading, Refusal, Weighing};
 
 /// What [`load`] answers.
 #[derive(Clone, Copy, Debug, PartialEq, Eq)]
@@ -136,6 +136,32 @@ pub fn get_symbol(nodes: &[u32], references: &[u32], bytes: &[u8], counts: Count
     let told = sys::get_symbol(nodes, references, bytes, counts, handle);
     Refusal::of(told.number, &told.words)?;
     Ok((told.words[2] as u32, told.words[3] as u32))
+}
+
+/// What a node reads as.
+pub fn reading(nodes: &[u32], references: &[u32], bytes: &[u8], counts: Counts, handle: u32) -> Result<Reading, Refusal> {
+    let sys::WithDoubles { told, doubles } = sys::reading(nodes, references, bytes, counts, handle);
+    Refusal::of(told.number, &told.words)?;
+    Ok(match told.words[2] {
+        1 => Reading::Whole(told.words[3] as i32),
+        2 => Reading::Double(doubles[0]),
+        _ => Reading::NotANumber,
+    })
+}
+
+/// The weighing of a dry and a moisture node.
+pub fn wet_weight(
+    nodes: &[u32],
+    references: &[u32],
+    bytes: &[u8],
+    counts: Counts,
+    dry: u32,
+    moisture: u32,
+) -> Result<Weighing, Refusal> {
+    let sys::WithDoubles { told, doubles } = sys::wet_weight(nodes, references, bytes, counts, dry, moisture);
+    Refusal::of(told.number, &told.words)?;
+    let [dry, moisture, wet] = doubles;
+    Ok(Weighing { dry, moisture, wet })
 }
 
 /// An arena that holds nil.

@@ -5,12 +5,14 @@
 //!
 //! [`load`] reads bytes into [`Tables`] and gives an [`Arena`]; [`Arena::root`] and the views below it ([`Node`], [`Value`])
 //! read it in place; [`Arena::dump`] writes it, and [`Arena::dump_form`] tells whether the input was already as it writes; a
-//! [`Builder`] makes one node by node. [`load_measured`] also counts what a load copied and compared. Nothing is allocated,
-//! except by what the feature `alloc` adds (`OwnedTables`, `Arena::dump_to_vec`). [`calls`] has the functions themselves, on
-//! slices and counts.
+//! [`Builder`] makes one node by node. [`Arena::reading`] reads a node as a number, and [`Arena::wet_weight`] gives wet weight
+//! from dry weight and moisture. [`load_measured`] also counts what a load copied and compared. Nothing is allocated, except
+//! by what the feature `alloc` adds (`OwnedTables`, `Arena::dump_to_vec`). [`calls`] has the functions themselves, on slices
+//! and counts.
 //!
 //! An [`Arena`] is well formed: only an accepted load or builder call, or the archive's own check, makes one, and while it lives
-//! its tables are borrowed. So a view looks at the words of its node alone, and the archive is not called.
+//! its tables are borrowed. So a view looks at the words of its node alone, and the archive is not called. (For a reading, a
+//! weighing and a dump it is, and looks through the whole arena first.)
 //!
 //! A value may hold itself, as `a = []; a << a` does in Ruby. Every iterator here ends, since it goes over one node's list;
 //! a walk that goes on into the members has to see for itself that it ends, for instance by [`Node::handle`].
@@ -83,6 +85,32 @@ pub struct Measures {
     /// the order of nodes, up to and including the first difference, and the search ends at the symbol of that name. A link
     /// to a name compares nothing.
     pub compared: u64,
+}
+
+/// A node read as a number.
+///
+/// A float reads as a double where its text is an optional minus, then 1 to 15 digits, with at most one point among them and a
+/// digit on each side of it. Ruby writes 100.0 as `1e2` and 1200.0 as `1.2e3`, which read as no number; a whole number of
+/// kilograms that is saved as a fixnum reads.
+#[derive(Clone, Copy, Debug, PartialEq)]
+pub enum Reading {
+    /// A fixnum.
+    Whole(i32),
+    /// A float: the double nearest to the decimal; `-0` is negative zero.
+    Double(f64),
+    /// Another kind, a bignum too, or another text.
+    NotANumber,
+}
+
+/// Dry weight, moisture and wet weight; whole numbers are converted exactly.
+#[derive(Clone, Copy, Debug, PartialEq)]
+pub struct Weighing {
+    /// Not below 0.
+    pub dry: f64,
+    /// From 0 to 0.5.
+    pub moisture: f64,
+    /// dry ÷ (1 − moisture)
+    pub wet: f64,
 }
 
 /// A node's number: nodes count from 0 in the order in which they were added.

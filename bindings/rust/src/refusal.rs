@@ -91,7 +91,7 @@ pub enum Fault {
     Node(u32),
 }
 
-/// Why a call is refused: the sixteen numbers of documents 01 and 02 with their details.
+/// Why a call is refused: the eighteen numbers of documents 01 and 02 with their details.
 #[derive(Clone, Copy, Debug, PartialEq, Eq, Hash)]
 #[non_exhaustive]
 pub enum Refusal {
@@ -132,6 +132,10 @@ pub enum Refusal {
     BadSign(u8),
     /// A bignum of this many units: more than 4, or a magnitude above 2^63 − 1, which takes 4.
     TooBig(u32),
+    /// A node that reads as no number where a weight is wanted, or a dry weight below 0.
+    NotAWeight(u32),
+    /// A moisture below 0 or above 0.5.
+    BadMoisture,
     /// A number that this crate doesn't know: the archive is of another version.
     Other {
         /// What was returned.
@@ -166,11 +170,13 @@ impl Refusal {
             14 => Refusal::WrongKind(first as u32),
             15 => Refusal::BadSign(first as u8),
             16 => Refusal::TooBig(first as u32),
+            17 => Refusal::NotAWeight(first as u32),
+            18 => Refusal::BadMoisture,
             _ => Refusal::Other { number, first: first as i64, second },
         })
     }
 
-    /// The number in documents 01 and 02, 1 to 16.
+    /// The number in documents 01 and 02, 1 to 18.
     pub fn number(self) -> u32 {
         match self {
             Refusal::BadTables(_) => 1,
@@ -189,6 +195,8 @@ impl Refusal {
             Refusal::WrongKind(_) => 14,
             Refusal::BadSign(_) => 15,
             Refusal::TooBig(_) => 16,
+            Refusal::NotAWeight(_) => 17,
+            Refusal::BadMoisture => 18,
             Refusal::Other { number, .. } => number,
         }
     }
@@ -199,7 +207,7 @@ impl Refusal {
             Refusal::BadTables(slice) | Refusal::NoSpace(slice) => (slice.number().into(), 0),
             Refusal::BadArena(Fault::Counts) => (-1, 0),
             Refusal::InvalidVersion { major, minor } => (major.into(), minor.into()),
-            Refusal::ShortInput | Refusal::NotAnObject => (0, 0),
+            Refusal::ShortInput | Refusal::NotAnObject | Refusal::BadMoisture => (0, 0),
             Refusal::InvalidKind(byte) | Refusal::NotASymbol(byte) | Refusal::BadSign(byte) => (byte.into(), 0),
             Refusal::NegativeCount(value) => (value.into(), 0),
             Refusal::BadArena(Fault::Node(n))
@@ -208,7 +216,8 @@ impl Refusal {
             | Refusal::TooDeep(n)
             | Refusal::BadHandle(n)
             | Refusal::WrongKind(n)
-            | Refusal::TooBig(n) => (n.into(), 0),
+            | Refusal::TooBig(n)
+            | Refusal::NotAWeight(n) => (n.into(), 0),
             Refusal::Other { first, second, .. } => (first, second),
         }
     }
@@ -232,6 +241,8 @@ impl Refusal {
             Refusal::WrongKind(_) => "WRONG-KIND",
             Refusal::BadSign(_) => "BAD-SIGN",
             Refusal::TooBig(_) => "TOO-BIG",
+            Refusal::NotAWeight(_) => "NOT-A-WEIGHT",
+            Refusal::BadMoisture => "BAD-MOISTURE",
             Refusal::Other { .. } => "?",
         }
     }
@@ -257,6 +268,8 @@ impl fmt::Display for Refusal {
             Refusal::WrongKind(handle) => write!(f, "node {handle} is no symbol"),
             Refusal::BadSign(byte) => write!(f, "sign byte {byte:02X}, neither + nor -"),
             Refusal::TooBig(units) => write!(f, "a bignum of {units} units is too big"),
+            Refusal::NotAWeight(handle) => write!(f, "node {handle} is no weight"),
+            Refusal::BadMoisture => f.write_str("moisture below 0 or above 0.5"),
             Refusal::Other { number, first, second } => write!(f, "refusal {number}, {first}, {second}"),
         }
     }

@@ -80,6 +80,26 @@ mod archive {
             answer: *mut u64, answer_length: usize,
         ) -> u32;
 
+        pub fn ruby_marshal_reading(
+            nodes: *const u32, nodes_length: usize,
+            references: *const u32, references_length: usize,
+            bytes: *const u8, bytes_length: usize,
+            node_count: usize, reference_count: usize, byte_count: usize, root: u32,
+            handle: u32,
+            number: *mut f64, number_length: usize,
+            answer: *mut u64, answer_length: usize,
+        ) -> u32;
+
+        pub fn ruby_marshal_wet_weight(
+            nodes: *const u32, nodes_length: usize,
+            references: *const u32, references_length: usize,
+            bytes: *const u8, bytes_length: usize,
+            node_count: usize, reference_count: usize, byte_count: usize, root: u32,
+            dry: u32, moisture: u32,
+            weighing: *mut f64, weighing_length: usize,
+            answer: *mut u64, answer_length: usize,
+        ) -> u32;
+
         pub fn ruby_marshal_new(
             nodes: *mut u32, nodes_length: usize,
             references: *mut u32, references_length: usize,
@@ -212,6 +232,12 @@ mod archive {
 pub struct Told<const N: usize> {
     pub number: u32,
     pub words: [u64; N],
+}
+
+/// The same of a function that also answers doubles.
+pub struct WithDoubles<const N: usize, const D: usize> {
+    pub told: Told<N>,
+    pub doubles: [f64; D],
 }
 
 /// Handles as the words that they are.
@@ -359,6 +385,47 @@ pub fn get_symbol(nodes: &[u32], references: &[u32], bytes: &[u8], counts: Count
         )
     };
     Told { number, words }
+}
+
+pub fn reading(nodes: &[u32], references: &[u32], bytes: &[u8], counts: Counts, handle: u32) -> WithDoubles<4, 1> {
+    let (mut words, mut doubles) = ([0; 4], [0.0; 1]);
+    // SAFETY: each pointer and length are those of one live reference; only `words` and `doubles`, locals, are written.
+    let number = unsafe {
+        archive::ruby_marshal_reading(
+            nodes.as_ptr(), nodes.len(),
+            references.as_ptr(), references.len(),
+            bytes.as_ptr(), bytes.len(),
+            counts.nodes, counts.references, counts.bytes, counts.root,
+            handle,
+            doubles.as_mut_ptr(), doubles.len(),
+            words.as_mut_ptr(), words.len(),
+        )
+    };
+    WithDoubles { told: Told { number, words }, doubles }
+}
+
+pub fn wet_weight(
+    nodes: &[u32],
+    references: &[u32],
+    bytes: &[u8],
+    counts: Counts,
+    dry: u32,
+    moisture: u32,
+) -> WithDoubles<2, 3> {
+    let (mut words, mut doubles) = ([0; 2], [0.0; 3]);
+    // SAFETY: each pointer and length are those of one live reference; only `words` and `doubles`, locals, are written.
+    let number = unsafe {
+        archive::ruby_marshal_wet_weight(
+            nodes.as_ptr(), nodes.len(),
+            references.as_ptr(), references.len(),
+            bytes.as_ptr(), bytes.len(),
+            counts.nodes, counts.references, counts.bytes, counts.root,
+            dry, moisture,
+            doubles.as_mut_ptr(), doubles.len(),
+            words.as_mut_ptr(), words.len(),
+        )
+    };
+    WithDoubles { told: Told { number, words }, doubles }
 }
 
 pub fn new(nodes: &mut [u32], references: &mut [u32], bytes: &mut [u8]) -> Told<6> {

@@ -4,10 +4,10 @@
 #![cfg(feature = "alloc")]
 mod common;
 
-use common::{corpus, junk, junk_bytes, numbers, padded, Case, Json, LATER};
+use common::{corpus, junk, junk_bytes, numbers, padded, Case, Json, LATER, WEIGHINGS};
 use ruby_marshal_tables::{
-    calls, load_measured, load_prefix, Arena, Builder, Counts, Handle, Lists, Measures, Node, OwnedTables, Refusal, Slice,
-    Tables, Value, MAX_LIMIT,
+    calls, load_measured, load_prefix, Arena, Builder, Counts, Handle, Lists, Measures, Node, OwnedTables, Reading, Refusal,
+    Slice, Tables, Value, Weighing, MAX_LIMIT,
 };
 
 // The limit of the programs, under which the corpus has its answers.
@@ -472,6 +472,98 @@ fn build_cases() {
         }
     }
     println!("build: {accepted} accepted, {refused} refused, of {} functions", functions.len());
+}
+
+// ---- readings and weighings
+
+// What a node's words and text say, by Rust's own reader of decimals.
+fn words_read(words: &[u32], bytes: &[u8]) -> Reading {
+    match words[0] {
+        2 => Reading::Whole(words[1] as i32),
+        9 => {
+            let text = &bytes[words[1] as usize..][..words[2] as usize];
+            let text = std::str::from_utf8(text).unwrap_or("");
+            let size = text.strip_prefix('-').unwrap_or(text);
+            let parts: Vec<&str> = size.split('.').collect();
+            let digits = |part: &&str| !part.is_empty() && part.bytes().all(|byte| byte.is_ascii_digit());
+            let total: usize = parts.iter().map(|part| part.len()).sum();
+            if parts.len() <= 2 && parts.iter().all(digits) && total <= 15 {
+                Reading::Double(text.parse().expect("a decimal"))
+            } else {
+                Reading::NotANumber
+            }
+        }
+        _ => Reading::NotANumber,
+    }
+}
+
+// A reading with a double's bits, so that the sign of zero counts.
+fn reading_bits(reading: Reading) -> (i32, Option<u64>) {
+    match reading {
+        Reading::Whole(n) => (n, None),
+        Reading::Double(x) => (1, Some(x.to_bits())),
+        Reading::NotANumber => (0, Some(0)),
+    }
+}
+
+fn weighing_bits(weighing: Weighing) -> Vec<u64> {
+    [weighing.dry, weighing.moisture, weighing.wet].map(f64::to_bits).to_vec()
+}
+
+fn weigh_case(case: &Case) -> bool {
+    let (nodes, references, bytes) = (case.words("nodes"), case.words("refs"), case.bytes("bytes"));
+    let counts = case.counts("counts");
+    let [dry, moisture] = ["dry", "moisture"].map(|name| case.field(name).number() as u32);
+    let bits = case.field("weighing").list().iter().map(|x| u64::from_str_radix(x.text(), 16).expect("64 bits"));
+    let expected: Vec<u64> = bits.collect();
+    let weighed = calls::wet_weight(&nodes, &references, &bytes, counts, dry, moisture);
+    assert_eq!(numbers(&weighed), case.answer(), "{}", case.id());
+    assert_eq!(weighed.map_or(vec![0; 3], weighing_bits), expected, "{}", case.id());
+
+    let arena = Arena::check(&nodes, &references, &bytes, counts);
+    assert_eq!(arena.is_err(), matches!(case.answer().0, 1 | 2), "{}", case.id());
+    for handle in [dry, moisture] {
+        let read = calls::reading(&nodes, &references, &bytes, counts, handle);
+        match &arena {
+            Err(refusal) => assert_eq!(read, Err(*refusal), "{}", case.id()),
+            Ok(_) if handle as usize >= counts.nodes => assert_eq!(read, Err(Refusal::BadHandle(handle)), "{}", case.id()),
+            Ok(arena) => {
+                let said = words_read(&nodes[7 * handle as usize..], &bytes);
+                assert_eq!(read.map(reading_bits), Ok(reading_bits(said)), "{}", case.id());
+                assert_eq!(arena.reading(Handle::new(handle)).map(reading_bits), Ok(reading_bits(said)), "{}", case.id());
+            }
+        }
+    }
+    if let Ok(arena) = arena {
+        let again = arena.wet_weight(Handle::new(dry), Handle::new(moisture));
+        assert_eq!(again.map(weighing_bits), weighed.map(weighing_bits), "{}", case.id());
+    }
+    weighed.is_ok()
+}
+
+// Slices past the greatest length.
+fn huge_weighing(case: &Case) -> Option<()> {
+    let sizes: Vec<usize> = case.field("sizes").list().iter().map(|n| n.number() as usize).collect();
+    let (nodes, references, bytes) = (huge::<u32>(sizes[0])?, huge::<u32>(sizes[1])?, huge::<u8>(sizes[2])?);
+    let (dry, moisture) = (case.size("dry") as u32, case.size("moisture") as u32);
+    let weighed = calls::wet_weight(&nodes, &references, &bytes, case.counts("counts"), dry, moisture);
+    assert_eq!(numbers(&weighed), case.answer(), "{}", case.id());
+    Some(())
+}
+
+#[test]
+fn weighings() {
+    let (mut accepted, mut refused, mut large) = (0, 0, 0);
+    for case in corpus(WEIGHINGS) {
+        if case.has("huge") {
+            large += usize::from(huge_weighing(&case).is_some());
+        } else if weigh_case(&case) {
+            accepted += 1;
+        } else {
+            refused += 1;
+        }
+    }
+    println!("weigh: {accepted} accepted, {refused} refused, {large} with slices past the greatest length");
 }
 
 // ---- pairs

@@ -2,7 +2,7 @@
 mod common;
 
 use common::{junk, junk_bytes};
-use ruby_marshal_tables::{calls, Arena, Builder, Counts, Lists, Measures, Refusal, Slice, Tables};
+use ruby_marshal_tables::{calls, Arena, Builder, Counts, Lists, Measures, Reading, Refusal, Slice, Tables};
 
 const INPUT: &[u8] = b"\x04\x08[\x07:\x06a\"\x06b";
 const COUNTS: Counts = Counts { nodes: 1, references: 0, bytes: 0, root: 0 };
@@ -142,6 +142,10 @@ fn getters_and_builders_over_every_length() {
         assert_eq!(calls::get(&n, &r, &b, c, 0), if wrong { Err(Refusal::BadTables(Slice::Nodes)) } else { Ok([0; 7]) });
         let symbol = calls::get_symbol(&n, &r, &b, c, 0);
         assert_eq!(symbol, Err(if wrong { Refusal::BadTables(Slice::Nodes) } else { Refusal::WrongKind(0) }));
+        let reading = calls::reading(&n, &r, &b, c, 0);
+        assert_eq!(reading, if wrong { Err(Refusal::BadTables(Slice::Nodes)) } else { Ok(Reading::NotANumber) });
+        let weighed = calls::wet_weight(&n, &r, &b, c, 0, 1);
+        assert_eq!(weighed, Err(if wrong { Refusal::BadTables(Slice::Nodes) } else { Refusal::BadHandle(1) }));
         let room = if wrong {
             Err(Refusal::BadTables(Slice::Nodes))
         } else if nodes == 1 {
@@ -190,7 +194,7 @@ fn getters_and_builders_over_every_length() {
         }
         let begun = Builder::new(Tables { nodes: &mut n, references: &mut r, bytes: &mut b }).map(|_| ());
         assert_eq!(begun, if wrong { Err(Refusal::BadTables(Slice::Nodes)) } else { Ok(()) });
-        calls_made += 17;
+        calls_made += 19;
     }
     println!("getters and builders: {calls_made} calls");
 }

@@ -4,8 +4,8 @@ mod common;
 
 use common::numbers;
 use ruby_marshal_tables::{
-    calls, load, load_prefix, Arena, Builder, Counts, Fault, Handle, Kind, Lists, Measures, Node, OwnedTables, Refusal, Slice,
-    Tables, Value, MAX_LIMIT, NODE_WORDS,
+    calls, load, load_prefix, Arena, Builder, Counts, Fault, Handle, Kind, Lists, Measures, Node, OwnedTables, Reading,
+    Refusal, Slice, Tables, Value, Weighing, MAX_LIMIT, NODE_WORDS,
 };
 use std::error::Error;
 
@@ -302,6 +302,62 @@ fn the_calls_that_create() {
     assert_eq!(arena.nodes().next_back().unwrap().as_bignum(), Some(-((6 << 32) + 5)));
 }
 
+// What nodes read as, and weighings: doubles to the bit, refusals in their order.
+#[test]
+fn readings_and_weighings() {
+    let texts: &[(&[u8], Option<f64>)] = &[
+        (b"0.25", Some(0.25)),
+        (b"-0", Some(-0.0)),
+        (b"0.3", Some(0.3)),
+        (b"-12.50", Some(-12.5)),
+        (b"0.5", Some(0.5)),
+        (b"0.500000000000001", None), // 16 digits
+        (b"0.50000000000001", Some(0.50000000000001)),
+        (b"1e2", None), // 100.0 as Ruby writes it
+        (b".5", None),
+        (b"5.", None),
+        (b"", None),
+    ];
+    let mut tables = OwnedTables::new(20, 0, 100);
+    let mut builder = tables.builder().unwrap();
+    let nil = builder.create_nil().unwrap();
+    let kilograms = builder.create_fixnum(600).unwrap();
+    let least = builder.create_fixnum(i32::MIN).unwrap();
+    let one = builder.create_bignum(1).unwrap();
+    let float: Vec<Handle> = texts.iter().map(|(text, _)| builder.create_float(text).unwrap()).collect();
+    let arena = builder.arena();
+    let bits = |x: f64| x.to_bits();
+    for (&handle, (text, expected)) in float.iter().zip(texts) {
+        match arena.reading(handle).unwrap() {
+            Reading::Double(x) => assert_eq!(Some(bits(x)), expected.map(bits), "{text:?}"),
+            other => assert_eq!((other, *expected), (Reading::NotANumber, None), "{text:?}"),
+        }
+    }
+    assert_eq!(arena.reading(kilograms), Ok(Reading::Whole(600)));
+    assert_eq!(arena.reading(least), Ok(Reading::Whole(i32::MIN)));
+    assert_eq!((arena.reading(nil), arena.reading(one)), (Ok(Reading::NotANumber), Ok(Reading::NotANumber)));
+    assert_eq!(arena.reading(Handle::new(99)), Err(Refusal::BadHandle(99)));
+
+    let (quarter, zero, negative, half, more, round) = (float[0], float[1], float[3], float[4], float[6], float[7]);
+    assert_eq!(arena.wet_weight(kilograms, quarter), Ok(Weighing { dry: 600.0, moisture: 0.25, wet: 800.0 }));
+    assert_eq!(arena.wet_weight(kilograms, half), Ok(Weighing { dry: 600.0, moisture: 0.5, wet: 1200.0 }));
+    let Weighing { dry, moisture, wet } = arena.wet_weight(zero, zero).unwrap();
+    assert_eq!([dry, moisture, wet].map(bits), [bits(-0.0); 3]);
+    let number = |handle: Handle| handle.number();
+    let refused = |dry, moisture| arena.wet_weight(dry, moisture).unwrap_err();
+    assert_eq!(refused(Handle::new(99), Handle::new(98)), Refusal::BadHandle(99));
+    assert_eq!(refused(nil, Handle::new(98)), Refusal::BadHandle(98));
+    // The dry node, its sign too, before the moisture node, and both before the moisture.
+    assert_eq!(refused(nil, nil), Refusal::NotAWeight(number(nil)));
+    assert_eq!(refused(negative, nil), Refusal::NotAWeight(number(negative)));
+    assert_eq!(refused(round, quarter), Refusal::NotAWeight(number(round)));
+    assert_eq!(refused(one, kilograms), Refusal::NotAWeight(number(one)));
+    assert_eq!(refused(kilograms, nil), Refusal::NotAWeight(number(nil)));
+    assert_eq!(refused(kilograms, negative), Refusal::BadMoisture);
+    assert_eq!(refused(kilograms, more), Refusal::BadMoisture);
+    assert_eq!(refused(kilograms, least), Refusal::BadMoisture);
+}
+
 #[test]
 fn lent_tables_are_lent_again() {
     let (mut nodes, mut references, mut bytes) = ([0; 21], [0; 4], [0; 8]);
@@ -365,6 +421,8 @@ fn refusals() {
         (Refusal::WrongKind(2), "WRONG-KIND", 14, (2, 0)),
         (Refusal::BadSign(0xff), "BAD-SIGN", 15, (255, 0)),
         (Refusal::TooBig(5), "TOO-BIG", 16, (5, 0)),
+        (Refusal::NotAWeight(2), "NOT-A-WEIGHT", 17, (2, 0)),
+        (Refusal::BadMoisture, "BAD-MOISTURE", 18, (0, 0)),
     ];
     for (refusal, name, number, details) in names {
         assert_eq!((refusal.name(), refusal.number(), refusal.details()), (name, number, details));

@@ -39,6 +39,7 @@ use value_arena::kind;
 use value_arena::new;
 use value_arena::replace_root;
 use value_arena::root;
+use value_arena::signed;
 
 // Places in a case.
 const COUNTS: usize = 5;
@@ -52,15 +53,6 @@ const AFTER: usize = 16;
 const WORDS: usize = 20;
 
 const TABLES: usize = WORDS + Node::WIDTH;
-
-// The number whose 32 bits are given.
-fn signed(x: u32) -> i32 {
-    if x < 2147483648 {
-        x as i32
-    } else {
-        -1 - ((4294967295 - x) as i32)
-    }
-}
 
 fn created_agrees(data: &[u8], at: usize, r: Created) -> bool {
     let answer = r.answer;

@@ -10,9 +10,11 @@ pub mod Load
 pub mod Reader
 pub mod Dump
 pub mod Build
+pub mod Weight
 pub mod Graph
 pub mod Starred
 pub mod Floats
 pub mod Bignums
 pub mod DumpForm
 pub mod Measured
+pub mod Weights

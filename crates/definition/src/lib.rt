@@ -50,6 +50,21 @@ impl ValueKind {
     pub const BIGNUM: u8 = b'l';
 }
 
+// A number's text in a Float: its minus, its point, its first and last digit, and the most digits that it may have.
+pub struct Decimal {}
+
+impl Decimal {
+    pub const MINUS: u8 = b'-';
+
+    pub const POINT: u8 = b'.';
+
+    pub const ZERO: u8 = b'0';
+
+    pub const NINE: u8 = b'9';
+
+    pub const DIGITS: usize = 15;
+}
+
 // A Bignum's sign bytes, the most units that it may have, and the least magnitude that is too great.
 pub struct Bignum {}
 
@@ -127,7 +142,7 @@ pub enum Fault {
     Node(u32),
 }
 
-// Why a call is refused, in the order of the numbers 1 to 16 of documents 01 and 02.
+// Why a call is refused, in the order of the numbers 1 to 18 of documents 01 and 02.
 pub enum Refusal {
     BadTables(u32),
     BadArena(Fault),
@@ -146,6 +161,8 @@ pub enum Refusal {
     WrongKind(u32),
     BadSign(u8),
     TooBig(u32),
+    NotAWeight(u32),
+    BadMoisture,
 }
 
 pub enum Answer {
@@ -230,4 +247,30 @@ pub struct Created {
     pub answer: Answer,
     pub handle: u32,
     pub counts: Counts,
+}
+
+// A node read as a number.
+pub enum Reading {
+    Whole(i32),
+    Double(f64),
+    NotANumber,
+}
+
+// reading: what the node reads as, not a number where the call is refused.
+pub struct Read {
+    pub answer: Answer,
+    pub reading: Reading,
+}
+
+// Dry weight, moisture and wet weight.
+pub struct Weighing {
+    pub dry: f64,
+    pub moisture: f64,
+    pub wet: f64,
+}
+
+// wet_weight: the weighing, three positive zeros where the call is refused.
+pub struct Weighed {
+    pub answer: Answer,
+    pub weighing: Weighing,
 }

@@ -1,10 +1,12 @@
--- Details as words, words written one after the other, and a call's reply where the answer words are enough and where they are too few.
+-- Details as words, words written one after the other, and a call's reply where the answer words, and the doubles, are enough and where they are too few.
 use Prim.Native.Nat.{ℕ, _-_, _<_, _≤_}
 use mathlib.Core.Path.{_≡_, refl, ap, _∙_}
 use mathlib.Core.Bool.{Bool, true, false}
-use mathlib.Core.List.{List, _++_}
+use mathlib.Core.List.{List, [], _∷_, _++_}
+use lib.Dec.{leb}
 use lib.IntN.{ℤ}
 use lib.ListN.{length, set}
+use lib.Ieee.{Float}
 use lib.Seq.{sets}
 use borrow.Author.Tests.{le-leb, lt-leb}
 use Rattle.definition.specs.Run.{pick}
@@ -22,10 +24,12 @@ use Rattle.definition.specs.declared.Loaded.{Loaded}
 use Rattle.definition.specs.declared.Measured.{Measured}
 use Rattle.definition.specs.declared.Name.{Name}
 use Rattle.definition.specs.declared.Number.{Number}
+use Rattle.definition.specs.declared.Read.{Read}
+use Rattle.definition.specs.declared.Weighed.{Weighed}
 use Rattle.definition.specs.declared.Words.{Words}
 use Rattle.refusal.specs.Shown.{integer, shown}
 use Rattle.refusal.specs.declared.Numbers.{Numbers}
-use Rattle.marshal_c.specs.Reply.{word, details, count-words, loaded-words, measured-words, dumped-words, begun-words, number-words, node-words, name-words, created-words, reply, tell, tell-load, tell-measured, tell-dump, tell-new, tell-build, tell-number, tell-words, tell-name}
+use Rattle.marshal_c.specs.Reply.{word, details, count-words, loaded-words, measured-words, dumped-words, begun-words, number-words, node-words, name-words, created-words, reading-kind, reading-whole, reading-double, reading-words, weighed-words, weighing-doubles, reply, tell, tell-doubles, tell-load, tell-measured, tell-dump, tell-new, tell-build, tell-number, tell-words, tell-name, tell-reading, tell-weighed}
 
 -- ---- details
 
@@ -59,6 +63,12 @@ last a c words vs e f = ap (λ (l : List ℕ). sets l 6 vs) (f ∙ ap (λ (l : L
 pub after-load : (r : Loaded) (words : List ℕ) {t : List ℕ} (vs : List ℕ) → t ≡ sets words 0 (loaded-words r) → sets t 8 vs ≡ sets words 0 (loaded-words r ++ vs)
 unfolding loaded-words details count-words
 after-load r words vs e = ap (λ (l : List ℕ). sets l 8 vs) e
+
+-- a reading's kind and whole number after the details
+pub after-details : (r : Read) (words : List ℕ) {t : List ℕ} {k w : ℕ} → t ≡ sets words 0 (details (r .answer)) → k ≡ reading-kind (r .reading) → w ≡ reading-whole (r .reading) → set (set t 2 k) 3 w ≡ sets words 0 (reading-words r)
+unfolding reading-words
+after-details r words {t = t} {w = w} e f g =
+    ap (λ (x : ℕ). set (set t 2 x) 3 w) f ∙ ap (λ (x : ℕ). set (set t 2 (reading-kind (r .reading))) 3 x) g ∙ then (r .answer) words (reading-kind (r .reading) ∷ reading-whole (r .reading) ∷ []) e
 
 -- ---- replies
 
@@ -139,3 +149,49 @@ module _ (words : List ℕ) where
   pub name-told : {r k : Name} {n : ℕ} {w : List ℕ} → 4 ≤ length words → (n ≡ answer-numbers (r .answer) .0) × (w ≡ sets words 0 (name-words r)) → r ≡ k → reply n w tt ≡ tell-name k words
   unfolding tell-name name-words details
   name-told {r = r} h e g = enough (r .answer) (name-words r) words tt tt h e ∙ ap (λ (k : Name). tell-name k words) g
+
+-- with doubles
+module _ (a : Answer) (ws : List ℕ) (ds doubles : List Float) (words : List ℕ) where
+  few-words : length words < length ws → reply 1 words doubles ≡ tell-doubles a ws ds doubles words
+  unfolding tell-doubles pick
+  few-words h = either (leb (length ds) (length doubles))
+    where
+      either : (b : Bool) → reply 1 words doubles ≡ pick b (tell a ws words doubles (sets doubles 0 ds)) (reply 1 words doubles)
+      either true = too-few a ws words doubles (sets doubles 0 ds) h
+      either false = refl
+
+  few-doubles : length doubles < length ds → reply 1 words doubles ≡ tell-doubles a ws ds doubles words
+  unfolding tell-doubles pick
+  few-doubles h = rw (lt-leb (length ds) (length doubles) h) refl
+
+  doubles-told : {n : ℕ} {w : List ℕ} {d : List Float} → length ws ≤ length words → length ds ≤ length doubles → (n ≡ answer-numbers a .0) × (w ≡ sets words 0 ws) → d ≡ sets doubles 0 ds → reply n w d ≡ tell-doubles a ws ds doubles words
+  unfolding tell-doubles pick
+  doubles-told {n = n} {w = w} h g e f =
+      ap (λ (d : List Float). reply n w d) f ∙ rw (le-leb (length ds) (length doubles) g) (enough a ws words doubles (sets doubles 0 ds) h e)
+
+module _ (doubles : List Float) (words : List ℕ) where
+  pub reading-few : (r : Read) → length words < 4 → reply 1 words doubles ≡ tell-reading r doubles words
+  unfolding tell-reading reading-words details
+  reading-few r h = few-words (r .answer) (reading-words r) (reading-double (r .reading) ∷ []) doubles words h
+
+  pub reading-no-double : (r : Read) → length doubles < 1 → reply 1 words doubles ≡ tell-reading r doubles words
+  unfolding tell-reading
+  reading-no-double r h = few-doubles (r .answer) (reading-words r) (reading-double (r .reading) ∷ []) doubles words h
+
+  pub reading-told : {r k : Read} {n : ℕ} {w : List ℕ} {d : List Float} → 4 ≤ length words → 1 ≤ length doubles → (n ≡ answer-numbers (r .answer) .0) × (w ≡ sets words 0 (reading-words r)) → d ≡ sets doubles 0 (reading-double (r .reading) ∷ []) → r ≡ k → reply n w d ≡ tell-reading k doubles words
+  unfolding tell-reading reading-words details
+  reading-told {r = r} h g e f same =
+      doubles-told (r .answer) (reading-words r) (reading-double (r .reading) ∷ []) doubles words h g e f ∙ ap (λ (k : Read). tell-reading k doubles words) same
+
+  pub weighed-few : (r : Weighed) → length words < 2 → reply 1 words doubles ≡ tell-weighed r doubles words
+  unfolding tell-weighed weighed-words details
+  weighed-few r h = few-words (r .answer) (weighed-words r) (weighing-doubles (r .weighing)) doubles words h
+
+  pub weighed-few-doubles : (r : Weighed) → length doubles < 3 → reply 1 words doubles ≡ tell-weighed r doubles words
+  unfolding tell-weighed weighing-doubles
+  weighed-few-doubles r h = few-doubles (r .answer) (weighed-words r) (weighing-doubles (r .weighing)) doubles words h
+
+  pub weighed-told : {r k : Weighed} {n : ℕ} {w : List ℕ} {d : List Float} → 2 ≤ length words → 3 ≤ length doubles → (n ≡ answer-numbers (r .answer) .0) × (w ≡ sets words 0 (weighed-words r)) → d ≡ sets doubles 0 (weighing-doubles (r .weighing)) → r ≡ k → reply n w d ≡ tell-weighed k doubles words
+  unfolding tell-weighed weighed-words weighing-doubles details
+  weighed-told {r = r} h g e f same =
+      doubles-told (r .answer) (weighed-words r) (weighing-doubles (r .weighing)) doubles words h g e f ∙ ap (λ (k : Weighed). tell-weighed k doubles words) same

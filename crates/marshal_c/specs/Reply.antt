@@ -5,6 +5,7 @@ use mathlib.Core.List.{List, [], _∷_, _++_}
 use lib.Dec.{leb}
 use lib.IntN.{ℤ, pos, negsuc}
 use lib.ListN.{length, getD}
+use lib.Ieee.{Float}
 use lib.Seq.{sets}
 use Rattle.definition.specs.Run.{pick}
 use Rattle.definition.specs.Refused.{answer-numbers}
@@ -12,6 +13,7 @@ use Rattle.definition.specs.Arena.{Tables}
 use Rattle.definition.specs.Load.{Lists, LoadCall, MeasuredCall}
 use Rattle.definition.specs.Dump.{DumpCall}
 use Rattle.definition.specs.Build.{BuildCall, NewCall}
+use Rattle.definition.specs.Weight.{positive-zero}
 use Rattle.definition.specs.declared.Answer.{Answer}
 use Rattle.definition.specs.declared.Begun.{Begun}
 use Rattle.definition.specs.declared.Counts.{Counts}
@@ -21,6 +23,11 @@ use Rattle.definition.specs.declared.Loaded.{Loaded}
 use Rattle.definition.specs.declared.Measured.{Measured}
 use Rattle.definition.specs.declared.Name.{Name}
 use Rattle.definition.specs.declared.Number.{Number}
+use Rattle.definition.specs.declared.Read.{Read}
+use Rattle.definition.specs.declared.Reading.{Reading}
+use Rattle.definition.specs.declared.Reading.the-variants.{Whole, Double, NotANumber}
+use Rattle.definition.specs.declared.Weighed.{Weighed}
+use Rattle.definition.specs.declared.Weighing.{Weighing}
 use Rattle.definition.specs.declared.Words.{Words}
 
 -- ---- the answer words: 0 and 1 the details, then what else the call answers, counts first
@@ -75,6 +82,38 @@ name-words r = details (r .answer) ++ (r .start ∷ r .length ∷ [])
 unfoldable pub created-words : Created → List ℕ
 created-words r = details (r .answer) ++ count-words (r .counts) ++ (r .handle ∷ [])
 
+-- what a node reads as, by a number
+unfoldable pub reading-kind : Reading → ℕ
+reading-kind NotANumber = 0
+reading-kind (Whole n) = 1
+reading-kind (Double x) = 2
+
+-- the whole number as a word, 0 unless it is one
+unfoldable pub reading-whole : Reading → ℕ
+reading-whole NotANumber = 0
+reading-whole (Whole n) = word n
+reading-whole (Double x) = 0
+
+-- reading: the reading's kind, and the whole number
+unfoldable pub reading-words : Read → List ℕ
+reading-words r = details (r .answer) ++ (reading-kind (r .reading) ∷ reading-whole (r .reading) ∷ [])
+
+-- wet_weight: nothing else
+unfoldable pub weighed-words : Weighed → List ℕ
+weighed-words r = details (r .answer)
+
+-- ---- doubles, which stand in a slice of their own
+
+-- the double that is read, positive zero unless it is one
+unfoldable pub reading-double : Reading → Float
+reading-double NotANumber = positive-zero
+reading-double (Whole n) = positive-zero
+reading-double (Double x) = x
+
+-- wet_weight: dry, moisture, wet
+unfoldable pub weighing-doubles : Weighing → List Float
+weighing-doubles w = w .dry ∷ w .moisture ∷ w .wet ∷ []
+
 -- ---- the reply
 
 -- the three tables as lent
@@ -123,3 +162,13 @@ tell-words r words = tell (r .answer) (node-words r) words tt tt
 
 unfoldable pub tell-name : Name → List ℕ → Reply (Unit {0})
 tell-name r words = tell (r .answer) (name-words r) words tt tt
+
+-- a call's that answers doubles: ds stand first among those lent, and the rest stay as they were. Where fewer are lent than ds has, 1 is returned too, and nothing is touched
+unfoldable pub tell-doubles : Answer → List ℕ → List Float → List Float → List ℕ → Reply (List Float)
+tell-doubles a ws ds doubles words = pick (leb (length ds) (length doubles)) (tell a ws words doubles (sets doubles 0 ds)) (reply 1 words doubles)
+
+unfoldable pub tell-reading : Read → List Float → List ℕ → Reply (List Float)
+tell-reading r doubles words = tell-doubles (r .answer) (reading-words r) (reading-double (r .reading) ∷ []) doubles words
+
+unfoldable pub tell-weighed : Weighed → List Float → List ℕ → Reply (List Float)
+tell-weighed r doubles words = tell-doubles (r .answer) (weighed-words r) (weighing-doubles (r .weighing)) doubles words

@@ -1,8 +1,8 @@
-// load, dump, and the arena's getters and builder, for programs in C and in languages that call C.
+// load, dump, the arena's getters, its weighing and its builder, for programs in C and in languages that call C.
 //
 // A slice is a pointer and a length there, and the counts are four numbers. The answer's number is returned, 0 where the call
-// is accepted. Its two details and what else the call answers go into the answer words (specs/Reply). Fewer of them than a
-// call writes are refused with 1, and nothing is touched then.
+// is accepted. Its two details and what else the call answers go into the answer words, doubles into a slice of their own
+// (specs/Reply). Fewer words or doubles than a call writes are refused with 1, and nothing is touched then.
 use definition::Answer;
 use definition::Begun;
 use definition::Counts;
@@ -12,6 +12,9 @@ use definition::Loaded;
 use definition::Measured;
 use definition::Name;
 use definition::Number;
+use definition::Read;
+use definition::Reading;
+use definition::Weighed;
 use definition::Words;
 use dump::dump;
 use load::load;
@@ -34,6 +37,8 @@ use value_arena::get_symbol;
 use value_arena::kind;
 use value_arena::new;
 use value_arena::replace_root;
+use weight::reading;
+use weight::wet_weight;
 ghost use mathlib.Core.Path.{_≡_};
 ghost use mathlib.Core.List.{[], _∷_};
 ghost use Prim.Native.Nat.{_≤_};
@@ -43,10 +48,11 @@ ghost use Rattle.definition.specs.Refused.{answer-numbers};
 ghost use Rattle.definition.specs.Load.{lists, counts, load-call, measured-call};
 ghost use Rattle.definition.specs.Dump.{dump-call};
 ghost use Rattle.definition.specs.Build.{lent, build-call, new-call, number-done, words-done, name-done, get-words, get-kind, get-name, get-root, exchange-root, create-nil, create-bool, create-fixnum, create-new-symbol, create-symbol, create-array, create-hash, create-object, create-string, create-user-defined, create-float, create-bignum};
+ghost use Rattle.definition.specs.Weight.{get-reading, wet-weight, read-done, weighed-done};
 ghost use Rattle.refusal.specs.Shown.{integer};
-ghost use Rattle.marshal_c.specs.Reply.{word, details, flag, count-words, loaded-words, measured-words, dumped-words, begun-words, number-words, node-words, name-words, created-words, tables, reply, tell-load, tell-measured, tell-dump, tell-new, tell-build, tell-number, tell-words, tell-name};
+ghost use Rattle.marshal_c.specs.Reply.{word, details, flag, count-words, loaded-words, measured-words, dumped-words, begun-words, number-words, node-words, name-words, created-words, reading-kind, reading-whole, reading-double, reading-words, weighed-words, weighing-doubles, tables, reply, tell-load, tell-measured, tell-dump, tell-new, tell-build, tell-number, tell-words, tell-name, tell-reading, tell-weighed};
 
-// Too few answer words: BAD-TABLES.
+// Too few answer words or doubles: BAD-TABLES.
 const BAD_TABLES: u32 = 1;
 
 // How many answer words each kind of answer takes.
@@ -65,6 +71,13 @@ const WORDS: usize = 9;
 const NAME: usize = 4;
 
 const CREATED: usize = 7;
+
+const READ: usize = 4;
+
+const WEIGHED: usize = 2;
+
+// The doubles of a weighing.
+const DOUBLES: usize = 3;
 
 // ---- the answer words
 
@@ -87,6 +100,47 @@ fn flag_of(b: bool) -> u64
     ensures { λ r. ⌜ r ≡ flag b ⌝ }
 {
     if b { 1 } else { 0 }
+}
+
+// What a node reads as: its kind, the whole number as 64 bits in two's complement, and the double.
+fn kind_of(r: Reading) -> u64
+    ensures { λ k. ⌜ k ≡ reading-kind r ⌝ }
+{
+    match r {
+        Reading::NotANumber => 0,
+        Reading::Whole(_) => 1,
+        Reading::Double(_) => 2,
+    }
+}
+
+fn whole_word(n: i32) -> u64
+    ensures { λ r. ⌜ r ≡ word n ⌝ }
+{
+    if n < 0 {
+        18446744073709551615 - ((-1 - n) as u64)
+    } else {
+        n as u64
+    }
+}
+
+fn whole_of(r: Reading) -> u64
+    ensures { λ w. ⌜ w ≡ reading-whole r ⌝ }
+{
+    match r {
+        Reading::NotANumber => 0,
+        Reading::Whole(n) => whole_word(n),
+        Reading::Double(_) => 0,
+    }
+}
+
+fn double_of(r: Reading) -> f64
+    ensures { λ x. ⌜ x ≡ reading-double r ⌝ }
+{
+    match r {
+        Reading::NotANumber => 0.0,
+        Reading::Whole(_) => 0.0,
+        Reading::Double(x) => x,
+    }
 }
 
 // Words 0 and 1; the answer's number is returned.
@@ -214,6 +268,33 @@ fn tell_created(answer: &mut [u64], r: Created) -> u32
     tell_counts(answer, c);
     answer[6] = r.handle as u64;
     n
+}
+
+fn tell_reading(answer: &mut [u64], double: &mut [f64], r: Read) -> u32
+    requires { ⌜ (4 ≤ length (now answer)) × (1 ≤ length (now double)) ⌝ }
+    ensures { λ n. ⌜ (n ≡ answer-numbers (r .answer) .0) × (now (answer .exit) ≡ sets (now (answer .entry)) 0 (reading-words r)) ⌝ }
+    ensures { λ _. ⌜ now (double .exit) ≡ sets (now (double .entry)) 0 (reading-double (r .reading) ∷ []) ⌝ }
+{
+    let a = r.answer;
+    let reads = r.reading;
+    let n = tell(answer, a);
+    answer[2] = kind_of(reads);
+    answer[3] = whole_of(reads);
+    double[0] = double_of(reads);
+    n
+}
+
+fn tell_weighed(answer: &mut [u64], weighing: &mut [f64], r: Weighed) -> u32
+    requires { ⌜ (2 ≤ length (now answer)) × (3 ≤ length (now weighing)) ⌝ }
+    ensures { λ n. ⌜ (n ≡ answer-numbers (r .answer) .0) × (now (answer .exit) ≡ sets (now (answer .entry)) 0 (weighed-words r)) ⌝ }
+    ensures { λ _. ⌜ now (weighing .exit) ≡ sets (now (weighing .entry)) 0 (weighing-doubles (r .weighing)) ⌝ }
+{
+    let a = r.answer;
+    let w = r.weighing;
+    weighing[0] = w.dry;
+    weighing[1] = w.moisture;
+    weighing[2] = w.wet;
+    tell(answer, a)
 }
 
 // ---- load and dump
@@ -418,6 +499,71 @@ pub extern "C" fn ruby_marshal_get_symbol(
     };
     let r = get_symbol(&nodes[..], &references[..], &bytes[..], c, handle);
     tell_name(answer, r)
+}
+
+// ---- numbers and weighings
+
+#[no_mangle]
+pub extern "C" fn ruby_marshal_reading(
+    nodes: &[u32],
+    references: &[u32],
+    bytes: &[u8],
+    node_count: usize,
+    reference_count: usize,
+    byte_count: usize,
+    root: u32,
+    handle: u32,
+    double: &mut [f64],
+    answer: &mut [u64],
+) -> u32
+    ensures { λ r. ⌜ reply r (now (answer .exit)) (now (double .exit)) ≡ tell-reading (read-done (get-reading handle (lent (now (nodes .entry)) (now (references .entry)) (now (bytes .entry)) (counts «node_count» «reference_count» «byte_count» root)))) (now (double .entry)) (now (answer .entry)) ⌝ }
+{
+    if answer.len() < READ {
+        return BAD_TABLES;
+    }
+    if double.len() < 1 {
+        return BAD_TABLES;
+    }
+    let c = Counts {
+        nodes: node_count,
+        references: reference_count,
+        bytes: byte_count,
+        root: root,
+    };
+    let r = reading(&nodes[..], &references[..], &bytes[..], c, handle);
+    tell_reading(answer, double, r)
+}
+
+#[no_mangle]
+pub extern "C" fn ruby_marshal_wet_weight(
+    nodes: &[u32],
+    references: &[u32],
+    bytes: &[u8],
+    node_count: usize,
+    reference_count: usize,
+    byte_count: usize,
+    root: u32,
+    dry: u32,
+    moisture: u32,
+    weighing: &mut [f64],
+    answer: &mut [u64],
+) -> u32
+    ensures { λ r. ⌜ reply r (now (answer .exit)) (now (weighing .exit)) ≡ tell-weighed (weighed-done (wet-weight dry moisture (lent (now (nodes .entry)) (now (references .entry)) (now (bytes .entry)) (counts «node_count» «reference_count» «byte_count» root)))) (now (weighing .entry)) (now (answer .entry)) ⌝ }
+{
+    if answer.len() < WEIGHED {
+        return BAD_TABLES;
+    }
+    if weighing.len() < DOUBLES {
+        return BAD_TABLES;
+    }
+    let c = Counts {
+        nodes: node_count,
+        references: reference_count,
+        bytes: byte_count,
+        root: root,
+    };
+    let r = wet_weight(&nodes[..], &references[..], &bytes[..], c, dry, moisture);
+    tell_weighed(answer, weighing, r)
 }
 
 // ---- builder

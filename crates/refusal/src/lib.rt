@@ -65,6 +65,8 @@ pub fn numbers_of(q: Refusal) -> Numbers
         Refusal::WrongKind(handle) => plain(14, handle, 0),
         Refusal::BadSign(byte) => plain(15, byte as u32, 0),
         Refusal::TooBig(count) => plain(16, count, 0),
+        Refusal::NotAWeight(handle) => plain(17, handle, 0),
+        Refusal::BadMoisture => plain(18, 0, 0),
     }
 }
 

@@ -1,9 +1,11 @@
-// The library that users link: load, dump, the reader of an input, and the arena's getters and builder.
+// The library that users link: load, dump, the reader of an input, the arena's getters and builder, and a node read as a
+// number and weighed.
 pub use definition::Answer;
 pub use definition::Begun;
 pub use definition::Bignum;
 pub use definition::Counts;
 pub use definition::Created;
+pub use definition::Decimal;
 pub use definition::Dumped;
 pub use definition::Fault;
 pub use definition::Loaded;
@@ -11,10 +13,14 @@ pub use definition::Measured;
 pub use definition::Name;
 pub use definition::Node;
 pub use definition::Number;
+pub use definition::Read;
+pub use definition::Reading;
 pub use definition::Refusal;
 pub use definition::Taken;
 pub use definition::Text;
 pub use definition::ValueKind;
+pub use definition::Weighed;
+pub use definition::Weighing;
 pub use definition::Words;
 pub use dump::dump;
 pub use load::load;
@@ -51,3 +57,5 @@ pub use value_arena::kind;
 pub use value_arena::new;
 pub use value_arena::replace_root;
 pub use value_arena::root;
+pub use weight::reading;
+pub use weight::wet_weight;

@@ -1,16 +1,19 @@
 -- The 32 bits of a number in two's complement.
-use Prim.Native.Nat.{ℕ, suc, _-_, _≤_, _<_, zero-le}
+use Prim.Native.Nat.{ℕ, zero, suc, _-_, _^_, _≤_, _<_, zero-le}
 use native.Mathlib.Omega.{arith}
+use native.Mathlib.Nat.{lt-of-lt-of-le}
 use mathlib.Core.Bool.{Bool, true, false, cond}
 use mathlib.Core.Path.{_≡_, refl, sym, ap, _∙_, subst}
 use lib.Dec.{T}
 use lib.IntN.{ℤ, pos, negsuc, natAbs, _-ℤ_}
 use lib.Signed.{ltZ, nonNeg}
-use mir.Syntax.{w32}
-use mir.Val.{Fits, SFits, toZ, ofZ}
+use mir.Syntax.{Width, w32}
+use mir.Val as M
+use mir.Val.{Fits, SFits, toZ, ofZ, sel}
 use mir.Facts.{toZ-ofZ}
-use borrow.Author.Tests.{le-ltb}
-use Rattle.definition.specs.Build.{bits}
+use borrow.Author.Tests.{lt-ltb, le-ltb}
+use Rattle.definition.specs.Run.{pick}
+use Rattle.definition.specs.Refused.{signed}
 
 -- −1 − z for a z below 0
 less : (n : ℕ) → negsuc 0 -ℤ negsuc n ≡ pos n
@@ -49,24 +52,53 @@ module _ (z : ℤ) (f : SFits w32 z) (e : ltZ (again z) (pos 0) ≡ true) where
   pub minus-fits : SFits w32 (minus z)
   minus-fits = let (n, q, l, m, a) = is in subst (λ (x : ℤ). SFits w32 x) (sym m) (record { sfits = l })
 
-  pub minus-cast : T (nonNeg (again (minus z))) × Fits w32 (natAbs (again (minus z)))
-  minus-cast = let (n, q, l, m, a) = is in subst (λ (x : ℤ). T (nonNeg x) × Fits w32 (natAbs x)) (sym a) (tt, record { fits = omega arith })
+  -- at any width that holds 31 bits
+  pub minus-cast : (w : Width) → 2147483648 ≤ 2 ^ M.bits w → T (nonNeg (again (minus z))) × Fits w (natAbs (again (minus z)))
+  minus-cast w k = let (n, q, l, m, a) = is in subst (λ (x : ℤ). T (nonNeg x) × Fits w (natAbs x)) (sym a) (tt, record { fits = lt-of-lt-of-le l k })
 
-  pub minus-most : natAbs (again (minus z)) ≤ 4294967295
-  minus-most = let (n, q, l, m, a) = is in subst (λ (x : ℤ). natAbs x ≤ 4294967295) (sym a) (omega arith)
+  pub minus-most : (most : ℕ) → 2147483647 ≤ most → natAbs (again (minus z)) ≤ most
+  minus-most most k = let (n, q, l, m, a) = is in subst (λ (x : ℤ). natAbs x ≤ most) (sym a) (omega (arith, k))
 
-  pub minus-bits : 4294967295 - natAbs (again (minus z)) ≡ bits z
-  unfolding bits
-  minus-bits = let (n, q, l, m, a) = is in ap (λ (x : ℤ). 4294967295 - natAbs x) a ∙ sym (ap bits q)
+  -- what f makes of a number below 0, g makes of −1 − z
+  pub minus-is : (f : ℤ → ℕ) (g : ℕ → ℕ) → ((n : ℕ) → g n ≡ f (negsuc n)) → g (natAbs (again (minus z))) ≡ f z
+  minus-is f g h = let (n, q, l, m, a) = is in ap (λ (x : ℤ). g (natAbs x)) a ∙ h n ∙ sym (ap f q)
 
 module _ (z : ℤ) (f : SFits w32 z) (e : ltZ (again z) (pos 0) ≡ false) where
-  pub plus-cast : T (nonNeg (again z)) × Fits w32 (natAbs (again z))
-  plus-cast = let (n, q, l) = positive z f e in subst (λ (x : ℤ). T (nonNeg x) × Fits w32 (natAbs x)) (sym (toZ-ofZ f ∙ q)) (tt, record { fits = omega arith })
+  pub plus-cast : (w : Width) → 2147483648 ≤ 2 ^ M.bits w → T (nonNeg (again z)) × Fits w (natAbs (again z))
+  plus-cast w k = let (n, q, l) = positive z f e in subst (λ (x : ℤ). T (nonNeg x) × Fits w (natAbs x)) (sym (toZ-ofZ f ∙ q)) (tt, record { fits = lt-of-lt-of-le l k })
 
-  pub plus-bits : natAbs (again z) ≡ bits z
-  unfolding bits
-  plus-bits = let (n, q, l) = positive z f e in ap natAbs (toZ-ofZ f ∙ q) ∙ sym (ap bits q)
+  pub plus-is : (f : ℤ → ℕ) → ((n : ℕ) → n ≡ f (pos n)) → natAbs (again z) ≡ f z
+  plus-is g h = let (n, q, l) = positive z f e in ap natAbs (toZ-ofZ f ∙ q) ∙ h n ∙ sym (ap g q)
 
 -- what a call passes on
 pub passed : {z : ℤ} → SFits w32 z → again z ≡ z
 passed f = toZ-ofZ f
+
+-- ---- and back
+
+module _ (y : ℕ) (l : y < 2147483648) where
+  -- as the code has y, a number below 2^31
+  same : toZ w32 y ≡ pos y
+  same = ap (λ (b : Bool). sel b (pos y) (negsuc (4294967296 - suc y))) (lt-ltb y 2147483648 l)
+
+  pub less-is : negsuc 0 -ℤ toZ w32 y ≡ negsuc y
+  less-is = ap (λ (x : ℤ). negsuc 0 -ℤ x) same ∙ plain y
+    where
+      plain : (y : ℕ) → negsuc 0 -ℤ pos y ≡ negsuc y
+      plain zero = refl
+      plain (suc y) = ap negsuc (omega arith)
+
+  pub less-fits : SFits w32 (negsuc 0 -ℤ toZ w32 y)
+  less-fits = subst (SFits w32) (sym less-is) (record { sfits = omega arith })
+
+-- the number whose bits are w, as the code finds it
+module _ (w : ℕ) where
+  pub plus-signed : w < 2147483648 → toZ w32 w ≡ signed w
+  unfolding signed pick
+  plus-signed l = same w l ∙ sym (ap (λ (b : Bool). pick b (pos w) (negsuc (4294967295 - w))) (lt-ltb w 2147483648 l))
+
+  pub minus-signed : 2147483648 ≤ w → again (negsuc 0 -ℤ toZ w32 (4294967295 - w)) ≡ signed w
+  unfolding signed pick
+  minus-signed l =
+      let h : 4294967295 - w < 2147483648 = omega arith in
+      toZ-ofZ (less-fits (4294967295 - w) h) ∙ less-is (4294967295 - w) h ∙ sym (ap (λ (b : Bool). pick b (pos w) (negsuc (4294967295 - w))) (le-ltb w 2147483648 l))

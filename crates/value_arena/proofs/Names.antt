@@ -133,7 +133,7 @@ pub nodes-counted : (A : Arena) (count : ℕ) (t : List ℕ) → A .nodes ≡ ro
 nodes-counted A count t e = ap length e ∙ length-rows count t
 
 -- a checked arena's symbols are right
-fault-free : (L : Lent) (ts : List (ℕ × Bool)) → check ts L ≡ ok tt L → fault (L .tables) (L .counts) ≡ none
+pub fault-free : (L : Lent) (ts : List (ℕ × Bool)) → check ts L ≡ ok tt L → fault (L .tables) (L .counts) ≡ none
 unfolding check look _>>=_ next allowed sound pure refuse
 fault-free L ts e = go (wrong (L .tables) ts) (fault (L .tables) (L .counts)) e
   where

@@ -28,6 +28,7 @@ ghost use mathlib.Core.List.{List, [], _∷_};
 ghost use Prim.Native.Nat.{ℕ, _+_, _-_, _*_, _/_, _<_, _≤_};
 ghost use lib.ListN.{length, take, drop};
 ghost use Rattle.definition.specs.Run.{Run};
+ghost use Rattle.definition.specs.Refused as R;
 ghost use Rattle.definition.specs.Node.{width, Row, bool, words, rows, equal};
 ghost use Rattle.definition.specs.Arena.{Arena, node, named, firsts, lowest, find-symbol};
 ghost use Rattle.definition.specs.Build.{Lent, lent, build-call, number-done, words-done, name-done, new-call, check-handles, check-names, get-words, get-kind, get-name, get-root, exchange-root, bits, create-nil, create-bool, create-fixnum, create-new-symbol, create-symbol, create-array, create-hash, create-object, create-string, create-user-defined, create-float, create-bignum};
@@ -38,7 +39,7 @@ ghost use Rattle.value_arena.specs.Calls.{Says, FitsIf, Below, built, ma
 // ---- what is tested
 
 // 1, then 2.
-fn begin(nodes: &[u32], references: &[u32], bytes: &[u8], counts: Counts, more: u32) -> Answer
+pub fn begin(nodes: &[u32], references: &[u32], bytes: &[u8], counts: Counts, more: u32) -> Answer
     ensures { λ r. ⌜ ((ts : List (ℕ × Bool)) → lowest ts ≡ more → Says r (B.check ts) (lent (now (nodes .entry)) (now (references .entry)) (now (bytes .entry)) counts)) ⌝ }
     ensures { λ r. ⌜ FitsIf r (length (now (nodes .entry))) (length (now (references .entry))) (length (now (bytes .entry))) more counts ⌝ }
 {
@@ -53,7 +54,7 @@ fn begin(nodes: &[u32], references: &[u32], bytes: &[u8], counts: Counts, more: 
 }
 
 // 13 for a handle that is not below the node count.
-fn check_handle(h: u32, count: usize) -> Answer
+pub fn check_handle(h: u32, count: usize) -> Answer
     ensures { λ r. ⌜ ((L : Lent) → L .counts .nodes ≡ count → Says r (check-handles (h ∷ [])) L) ⌝ }
     ensures { λ r. ⌜ Below r h count ⌝ }
 {
@@ -121,7 +122,13 @@ fn check_magnitude(m: u64) -> Answer
 }
 
 // 1, 2, then the handle.
-fn begin_handle(nodes: &[u32], references: &[u32], bytes: &[u8], counts: Counts, h: u32) -> Answer
+pub fn begin_handle(
+    nodes: &[u32],
+    references: &[u32],
+    bytes: &[u8],
+    counts: Counts,
+    h: u32,
+) -> Answer
     ensures { λ r. ⌜ Says r (B.handle-checked h) (lent (now (nodes .entry)) (now (references .entry)) (now (bytes .entry)) counts) ⌝ }
     ensures { λ r. ⌜ FitsIf r (length (now (nodes .entry))) (length (now (references .entry))) (length (now (bytes .entry))) 0 counts × Below r h (counts .nodes) ⌝ }
 {
@@ -528,6 +535,17 @@ fn bits_of(value: i32) -> u32
         4294967295 - ((-1 - value) as u32)
     } else {
         value as u32
+    }
+}
+
+// The number whose 32 bits are given.
+pub fn signed(x: u32) -> i32
+    ensures { λ r. ⌜ r ≡ R.signed x ⌝ }
+{
+    if x < 2147483648 {
+        x as i32
+    } else {
+        -1 - ((4294967295 - x) as i32)
     }
 }
 

@@ -60,11 +60,11 @@ enum-known-q-5 c = search needs
 plain-requires-6 : tie.Need-plain-requires-6
 plain-requires-6 c κs = search needs
 
-sub-t25 : tie.Need-sub-t25
-sub-t25 c = search needs
+sub-t26 : tie.Need-sub-t26
+sub-t26 c = search needs
 
-add-t26 : tie.Need-add-t26
-add-t26 c = search needs
+add-t27 : tie.Need-add-t27
+add-t27 c = search needs
 
 enum-known-q-6 : tie.Need-enum-known-q-6
 enum-known-q-6 c = search needs
@@ -131,6 +131,18 @@ enum-known-q-14 c = search needs
 
 plain-requires-16 : tie.Need-plain-requires-16
 plain-requires-16 c κs = search needs
+
+enum-known-q-15 : tie.Need-enum-known-q-15
+enum-known-q-15 c = search needs
+
+plain-requires-17 : tie.Need-plain-requires-17
+plain-requires-17 c κs = search needs
+
+enum-told-4 : tie.Need-enum-told-4
+enum-told-4 c = search needs
+
+plain-requires-18 : tie.Need-plain-requires-18
+plain-requires-18 c κs = search needs
 
 returns : tie.Need-returns
 unfolding numbers signed place pick
@@ -222,6 +234,16 @@ unfolding numbers signed place pick
 returns-18 c =
     ap shown (c .plain16 .ensures) ∙ ap numbers (sym (c .before .before .q14 .given .1))
 
+returns-19 : tie.Need-returns-19
+unfolding numbers signed place pick
+returns-19 c =
+    ap shown (c .plain17 .ensures) ∙ ap numbers (sym (c .before .before .q15 .given .1))
+
+returns-20 : tie.Need-returns-20
+unfolding numbers signed place pick
+returns-20 c =
+    ap shown (c .plain18 .ensures) ∙ ap numbers (sym (c .before .enum-told4 .given .1))
+
 pub numbers-of-spec : {M : Type 1} → statement M
 numbers-of-spec =
     tie.close
@@ -243,8 +265,8 @@ numbers-of-spec =
     plain-requires-5
     enum-known-q-5
     plain-requires-6
-    sub-t25
-    add-t26
+    sub-t26
+    add-t27
     enum-known-q-6
     plain-requires-7
     enum-known-q-7
@@ -267,6 +289,10 @@ numbers-of-spec =
     plain-requires-15
     enum-known-q-14
     plain-requires-16
+    enum-known-q-15
+    plain-requires-17
+    enum-told-4
+    plain-requires-18
     returns
     returns-2
     returns-3
@@ -284,4 +310,6 @@ numbers-of-spec =
     returns-15
     returns-16
     returns-17
-    returns-18)
+    returns-18
+    returns-19
+    returns-20)

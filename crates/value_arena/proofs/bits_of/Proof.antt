@@ -1,5 +1,10 @@
 -- The proof of bits_of.
-use Rattle.value_arena.proofs.Bits.{minus-fits, minus-cast, minus-most, minus-bits, plus-cast, plus-bits}
+use Prim.Native.Nat.{_-_}
+use native.Mathlib.Omega.{arith}
+use mathlib.Core.Path.{refl}
+use mir.Syntax.{w32}
+use Rattle.definition.specs.Build.{bits}
+use Rattle.value_arena.proofs.Bits.{minus-fits, minus-cast, minus-most, minus-is, plus-cast, plus-is}
 use Rattle.value_arena.proofs.bits_of.Statement.{statement}
 use Rattle.value_arena.proofs.bits_of.Tie as tie
 
@@ -9,23 +14,25 @@ sub-result c =
 
 cast-result : tie.Need-cast-result
 cast-result c =
-    minus-cast (c .before .args .value) (c .before .fits .value) (c .if1 .taken)
+    minus-cast (c .before .args .value) (c .before .fits .value) (c .if1 .taken) w32 (omega arith)
 
 sub-result-2 : tie.Need-sub-result-2
 sub-result-2 c =
-    minus-most (c .before .args .value) (c .before .fits .value) (c .if1 .taken)
+    minus-most (c .before .args .value) (c .before .fits .value) (c .if1 .taken) 4294967295 (omega arith)
 
 cast-result-2 : tie.Need-cast-result-2
 cast-result-2 c =
-    plus-cast (c .before .args .value) (c .before .fits .value) (c .if1 .left)
+    plus-cast (c .before .args .value) (c .before .fits .value) (c .if1 .left) w32 (omega arith)
 
 returns : tie.Need-returns
+unfolding bits
 returns c =
-    minus-bits (c .before .args .value) (c .before .fits .value) (c .if1 .taken)
+    minus-is (c .before .args .value) (c .before .fits .value) (c .if1 .taken) bits (λ n. 4294967295 - n) (λ n. refl)
 
 returns-2 : tie.Need-returns-2
+unfolding bits
 returns-2 c =
-    plus-bits (c .before .args .value) (c .before .fits .value) (c .if1 .left)
+    plus-is (c .before .args .value) (c .before .fits .value) (c .if1 .left) bits (λ n. refl)
 
 pub bits-of-spec : {M : Type 1} → statement M
 bits-of-spec =

@@ -2,9 +2,9 @@
 use borrow.Author.Needs.{needs}
 use native.Mathlib.Omega.{arith}
 use Prim.Native.Nat.{_-_}
-use Rattle.build_replay.proofs.Minus.{fits}
-use Rattle.build_replay.proofs.signed.Statement.{statement}
-use Rattle.build_replay.proofs.signed.Tie as tie
+use Rattle.value_arena.proofs.Bits.{less-fits, plus-signed, minus-signed}
+use Rattle.value_arena.proofs.signed.Statement.{statement}
+use Rattle.value_arena.proofs.signed.Tie as tie
 
 cast-result : tie.Need-cast-result
 cast-result c = search needs
@@ -17,13 +17,13 @@ cast-result-2 c = search needs
 
 sub-result-2 : tie.Need-sub-result-2
 sub-result-2 c =
-    fits (4294967295 - c .before .args .x) (omega (arith, c .if1 .left))
+    less-fits (4294967295 - c .before .args .x) (omega (arith, c .if1 .left))
 
 returns : tie.Need-returns
-returns c = search needs
+returns c = plus-signed (c .before .args .x) (c .if1 .taken)
 
 returns-2 : tie.Need-returns-2
-returns-2 c = search needs
+returns-2 c = minus-signed (c .before .args .x) (c .if1 .left)
 
 pub signed-spec : {M : Type 1} → statement M
 signed-spec =

@@ -1,2 +1,0 @@
--- A law for the proofs.
-pub mod Minus

@@ -1,0 +1,155 @@
+-- What a node reads as, and what the call that reads it answers: a whole number of 32 bits, or the nearest double to a decimal, and never a NaN.
+use Prim.Native.Nat.{ℕ, zero, suc}
+use mathlib.Core.Path.{_≡_, refl, sym, _∙_, subst}
+use mathlib.Core.Bool.{Bool, true, false, not}
+use mathlib.Core.List.{List, [], _∷_}
+use mathlib.Core.Option.{Option, none, some}
+use lib.Dec.{T, ltb}
+use lib.Ieee.{Float, nan, inf, fin, isNan}
+use lib.Ieee.Scale.{finite}
+use Rattle.definition.specs.Run.{Run, Outcome, ok, refused, pure, refuse, next, _>>=_, look, pick}
+use Rattle.definition.specs.Refused.{signed}
+use Rattle.definition.specs.Node.{Row, nil, bool, fixnum, symbol, array, hash, object, string, user, float, bignum}
+use Rattle.definition.specs.Arena.{node, range, allowed, fault, sound}
+use Rattle.definition.specs.Build.{Lent, held, wrong, check, check-handles, handle-checked}
+use Rattle.definition.specs.Weight.{Decimal, decimal, double, text-reading, row-reading, node-reading, get-reading, read-done, Nearest}
+use Rattle.definition.specs.declared.Reading.{Reading}
+use Rattle.definition.specs.declared.Reading.the-variants.{Whole, Double, NotANumber}
+use Rattle.definition.specs.declared.Fault.{Fault}
+use Rattle.definition.specs.declared.Refusal.{Refusal}
+use Rattle.definition.specs.declared.Refusal.the-variants.{BadHandle}
+use Rattle.lists.specs.Lists.{apart as impossible}
+use Rattle.weight_laws.specs.Decimals.{Plain, plain-finite, reading-plain, number, power, double-plain, double-nearest}
+use Rattle.weight_laws.specs.Grammar.{spelled, Proper, decimal-sound}
+
+-- ---- what a row reads as
+
+-- a whole reading is 32 bits read as signed, a double is finite, and 0 or neither tiny nor huge
+abbrev pub Sized : Reading → Type 0
+Sized (Whole n) = (w : ℕ) × (n ≡ signed w)
+Sized (Double x) = (s : Bool) × Plain s x
+Sized NotANumber = Unit {0}
+
+text-sized : (o : Option Decimal) (text : List ℕ) → decimal text ≡ o → Sized (text-reading o)
+unfolding text-reading
+text-sized none text e = tt
+text-sized (some d) text e = (d .minus, reading-plain text d e)
+
+pub row-sized : (bytes : List ℕ) (r : Row) → Sized (row-reading bytes r)
+unfolding row-reading
+row-sized bytes nil = tt
+row-sized bytes (bool b) = tt
+row-sized bytes (fixnum w) = (w, refl)
+row-sized bytes (symbol s l) = tt
+row-sized bytes (array s n) = tt
+row-sized bytes (hash s n d) = tt
+row-sized bytes (object s n c) = tt
+row-sized bytes (string s l v) = tt
+row-sized bytes (user s l c v) = tt
+row-sized bytes (float s l) = text-sized (decimal (range bytes s l)) (range bytes s l) refl
+row-sized bytes (bignum low high m) = tt
+
+-- a row that reads as a double is a Float, whose text is a decimal's
+double-read : (o : Option Decimal) (x : Float) → text-reading o ≡ Double x → (d : Decimal) × (o ≡ some d) × (double d ≡ x)
+unfolding text-reading
+double-read none x e = impossible (cc)
+double-read (some d) x e = (d, refl, cc)
+
+-- the Float that a row is, its decimal, and how near the double is
+pub record FromText (bytes : List ℕ) (r : Row) (x : Float) : Type 0 where
+  pub start : ℕ
+  pub size : ℕ
+  pub written : Decimal
+  pub is-float : r ≡ float start size
+  pub spelt : range bytes start size ≡ spelled written
+  pub proper : Proper written
+  pub plain : Plain (written .minus) x
+  pub nearest : Nearest x (number written) (power written)
+
+pub row-double : (bytes : List ℕ) (r : Row) (x : Float) → row-reading bytes r ≡ Double x → FromText bytes r x
+unfolding row-reading
+row-double bytes nil x e = impossible (cc)
+row-double bytes (bool b) x e = impossible (cc)
+row-double bytes (fixnum w) x e = impossible (cc)
+row-double bytes (symbol s l) x e = impossible (cc)
+row-double bytes (array s n) x e = impossible (cc)
+row-double bytes (hash s n d) x e = impossible (cc)
+row-double bytes (object s n c) x e = impossible (cc)
+row-double bytes (string s l v) x e = impossible (cc)
+row-double bytes (user s l c v) x e = impossible (cc)
+row-double bytes (bignum low high m) x e = impossible (cc)
+row-double bytes (float s l) x e =
+    let k = double-read (decimal (range bytes s l)) x e in
+    let p = decimal-sound (range bytes s l) (k .0) (k .1) in
+    record {
+      start = s;
+      size = l;
+      written = k .0;
+      is-float = refl;
+      spelt = p .0;
+      proper = p .1;
+      plain = subst (Plain (k .0 .minus)) (k .2) (double-plain (k .0) (p .1));
+      nearest = subst (λ (z : Float). Nearest z (number (k .0)) (power (k .0))) (k .2) (double-nearest (k .0) (p .1));
+    }
+
+-- ---- an accepted call, taken apart
+
+pub no-ok : {A C : Type 0} {r : Refusal} {a : A} {M : Lent} → _≡_ {A = Outcome Lent A} (refused r) (ok a M) → C
+no-ok e = impossible (cc)
+
+pub un : {A B G : Type 0} (o : Outcome Lent A) (k : A → Run Lent B) {b : B} {M : Lent} → next o k ≡ ok b M → ((a : A) (L : Lent) → o ≡ ok a L → k a L ≡ ok b M → G) → G
+unfolding next
+un (ok a L) k e f = f a L refl e
+un (refused r) k e f = no-ok e
+
+-- ---- the call
+
+pub finite-no-nan : (x : Float) → T (finite x) → T (not (isNan x))
+unfolding isNan
+finite-no-nan nan t = absurd t
+finite-no-nan (inf s) t = absurd t
+finite-no-nan (fin s m e) t = tt
+
+-- the call that reads, accepted or refused
+pub read-sized : (h : ℕ) (L : Lent) → Sized (read-done (get-reading h L) .reading)
+unfolding read-done get-reading node-reading _>>=_ look pure next
+read-sized h L = go (handle-checked h L)
+  where
+    go : (o : Outcome Lent (Unit {0})) → Sized (read-done (next o (λ _. node-reading h)) .reading)
+    go (ok u M) = row-sized (held M .bytes) (node (held M) h)
+    go (refused r) = tt
+
+-- a double that it reads is no NaN
+pub read-never-nan : (h : ℕ) (L : Lent) (x : Float) → read-done (get-reading h L) .reading ≡ Double x → T (not (isNan x))
+read-never-nan h L x e = let p : Sized (Double x) = subst Sized e (read-sized h L) in finite-no-nan x (plain-finite (p .0) x (p .1))
+
+-- the tests before the reading leave the arena as it is
+pub check-keeps : (L M : Lent) (u : Unit {0}) → check [] L ≡ ok u M → L ≡ M
+unfolding _>>=_ check look allowed sound pure refuse next
+check-keeps L M u e = go (wrong (L .tables) []) (fault (L .tables) (L .counts)) e
+  where
+    go : (w : ℕ) (f : Option Fault) → next (allowed w L) (λ _. sound f) ≡ ok u M → L ≡ M
+    go zero none e = cc
+    go zero (some f) e = no-ok e
+    go (suc w) f e = no-ok e
+
+handle-keeps : (h : ℕ) (L M : Lent) (u : Unit {0}) → check-handles (h ∷ []) L ≡ ok u M → L ≡ M
+unfolding check-handles look pick pure refuse
+handle-keeps h L M u e = go (ltb h (L .counts .nodes)) e
+  where
+    go : (b : Bool) → pick b (pure (tt {0})) (refuse (BadHandle h)) L ≡ ok u M → L ≡ M
+    go true e = cc
+    go false e = no-ok e
+
+checked-keeps : (h : ℕ) (L M : Lent) (u : Unit {0}) → handle-checked h L ≡ ok u M → L ≡ M
+unfolding handle-checked _>>=_
+checked-keeps h L M u e = un (check [] L) _ e λ a K f g. check-keeps L K a f ∙ handle-keeps h K M u g
+
+-- so a double that it reads is the nearest to what the node's text says
+pub read-double : (h : ℕ) (L : Lent) (x : Float) → read-done (get-reading h L) .reading ≡ Double x → FromText (held L .bytes) (node (held L) h) x
+unfolding read-done get-reading node-reading _>>=_ look pure next
+read-double h L x e = go (handle-checked h L) refl e
+  where
+    go : (o : Outcome Lent (Unit {0})) → handle-checked h L ≡ o → read-done (next o (λ _. node-reading h)) .reading ≡ Double x → FromText (held L .bytes) (node (held L) h) x
+    go (ok u M) f e = subst (λ (K : Lent). FromText (held K .bytes) (node (held K) h) x) (sym (checked-keeps h L M u f)) (row-double (held M .bytes) (node (held M) h) x e)
+    go (refused r) f e = impossible (cc)

@@ -1,0 +1,1 @@
+// Theorems only: doubles as near as can be, and weighings.
