@@ -39,7 +39,7 @@ ghost use Rattle.value_arena.specs.Calls.{Says, FitsIf, Below, built, ma
 // ---- what is tested
 
 // 1, then 2.
-pub fn begin(nodes: &[u32], references: &[u32], bytes: &[u8], counts: Counts, more: u32) -> Answer
+fn begin(nodes: &[u32], references: &[u32], bytes: &[u8], counts: Counts, more: u32) -> Answer
     ensures { λ r. ⌜ ((ts : List (ℕ × Bool)) → lowest ts ≡ more → Says r (B.check ts) (lent (now (nodes .entry)) (now (references .entry)) (now (bytes .entry)) counts)) ⌝ }
     ensures { λ r. ⌜ FitsIf r (length (now (nodes .entry))) (length (now (references .entry))) (length (now (bytes .entry))) more counts ⌝ }
 {
