@@ -19,7 +19,8 @@ use Rattle.well_formed.specs.Right.{Fit, below-of, fault-fit}
 use Rattle.states.specs.Right.{sign-right, number-right-yes}
 use Rattle.builder_laws.specs.Grown.{grown, name-grown, bytes-added, list-added, pairs-added, default-added}
 use Rattle.builder_laws.specs.Append.{Room, appended}
-use Rattle.builder_laws.specs.Checks.{after-check, after-handles, after-names, after-magnitude, after-add}
+use Rattle.well_formed.specs.Checks.{after-check, after-handles}
+use Rattle.builder_laws.specs.Checks.{after-names, after-magnitude, after-add}
 
 -- ---- the calls
 

@@ -1,50 +1,21 @@
 -- What the tests before a builder's work say where they let it go on.
-use Prim.Native.Nat.{ℕ, zero, suc, _-_, _/_, _≤_}
+use Prim.Native.Nat.{ℕ, suc, _-_, _/_, _≤_}
 use mathlib.Core.Path.{_≡_, refl}
 use mathlib.Core.Bool.{Bool, true, false}
-use mathlib.Core.Option.{Option, none, some}
 use mathlib.Core.List.{List, [], _∷_}
 use lib.Dec.{ltb, leb}
 use lib.ListN.{length}
 use native.Mathlib.Omega.{arith}
 use borrow.Author.Tests.{leb-true}
-use Rattle.definition.specs.Run.{Run, Outcome, ok, refused, pure, refuse, next, _>>=_, look, pick}
+use Rattle.definition.specs.Run.{Run, ok, refused, pure, refuse, next, _>>=_, look, pick}
 use Rattle.definition.specs.Node.{Row}
-use Rattle.definition.specs.Arena.{is-name, all-below, all-names, allowed, fault, sound}
+use Rattle.definition.specs.Arena.{is-name, all-names}
 use Rattle.definition.specs.Magnitude.{fits}
-use Rattle.definition.specs.Build.{Lent, held, wrong, check, check-handles, check-names, check-magnitude, check-space, append, add}
-use Rattle.definition.specs.declared.Fault.{Fault}
+use Rattle.definition.specs.Build.{Lent, held, check-names, check-magnitude, check-space, append, add}
 use Rattle.definition.specs.declared.Refusal.{Refusal}
-use Rattle.definition.specs.declared.Refusal.the-variants.{BadHandle, WrongKind, NoSpace, TooBig}
-use Rattle.lists.specs.Lists.{apart}
+use Rattle.definition.specs.declared.Refusal.the-variants.{WrongKind, NoSpace, TooBig}
+use Rattle.lists.specs.Runs.{no-ok}
 use Rattle.builder_laws.specs.Append.{Room, appended}
-
-no-ok : {A C : Type 0} {r : Refusal} {a : A} {M : Lent} → _≡_ {A = Outcome Lent A} (refused r) (ok a M) → C
-no-ok e = apart (cc)
-
--- the slices are allowed and the arena is well formed
-pub after-check : {A : Type 0} (more : List (ℕ × Bool)) (k : Unit {0} → Run Lent A) (L M : Lent) (a : A) → (check more >>= k) L ≡ ok a M
-    → (wrong (L .tables) more ≡ 0) × (fault (L .tables) (L .counts) ≡ none) × (k tt L ≡ ok a M)
-unfolding _>>=_ check look allowed sound pure refuse next
-after-check {A = A} more k L M a e = go (wrong (L .tables) more) (fault (L .tables) (L .counts)) refl refl e
-  where
-    go : (w : ℕ) (f : Option Fault) → wrong (L .tables) more ≡ w → fault (L .tables) (L .counts) ≡ f → next (next (allowed w L) (λ u. sound f)) k ≡ ok a M
-        → (wrong (L .tables) more ≡ 0) × (fault (L .tables) (L .counts) ≡ none) × (k tt L ≡ ok a M)
-    go zero none p q e = (p, q, e)
-    go zero (some f) p q e = no-ok e
-    go (suc w) f p q e = no-ok e
-
--- the handles are nodes
-pub after-handles : {A : Type 0} (hs : List ℕ) (k : Unit {0} → Run Lent A) (L M : Lent) (a : A) → (check-handles hs >>= k) L ≡ ok a M
-    → (all-below (L .counts .nodes) hs ≡ true) × (k tt L ≡ ok a M)
-unfolding _>>=_ check-handles look pure next all-below pick refuse
-after-handles [] k L M a e = (refl, e)
-after-handles (h ∷ hs) k L M a e = go (ltb h (L .counts .nodes)) (after-handles hs k L M a) e
-  where
-    go : (b : Bool) → ((check-handles hs >>= k) L ≡ ok a M → (all-below (L .counts .nodes) hs ≡ true) × (k tt L ≡ ok a M))
-        → next (pick b (check-handles hs) (refuse (BadHandle h)) L) k ≡ ok a M → (pick b (all-below (L .counts .nodes) hs) false ≡ true) × (k tt L ≡ ok a M)
-    go true f e = f e
-    go false f e = no-ok e
 
 -- the names are symbols
 pub after-names : {A : Type 0} (hs : List ℕ) (k : Unit {0} → Run Lent A) (L M : Lent) (a : A) → (check-names hs >>= k) L ≡ ok a M

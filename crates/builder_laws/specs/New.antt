@@ -16,7 +16,7 @@ use Rattle.well_formed.specs.Nodes.{node-at}
 use Rattle.well_formed.specs.Right.{fault-fit}
 use Rattle.builder_laws.specs.Grown.{grown, range-added, node-added}
 use Rattle.builder_laws.specs.Append.{held-appended}
-use Rattle.builder_laws.specs.Checks.{after-check}
+use Rattle.well_formed.specs.Checks.{after-check}
 use Rattle.builder_laws.specs.Calls.{Builder, make-nil, make-bool, make-fixnum, make-new-symbol, make-symbol, make-array, make-hash, make-object, make-string, make-user-defined, make-float, make-bignum, move-root, run, Makes, Even, made-bytes, made-list, made-row, AddedBy, Did, added, known, moved, did}
 use Rattle.builder_laws.specs.Built.{known-row}
 

@@ -81,7 +81,7 @@ module _ (t : List ℕ) (n at end m i : ℕ) (s : Says t n at end m i) where
       let q : (m * 10 + 10) * 1 ≤ (m * 10 + 10) * 10 ^ k = mul-le-mul-left (m * 10 + 10) p in
       omega (arith, q, tenfold m k, rw (more h) at (s .room), b)
 
-  -- read
+  -- with that digit read
   pub says-more : i < end → Says t n at end (m * 10 + (getD t i 0 - 0x30)) (i + 1)
   unfolding whole-number
   says-more h =
@@ -96,7 +96,7 @@ module _ (t : List ℕ) (n at end m i : ℕ) (s : Says t n at end m i) where
         room = le-trans (mul-le-mul-right (10 ^ k) u) (le-trans (le-of-eq (sym (tenfold m k))) (rw (more h) at (s .room)));
       }
 
-  -- and all
+  -- with all read
   pub says-all : end ≤ i → (m ≡ whole-number n (digits (drop at t))) × (m + 1 ≤ (n + 1) * 10 ^ (end - at))
   unfolding whole-number
   says-all h =

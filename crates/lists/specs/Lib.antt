@@ -1,6 +1,7 @@
--- Laws of lists, of tests, of ranges, of the words of rows, of integers and magnitudes, and of the tests of slices.
+-- Laws of lists, of tests, of work step by step, of ranges, of the words of rows, of integers and magnitudes, and of the tests of slices.
 pub mod Lists
 pub mod Joined
+pub mod Runs
 pub mod Ranges
 pub mod Words
 pub mod Integers

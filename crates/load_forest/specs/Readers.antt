@@ -22,6 +22,7 @@ use Rattle.definition.specs.Load.{State, Room, Reader, at-set, noted, begin}
 use Rattle.definition.specs.Dump.{byte-string-bytes}
 use Rattle.lists.specs.Lists.{At, apart, at-getD}
 use Rattle.lists.specs.Ranges.{length-range-in}
+use Rattle.lists.specs.Runs.{un as taken}
 use Rattle.lists.specs.Words.{equal-true, length-low}
 use Rattle.lists.specs.Magnitudes.{of-words}
 use Rattle.graph.specs.Forest.{Texted, text-string, text-float}
@@ -35,12 +36,7 @@ use Rattle.states.specs.Right.{sign-right}
 -- ---- taking work apart
 
 pub un : {A B G : Type 0} {o : Outcome State A} {k : A → Reader B} {b : B} {t : State} → next o k ≡ ok b t → ((a : A) (u : State) → o ≡ ok a u → k a u ≡ ok b t → G) → G
-unfolding next
-un {A = A} {G = G} {o = o} {k = k} {b = b} {t = t} e g = go o refl e
-  where
-    go : (x : Outcome State A) → o ≡ x → next x k ≡ ok b t → G
-    go (ok a u) p q = g a u p q
-    go (refused r) p q = apart (cc)
+un {o = o} {k = k} e g = taken o k e g
 
 ok-state : {A : Type 0} {a b : A} {s t : State} → ok a s ≡ ok b t → s ≡ t
 ok-state e = cc

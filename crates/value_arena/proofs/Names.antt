@@ -1,5 +1,5 @@
 -- The search for a symbol by its name, and the slices that builders take.
-use Prim.Native.Nat.{ℕ, zero, suc, _+_, _*_, _/_, _%_, _≤_, _<_}
+use Prim.Native.Nat.{ℕ, suc, _+_, _*_, _/_, _%_, _≤_, _<_}
 use native.Mathlib.Omega.{arith}
 use native.Mathlib.Numerals.{add-one}
 use native.Mathlib.Decide.{decLt}
@@ -11,11 +11,10 @@ use lib.Dec.{eqb}
 use lib.ListN.{length, getD, take, drop, drop-of-length-le, List·getD-eq-default}
 use lib.Seq.{drop-cons, length-take-le}
 use borrow.Author.Tests.{eq-eqb, ne-eqb}
-use Rattle.definition.specs.Run.{ok, pure, refuse, next, _>>=_, look, pick}
+use Rattle.definition.specs.Run.{ok, pick}
 use Rattle.definition.specs.Node.{Row, nil, symbol, kind, row, row-of, rows, equal}
-use Rattle.definition.specs.Arena.{Arena, node, range, name-of, named, find-symbol, too-long, lowest, allowed, sound, fault}
-use Rattle.definition.specs.Build.{Lent, held, check, wrong, byte-slice, member-slice, pair-slice}
-use Rattle.definition.specs.declared.Fault.{Fault}
+use Rattle.definition.specs.Arena.{Arena, node, range, name-of, named, find-symbol, too-long, lowest}
+use Rattle.definition.specs.Build.{Lent, held, check, byte-slice, member-slice, pair-slice}
 use Rattle.lists.specs.Slices.{no-slice, slice, lowest-none, whole-pairs}
 use Rattle.lists.specs.Words.{equal-true}
 use Rattle.lists.specs.Ranges.{length-range, range-step, range-end}
@@ -24,8 +23,8 @@ use Rattle.arena_check.proofs.Lists.{kind-three}
 use Rattle.arena_check.proofs.Rights.{node-words, range-take}
 use Rattle.well_formed.specs.Nodes.{at-node}
 use Rattle.well_formed.specs.Right as R
+use Rattle.well_formed.specs.Checks.{checked}
 use Rattle.value_arena.specs.Calls.{SymbolsIn}
-use Rattle.value_arena.proofs.Tests.{no-refusal}
 
 -- ---- the same bytes
 
@@ -133,15 +132,6 @@ pub nodes-counted : (A : Arena) (count : ℕ) (t : List ℕ) → A .nodes ≡ ro
 nodes-counted A count t e = ap length e ∙ length-rows count t
 
 -- a checked arena's symbols are right
-pub fault-free : (L : Lent) (ts : List (ℕ × Bool)) → check ts L ≡ ok tt L → fault (L .tables) (L .counts) ≡ none
-unfolding check look _>>=_ next allowed sound pure refuse
-fault-free L ts e = go (wrong (L .tables) ts) (fault (L .tables) (L .counts)) e
-  where
-    go : (w : ℕ) (f : Option Fault) → next (allowed w L) (λ _. sound f) ≡ ok tt L → f ≡ none
-    go zero none e = refl
-    go zero (some f) e = absurd (no-refusal e)
-    go (suc w) f e = absurd (no-refusal e)
-
 -- past the nodes there is nil, and nil is no symbol
 out : (A : Arena) (i : ℕ) → length (A .nodes) ≤ i → node A i ≡ nil
 unfolding node
@@ -158,7 +148,7 @@ symbols-in L ts e i s l q = go (decLt i (length (held L .nodes)))
     past h = out (held L) i h
 
     go : Dec (i < length (held L .nodes)) → s + l ≤ length (held L .bytes)
-    go (yes h) = R.fault-right (L .tables) (L .counts) (fault-free L ts e) .rows-right i (symbol s l) (at-node (held L) i h ∙ ap some q)
+    go (yes h) = R.fault-right (L .tables) (L .counts) (checked ts L L tt e .0) .rows-right i (symbol s l) (at-node (held L) i h ∙ ap some q)
     go (no h) = let z : _≡_ {A = ℕ} 0 3 = kinds (sym (past (omega arith)) ∙ q) in absurd (omega arith)
 
 -- ---- a slice besides the tables

@@ -18,8 +18,8 @@ use Rattle.definition.specs.declared.Reading.the-variants.{Whole, NotANumber}
 use Rattle.lists.specs.Tables.{rows-at}
 use Rattle.well_formed.specs.Nodes.{at-node}
 use Rattle.well_formed.specs.Right as R
+use Rattle.well_formed.specs.Checks.{checked}
 use Rattle.arena_check.proofs.Rights.{node-words, range-take}
-use Rattle.value_arena.proofs.Names.{fault-free}
 use Rattle.weight.specs.Gives.{Inside, Has}
 
 -- whichever is picked
@@ -28,7 +28,7 @@ unfolding pick
 either bs true x y p q = p
 either bs false x y p q = q
 
--- the second is
+-- the second, where the test fails
 second : (bs : List ℕ) (b : Bool) (x y : Row) → b ≡ false → row-reading bs y ≡ NotANumber → row-reading bs (pick b x y) ≡ NotANumber
 unfolding pick
 second bs b x y e p = ap (λ (c : Bool). row-reading bs (pick c x y)) e ∙ p
@@ -82,7 +82,7 @@ module _ (t : List ℕ) (h : ℕ) (l : h * 7 + 7 ≤ length t) where
 
 module _ (L : Lent) (h : ℕ) (e : check [] L ≡ ok tt L) (l : h < L .counts .nodes) where
   fit : R.Fit (L .tables) (L .counts)
-  fit = R.fault-fit (L .tables) (L .counts) (fault-free L [] e)
+  fit = R.fault-fit (L .tables) (L .counts) (checked [] L L tt e .0)
 
   node-is : node (held L) h ≡ row (words-at (L .tables .nodes) h)
   unfolding node arena words-at
@@ -94,7 +94,7 @@ module _ (L : Lent) (h : ℕ) (e : check [] L ≡ ok tt L) (l : h < L .counts .n
   pub is-inside : Inside (L .tables .nodes) (L .tables .bytes) (L .counts .bytes) h
   is-inside = (
     inside,
-    λ k. omega (arith, R.fault-right (L .tables) (L .counts) (fault-free L [] e) .rows-right h (float _ _) (at-node (held L) h (omega (arith, l, fit .nodes)) ∙ ap some (node-is ∙ is-float (L .tables .nodes) h inside k)), fit .bytes),
+    λ k. omega (arith, R.fault-right (L .tables) (L .counts) (checked [] L L tt e .0) .rows-right h (float _ _) (at-node (held L) h (omega (arith, l, fit .nodes)) ∙ ap some (node-is ∙ is-float (L .tables .nodes) h inside k)), fit .bytes),
     fit .bytes-fit,
   )
 

@@ -17,7 +17,8 @@ use Rattle.definition.specs.declared.Reading.the-variants.{NotANumber}
 use Rattle.definition.specs.declared.Refusal.{Refusal}
 use Rattle.definition.specs.declared.Refusal.the-variants.{BadHandle, NotAWeight, BadMoisture}
 use Rattle.value_arena.proofs.Calls.{on, stop}
-use Rattle.weight_laws.specs.Readings.{un, check-keeps}
+use Rattle.lists.specs.Runs.{un}
+use Rattle.well_formed.specs.Checks.{checked}
 use Rattle.weight.specs.Gives.{Has, Gives}
 use Rattle.weight.specs.declared.Given.{Given}
 use Rattle.weight.specs.declared.Given.the-variants as G
@@ -125,4 +126,4 @@ module _ (L : Lent) (d m : ℕ) where
 -- an arena whose handle was accepted was checked
 pub was-checked : (L : Lent) (h : ℕ) → handle-checked h L ≡ ok tt L → check [] L ≡ ok tt L
 unfolding handle-checked _>>=_
-was-checked L h e = un (check [] L) _ e λ u M f g. f ∙ ap (ok tt) (sym (check-keeps L M u f))
+was-checked L h e = un (check [] L) _ e λ u M f g. f ∙ ap (ok tt) (sym (checked [] L M u f .1))

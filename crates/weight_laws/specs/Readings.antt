@@ -1,24 +1,23 @@
 -- What a node reads as, and what the call that reads it answers: a whole number of 32 bits, or the nearest double to a decimal, and never a NaN.
-use Prim.Native.Nat.{ℕ, zero, suc}
-use mathlib.Core.Path.{_≡_, refl, sym, _∙_, subst}
-use mathlib.Core.Bool.{Bool, true, false, not}
+use Prim.Native.Nat.{ℕ}
+use mathlib.Core.Path.{_≡_, refl, sym, ap, _∙_, subst}
+use mathlib.Core.Bool.{Bool, not}
 use mathlib.Core.List.{List, [], _∷_}
 use mathlib.Core.Option.{Option, none, some}
-use lib.Dec.{T, ltb}
+use lib.Dec.{T}
 use lib.Ieee.{Float, nan, inf, fin, isNan}
 use lib.Ieee.Scale.{finite}
-use Rattle.definition.specs.Run.{Run, Outcome, ok, refused, pure, refuse, next, _>>=_, look, pick}
+use Rattle.definition.specs.Run.{Outcome, ok, refused, pure, next, _>>=_, look}
 use Rattle.definition.specs.Refused.{signed}
 use Rattle.definition.specs.Node.{Row, nil, bool, fixnum, symbol, array, hash, object, string, user, float, bignum}
-use Rattle.definition.specs.Arena.{node, range, allowed, fault, sound}
-use Rattle.definition.specs.Build.{Lent, held, wrong, check, check-handles, handle-checked}
+use Rattle.definition.specs.Arena.{node, range}
+use Rattle.definition.specs.Build.{Lent, held, check, handle-checked}
 use Rattle.definition.specs.Weight.{Decimal, decimal, double, text-reading, row-reading, node-reading, get-reading, read-done, Nearest}
 use Rattle.definition.specs.declared.Reading.{Reading}
 use Rattle.definition.specs.declared.Reading.the-variants.{Whole, Double, NotANumber}
-use Rattle.definition.specs.declared.Fault.{Fault}
-use Rattle.definition.specs.declared.Refusal.{Refusal}
-use Rattle.definition.specs.declared.Refusal.the-variants.{BadHandle}
 use Rattle.lists.specs.Lists.{apart as impossible}
+use Rattle.lists.specs.Runs.{un}
+use Rattle.well_formed.specs.Checks.{after-handles, checked}
 use Rattle.weight_laws.specs.Decimals.{Plain, plain-finite, reading-plain, number, power, double-plain, double-nearest}
 use Rattle.weight_laws.specs.Grammar.{spelled, Proper, decimal-sound}
 
@@ -92,16 +91,6 @@ row-double bytes (float s l) x e =
       nearest = subst (λ (z : Float). Nearest z (number (k .0)) (power (k .0))) (k .2) (double-nearest (k .0) (p .1));
     }
 
--- ---- an accepted call, taken apart
-
-pub no-ok : {A C : Type 0} {r : Refusal} {a : A} {M : Lent} → _≡_ {A = Outcome Lent A} (refused r) (ok a M) → C
-no-ok e = impossible (cc)
-
-pub un : {A B G : Type 0} (o : Outcome Lent A) (k : A → Run Lent B) {b : B} {M : Lent} → next o k ≡ ok b M → ((a : A) (L : Lent) → o ≡ ok a L → k a L ≡ ok b M → G) → G
-unfolding next
-un (ok a L) k e f = f a L refl e
-un (refused r) k e f = no-ok e
-
 -- ---- the call
 
 pub finite-no-nan : (x : Float) → T (finite x) → T (not (isNan x))
@@ -124,26 +113,15 @@ pub read-never-nan : (h : ℕ) (L : Lent) (x : Float) → read-done (get-reading
 read-never-nan h L x e = let p : Sized (Double x) = subst Sized e (read-sized h L) in finite-no-nan x (plain-finite (p .0) x (p .1))
 
 -- the tests before the reading leave the arena as it is
-pub check-keeps : (L M : Lent) (u : Unit {0}) → check [] L ≡ ok u M → L ≡ M
-unfolding _>>=_ check look allowed sound pure refuse next
-check-keeps L M u e = go (wrong (L .tables) []) (fault (L .tables) (L .counts)) e
+keeps : (h : ℕ) (L M : Lent) (u : Unit {0}) → handle-checked h L ≡ ok u M → L ≡ M
+unfolding handle-checked _>>=_ next pure
+keeps h L M u e =
+    un (check [] L) _ e λ v K f g.
+    let r = after-handles (h ∷ []) (λ _. pure u) K M u (ap (λ (o : Outcome Lent (Unit {0})). next o (λ _. pure u)) g) in
+    checked [] L K v f .1 ∙ same (r .1)
   where
-    go : (w : ℕ) (f : Option Fault) → next (allowed w L) (λ _. sound f) ≡ ok u M → L ≡ M
-    go zero none e = cc
-    go zero (some f) e = no-ok e
-    go (suc w) f e = no-ok e
-
-handle-keeps : (h : ℕ) (L M : Lent) (u : Unit {0}) → check-handles (h ∷ []) L ≡ ok u M → L ≡ M
-unfolding check-handles look pick pure refuse
-handle-keeps h L M u e = go (ltb h (L .counts .nodes)) e
-  where
-    go : (b : Bool) → pick b (pure (tt {0})) (refuse (BadHandle h)) L ≡ ok u M → L ≡ M
-    go true e = cc
-    go false e = no-ok e
-
-checked-keeps : (h : ℕ) (L M : Lent) (u : Unit {0}) → handle-checked h L ≡ ok u M → L ≡ M
-unfolding handle-checked _>>=_
-checked-keeps h L M u e = un (check [] L) _ e λ a K f g. check-keeps L K a f ∙ handle-keeps h K M u g
+    same : {K M : Lent} → ok u K ≡ ok u M → K ≡ M
+    same e = cc
 
 -- so a double that it reads is the nearest to what the node's text says
 pub read-double : (h : ℕ) (L : Lent) (x : Float) → read-done (get-reading h L) .reading ≡ Double x → FromText (held L .bytes) (node (held L) h) x
@@ -151,5 +129,5 @@ unfolding read-done get-reading node-reading _>>=_ look pure next
 read-double h L x e = go (handle-checked h L) refl e
   where
     go : (o : Outcome Lent (Unit {0})) → handle-checked h L ≡ o → read-done (next o (λ _. node-reading h)) .reading ≡ Double x → FromText (held L .bytes) (node (held L) h) x
-    go (ok u M) f e = subst (λ (K : Lent). FromText (held K .bytes) (node (held K) h) x) (sym (checked-keeps h L M u f)) (row-double (held M .bytes) (node (held M) h) x e)
+    go (ok u M) f e = subst (λ (K : Lent). FromText (held K .bytes) (node (held K) h) x) (sym (keeps h L M u f)) (row-double (held M .bytes) (node (held M) h) x e)
     go (refused r) f e = impossible (cc)

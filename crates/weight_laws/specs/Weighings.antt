@@ -23,11 +23,12 @@ use Rattle.definition.specs.declared.Reading.the-variants.{Whole, Double, NotAN
 use Rattle.definition.specs.declared.Refusal.the-variants.{NotAWeight, BadMoisture}
 use Rattle.definition.specs.declared.Weighing.{Weighing}
 use Rattle.lists.specs.Lists.{apart as impossible}
+use Rattle.lists.specs.Runs.{no-ok, un}
 use Rattle.weight_laws.specs.Values.{value-finite, own-value, zero-num}
 use Rattle.weight_laws.specs.Rounding.{Near, rounded-near, fraction-twice, double-twice}
 use Rattle.weight_laws.specs.Nearest.{apart-mul}
 use Rattle.weight_laws.specs.Decimals.{Plain, round-zero, div-at, negative, whole-plain}
-use Rattle.weight_laws.specs.Readings.{Sized, row-sized, no-ok, un, finite-no-nan}
+use Rattle.weight_laws.specs.Readings.{Sized, row-sized, finite-no-nan}
 
 -- ---- the bound, over numbers
 

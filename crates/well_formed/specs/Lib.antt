@@ -1,3 +1,4 @@
--- Nodes at their places, and what a well formed arena is.
+-- Nodes at their places, what a well formed arena is, and what the tests of a call say.
 pub mod Nodes
 pub mod Right
+pub mod Checks
