@@ -51,7 +51,8 @@ enum ruby_marshal_refusal {
     RUBY_MARSHAL_BAD_SIGN = 15,       /* (byte) bignum's sign, neither + nor - */
     RUBY_MARSHAL_TOO_BIG = 16,        /* (units) bignum of more than 4 units of 16 bits, or of 2^63 and more */
     RUBY_MARSHAL_NOT_A_WEIGHT = 17,   /* (node) no number, or a dry weight below 0 */
-    RUBY_MARSHAL_BAD_MOISTURE = 18    /* moisture below 0 or above 0.5 */
+    RUBY_MARSHAL_BAD_MOISTURE = 18,   /* moisture below 0 or above 0.5 */
+    RUBY_MARSHAL_WRONG_SIGN = 19      /* (size byte) integer below 0 after 4, or not below 0 after 252 */
 };
 
 /* The slices that BAD_TABLES and NO_SPACE name; the lowest wrong one is named. No slice has more than 2147483647 entries. */
@@ -183,7 +184,8 @@ enum ruby_marshal_kind {
  * bytes that were used. It does not depend on the tables or the limit.
  * Accepted: the tables hold the arena, zeros past the counts; both lists are zero. Node 0 is nil.
  * Refused with 1 (slices 1 2 3 4 5 7 8): nothing is touched; counts 0, 0, 0, 0.
- * Refused with 3 to 12, 15 or 16: tables and lists are zero; counts 1, 0, 0, 0, which with them are an arena that holds nil.
+ * Refused with 3 to 12, 15, 16 or 19: tables and lists are zero; counts 1, 0, 0, 0, which with them are an arena that holds
+ * nil.
  */
 uint32_t ruby_marshal_load(
     const uint8_t *input, size_t input_length,
@@ -527,6 +529,7 @@ static inline const char *ruby_marshal_name(uint32_t returned)
     case RUBY_MARSHAL_TOO_BIG: return "TOO-BIG";
     case RUBY_MARSHAL_NOT_A_WEIGHT: return "NOT-A-WEIGHT";
     case RUBY_MARSHAL_BAD_MOISTURE: return "BAD-MOISTURE";
+    case RUBY_MARSHAL_WRONG_SIGN: return "WRONG-SIGN";
     default: return "?";
     }
 }

@@ -3,7 +3,7 @@
 A corpus is a folder of *.jsonl files, a case a line. Several are read in order: each adds the cases of its files, and its
 changed.jsonl gives cases of the folders before it, named by `file` and `id`, as they are from then on; `gone` takes one out.
 A request's changed.jsonl speaks of the first folder alone. Cases of the folders between that answer otherwise from a request on
-are in tools/changed, in a file of the request's name, by hand from the documents; `file` there is the folder's name and the file's.
+are in tools/changed, in a file of the request's name, after the documents; `file` there is the folder's name and the file's.
 Cases of the folder `functions` are marked where they are of requests that may be in or not; `runs` reads the marks.
 """
 import json, os, re, struct
@@ -16,7 +16,7 @@ FILES = {"load": ["load-tight", "load-list", "saved", "load"], "dump": ["dump"],
          "weigh": ["weigh"]}
 
 # The requests of document 02 that are in, as the marks name them.
-IN = {"2.1", "2.2", "2.3", "2.4", "2.5"}
+IN = {"2.1", "2.2", "2.3", "2.4", "2.5", "2.6"}
 
 
 def name_of(label):

@@ -633,6 +633,9 @@ static void refusals(void)
         { "\x04\x08l*", 4, 1, RUBY_MARSHAL_BAD_SIGN, '*', 0 },
         { "\x04\x08l+\x0A", 5, 1, RUBY_MARSHAL_TOO_BIG, 5, 0 },
         { "\x04\x08l-\x09\0\0\0\0\0\0\0\x80", 13, 1, RUBY_MARSHAL_TOO_BIG, 4, 0 },
+        { "\x04\x08i\xFC\0\0\0\0", 8, 1, RUBY_MARSHAL_WRONG_SIGN, 0xFC, 0 },
+        { "\x04\x08[\x04\0\0\0\x80", 8, 1, RUBY_MARSHAL_WRONG_SIGN, 4, 0 }, /* before NEGATIVE_COUNT */
+        { "\x04\x08@\xFC\xFF\xFF\xFF\x7F", 8, 1, RUBY_MARSHAL_WRONG_SIGN, 0xFC, 0 },
     };
     size_t i;
     for (i = 0; i < sizeof cases / sizeof cases[0]; i++) {

@@ -91,7 +91,7 @@ pub enum Fault {
     Node(u32),
 }
 
-/// Why a call is refused: the eighteen numbers of documents 01 and 02 with their details.
+/// Why a call is refused: the nineteen numbers of documents 01 and 02 with their details.
 #[derive(Clone, Copy, Debug, PartialEq, Eq, Hash)]
 #[non_exhaustive]
 pub enum Refusal {
@@ -136,6 +136,8 @@ pub enum Refusal {
     NotAWeight(u32),
     /// A moisture below 0 or above 0.5.
     BadMoisture,
+    /// An integer below 0 after this size byte, 4, or not below 0 after 252.
+    WrongSign(u8),
     /// A number that this crate doesn't know: the archive is of another version.
     Other {
         /// What was returned.
@@ -172,11 +174,12 @@ impl Refusal {
             16 => Refusal::TooBig(first as u32),
             17 => Refusal::NotAWeight(first as u32),
             18 => Refusal::BadMoisture,
+            19 => Refusal::WrongSign(first as u8),
             _ => Refusal::Other { number, first: first as i64, second },
         })
     }
 
-    /// The number in documents 01 and 02, 1 to 18.
+    /// The number in documents 01 and 02, 1 to 19.
     pub fn number(self) -> u32 {
         match self {
             Refusal::BadTables(_) => 1,
@@ -197,6 +200,7 @@ impl Refusal {
             Refusal::TooBig(_) => 16,
             Refusal::NotAWeight(_) => 17,
             Refusal::BadMoisture => 18,
+            Refusal::WrongSign(_) => 19,
             Refusal::Other { number, .. } => number,
         }
     }
@@ -208,7 +212,9 @@ impl Refusal {
             Refusal::BadArena(Fault::Counts) => (-1, 0),
             Refusal::InvalidVersion { major, minor } => (major.into(), minor.into()),
             Refusal::ShortInput | Refusal::NotAnObject | Refusal::BadMoisture => (0, 0),
-            Refusal::InvalidKind(byte) | Refusal::NotASymbol(byte) | Refusal::BadSign(byte) => (byte.into(), 0),
+            Refusal::InvalidKind(byte) | Refusal::NotASymbol(byte) | Refusal::BadSign(byte) | Refusal::WrongSign(byte) => {
+                (byte.into(), 0)
+            }
             Refusal::NegativeCount(value) => (value.into(), 0),
             Refusal::BadArena(Fault::Node(n))
             | Refusal::MissingSymbol(n)
@@ -243,6 +249,7 @@ impl Refusal {
             Refusal::TooBig(_) => "TOO-BIG",
             Refusal::NotAWeight(_) => "NOT-A-WEIGHT",
             Refusal::BadMoisture => "BAD-MOISTURE",
+            Refusal::WrongSign(_) => "WRONG-SIGN",
             Refusal::Other { .. } => "?",
         }
     }
@@ -270,6 +277,7 @@ impl fmt::Display for Refusal {
             Refusal::TooBig(units) => write!(f, "a bignum of {units} units is too big"),
             Refusal::NotAWeight(handle) => write!(f, "node {handle} is no weight"),
             Refusal::BadMoisture => f.write_str("moisture below 0 or above 0.5"),
+            Refusal::WrongSign(size) => write!(f, "size byte {size:02X} on an integer of the other sign"),
             Refusal::Other { number, first, second } => write!(f, "refusal {number}, {first}, {second}"),
         }
     }

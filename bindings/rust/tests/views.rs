@@ -396,6 +396,8 @@ fn refusals() {
         (b"\x04\x08l*", 1, Refusal::BadSign(b'*'), "sign byte 2A, neither + nor -"),
         (b"\x04\x08l+\x0a", 1, Refusal::TooBig(5), "a bignum of 5 units is too big"),
         (b"\x04\x08l-\x09\0\0\0\0\0\0\0\x80", 1, Refusal::TooBig(4), "a bignum of 4 units is too big"),
+        (b"\x04\x08i\x04\xff\xff\xff\xff", 1, Refusal::WrongSign(4), "size byte 04 on an integer of the other sign"),
+        (b"\x04\x08@\xfc\xff\xff\xff\x7f", 1, Refusal::WrongSign(0xfc), "size byte FC on an integer of the other sign"),
     ];
     for &(input, limit, expected, text) in cases {
         let refusal = load_refused(input, limit);
@@ -423,6 +425,7 @@ fn refusals() {
         (Refusal::TooBig(5), "TOO-BIG", 16, (5, 0)),
         (Refusal::NotAWeight(2), "NOT-A-WEIGHT", 17, (2, 0)),
         (Refusal::BadMoisture, "BAD-MOISTURE", 18, (0, 0)),
+        (Refusal::WrongSign(252), "WRONG-SIGN", 19, (252, 0)),
     ];
     for (refusal, name, number, details) in names {
         assert_eq!((refusal.name(), refusal.number(), refusal.details()), (name, number, details));

@@ -1,5 +1,6 @@
--- The Marshal integer: its bytes and its 32 bits, as a word below 2^32 in two's complement (01, "Integer" and "dump").
+-- The Marshal integer: its bytes and its 32 bits, as a word below 2^32 in two's complement (01, "Integer" and "dump"; 02, 2.6).
 use Prim.Native.Nat.{ℕ, zero, suc, _+_, _-_, _*_, _/_, _%_, _^_}
+use mathlib.Core.Bool.{Bool, _&&_}
 use mathlib.Core.List.{List, [], _∷_}
 use lib.Count.{leadingZeros}
 use lib.Dec.{ltb, leb, eqb}
@@ -25,6 +26,10 @@ form b =
 unfoldable pub little : List ℕ → ℕ → ℕ
 little [] above = above
 little (b ∷ bs) above = little bs above * 256 + b
+
+-- "Size byte 04 with the top data bit set", or "FC with it clear": does the size byte b disagree with the sign of the word read?
+unfoldable pub wrong-sign : ℕ → ℕ → Bool
+wrong-sign b w = pick (eqb b 4) (leb 2147483648 w) (eqb b 252 && ltb w 2147483648)
 
 -- ---- writing
 

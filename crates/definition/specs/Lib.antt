@@ -18,3 +18,4 @@ pub mod Bignums
 pub mod DumpForm
 pub mod Measured
 pub mod Weights
+pub mod Signs

@@ -1,4 +1,4 @@
--- What load answers and what it leaves in the tables: a reader over growing lists (01, "load"; 02, 2.1 to 2.4).
+-- What load answers and what it leaves in the tables: a reader over growing lists (01, "load"; 02, 2.1 to 2.4 and 2.6).
 use Prim.Native.Nat.{ℕ, zero, suc, _+_, _-_, _*_, _/_}
 use mathlib.Core.Bool.{Bool, true, false, _&&_, _||_}
 use mathlib.Core.List.{List, [], _∷_, _++_}
@@ -6,7 +6,7 @@ use mathlib.Core.Option.{Option, none, some}
 use lib.Dec.{ltb, leb, eqb}
 use lib.ListN.{length, getD, set, replicate}
 use Rattle.definition.specs.Run.{Run, Outcome, ok, refused, pure, refuse, _>>=_, look, pick}
-use Rattle.definition.specs.Integer.{Form, value as form-value, data-bytes, form, little, integer-bytes}
+use Rattle.definition.specs.Integer.{Form, value as form-value, data-bytes, form, little, wrong-sign, integer-bytes}
 use Rattle.definition.specs.Kind.{NIL, TRUE, FALSE, FIXNUM, SYMBOL, SYMBOL-LINK, OBJECT-LINK, INSTANCE-VARIABLES, ARRAY, HASH, HASH-DEFAULT, OBJECT, STRING, USER-DEFINED, FLOAT, BIGNUM, PLUS, MINUS}
 use Rattle.definition.specs.Node.{Row, nil, bool, fixnum, symbol, array, hash, object, string, user, float, bignum, absent, present, width, flat, equal}
 use Rattle.definition.specs.Magnitude.{fits, sign, sign-byte, unit-bytes, bignum-row}
@@ -16,7 +16,7 @@ use Rattle.definition.specs.declared.Counts.{Counts}
 use Rattle.definition.specs.declared.Loaded.{Loaded}
 use Rattle.definition.specs.declared.Measured.{Measured}
 use Rattle.definition.specs.declared.Refusal.{Refusal}
-use Rattle.definition.specs.declared.Refusal.the-variants.{BadTables, InvalidVersion, ShortInput, InvalidKind, NegativeCount, MissingSymbol, MissingObject, NotASymbol, NotAnObject, TooDeep, NoSpace, BadSign, TooBig}
+use Rattle.definition.specs.declared.Refusal.the-variants.{BadTables, InvalidVersion, ShortInput, InvalidKind, NegativeCount, MissingSymbol, MissingObject, NotASymbol, NotAnObject, TooDeep, NoSpace, BadSign, TooBig, WrongSign}
 
 -- how many nodes, references, bytes and entries of the two lists there is room for
 pub record Room : Type 0 where
@@ -102,14 +102,14 @@ read-bytes input n s = pick (leb n (length input - s .at)) (ok (range input (s .
 unfoldable pub read-header : List ℕ → Reader (Unit {0})
 read-header input = read-byte input >>= λ major. read-byte input >>= λ minor. pick (eqb major 4 && leb minor 8) (note (eqb minor 8)) (refuse (InvalidVersion major minor))
 
--- the word that an integer's bytes say; "The integer reader must therefore tell whether its form was the one dump writes"
-unfoldable pub tell : List ℕ → ℕ → Reader ℕ
-tell bs w s = ok w (noted (equal bs (integer-bytes w)) s)
+-- the word that an integer's first byte and data bytes say; "19 WRONG-SIGN, with the size byte, once all four data bytes are present and before 6"; "The integer reader must therefore tell whether its form was the one dump writes"
+unfoldable pub tell : ℕ → List ℕ → ℕ → Reader ℕ
+tell b bs w = pick (wrong-sign b w) (refuse (WrongSign b)) (note (equal (b ∷ bs) (integer-bytes w)) >>= λ _. pure w)
 
 -- "Integer": after the first byte, which is given
 unfoldable pub read-form : List ℕ → ℕ → Form → Reader ℕ
-read-form input b (form-value w) = tell (b ∷ []) w
-read-form input b (data-bytes n above) = read-bytes input n >>= λ bs. tell (b ∷ bs) (little bs above)
+read-form input b (form-value w) = tell b [] w
+read-form input b (data-bytes n above) = read-bytes input n >>= λ bs. tell b bs (little bs above)
 
 -- "Integer": the first byte and what it asks for
 unfoldable pub read-integer : List ℕ → Reader ℕ

@@ -1,4 +1,4 @@
--- The bytes that document 01 marks with a star, computed (01, "Bytes with known outcomes").
+-- The bytes that document 01 marks with a star, computed (01, "Bytes with known outcomes"; 02, 2.6).
 use Prim.Native.Nat.{ℕ, _*_}
 use mathlib.Core.Bool.{Bool}
 use mathlib.Core.Path.{_≡_, refl}
@@ -8,7 +8,7 @@ use lib.IntN.{ℤ, pos, negsuc}
 use lib.ListN.{take, replicate}
 use Rattle.definition.specs.Run.{Outcome, ok, refused, pure, refuse, next, _>>=_, look, pick}
 use Rattle.definition.specs.Refused.{signed, place, numbers}
-use Rattle.definition.specs.Integer.{form, little, low-bytes, fewest, integer-bytes}
+use Rattle.definition.specs.Integer.{form, little, wrong-sign, low-bytes, fewest, integer-bytes}
 use Rattle.definition.specs.Node as N
 use Rattle.definition.specs.Magnitude.{fits, sign, magnitude, bignum-row, fewest-units, sign-byte, unit-bytes, bignum-bytes}
 use Rattle.definition.specs.Arena as A
@@ -19,27 +19,32 @@ use Rattle.definition.specs.declared.Answer.the-variants.{Accepted, Refu
 
 -- ---- integers
 
--- the number that an integer's bytes say
-said : Outcome L.State ℕ → ℤ
-said (ok w s) = signed w
-said (refused r) = pos 4294967296
+-- what an integer's bytes say: a number, or the refusal's three numbers
+data Said : Type 0 where
+  number : ℤ → Said
+  not-read : ℕ × ℤ × ℤ → Said
 
-read : List ℕ → ℤ
-unfolding said signed L.read-integer L.read-form L.tell L.read-bytes L.read-byte A.range N.equal form little integer-bytes low-bytes fewest leadingZeros pure next _>>=_ pick
+said : Outcome L.State ℕ → Said
+said (ok w s) = number (signed w)
+said (refused r) = not-read (numbers r)
+
+read : List ℕ → Said
+unfolding said numbers signed L.read-integer L.read-form L.tell L.note L.read-bytes L.read-byte A.range N.equal form little wrong-sign integer-bytes low-bytes fewest leadingZeros pure refuse next _>>=_ pick
 read bytes = said (L.read-integer bytes L.begin)
 
-abbrev integers : List (List ℕ × ℤ)
+abbrev integers : List (List ℕ × Said)
 integers =
-    (0x05 ∷ [], pos 0)
-    ∷ (0xFB ∷ [], pos 0)
-    ∷ (0x7F ∷ [], pos 122)
-    ∷ (0x80 ∷ [], negsuc 122)
-    ∷ (0x01 ∷ 0x7B ∷ [], pos 123)
-    ∷ (0xFF ∷ 0x84 ∷ [], negsuc 123)
-    ∷ (0xFF ∷ 0x00 ∷ [], negsuc 255)
-    ∷ (0xFE ∷ 0xFF ∷ 0xFE ∷ [], negsuc 256)
-    ∷ (0x04 ∷ 0xFF ∷ 0xFF ∷ 0xFF ∷ 0xFF ∷ [], negsuc 0)
-    ∷ (0xFC ∷ 0xFF ∷ 0xFF ∷ 0xFF ∷ 0x7F ∷ [], pos 2147483647)
+    (0x05 ∷ [], number (pos 0))
+    ∷ (0xFB ∷ [], number (pos 0))
+    ∷ (0x7F ∷ [], number (pos 122))
+    ∷ (0x80 ∷ [], number (negsuc 122))
+    ∷ (0x01 ∷ 0x7B ∷ [], number (pos 123))
+    ∷ (0xFF ∷ 0x84 ∷ [], number (negsuc 123))
+    ∷ (0xFF ∷ 0x00 ∷ [], number (negsuc 255))
+    ∷ (0xFE ∷ 0xFF ∷ 0xFE ∷ [], number (negsuc 256))
+    -- refused since 02, 2.6
+    ∷ (0x04 ∷ 0xFF ∷ 0xFF ∷ 0xFF ∷ 0xFF ∷ [], not-read (19, pos 4, pos 0))
+    ∷ (0xFC ∷ 0xFF ∷ 0xFF ∷ 0xFF ∷ 0x7F ∷ [], not-read (19, pos 252, pos 0))
     ∷ []
 
 -- ---- loads and dumps
@@ -62,7 +67,7 @@ result c Accepted = dumped (take (c .answer .counts .nodes * N.width) (c .lent .
 result c (Refused r) = not-loaded (numbers r)
 
 call : List ℕ → L.LoadCall
-unfolding lent L.load-call L.load-if L.load-done L.load-wrong L.room-of L.load L.read-header L.read-value L.value-of L.read-variables L.set-variables L.read-bignum L.read-magnitude L.add-bignum L.read-unit-count L.read-sign L.read-float L.read-user-defined L.read-string L.read-text L.read-object L.read-hash L.read-default L.read-array L.read-fixnum L.read-instance-variables L.read-pairs L.read-elements L.counted L.read-symbol-like L.head L.read-object-link L.read-symbol-link L.entry L.read-symbol L.intern L.intern-as L.put-reference L.fill L.add-object-node L.add-object L.add-symbol L.add-bytes L.reserve L.add-node L.read-byte-string L.read-count L.read-integer L.read-form L.tell L.read-bytes L.read-byte L.takes-variables L.compare L.note A.compared-among A.compared-with A.bytes-compared A.find-symbol A.named A.name-of A.lowest A.bad-nodes A.too-long A.range A.zeroed A.padded N.equal N.flat N.words N.kind fits sign bignum-row fewest-units sign-byte unit-bytes form little integer-bytes low-bytes fewest leadingZeros pure refuse next _>>=_ look pick
+unfolding lent L.load-call L.load-if L.load-done L.load-wrong L.room-of L.load L.read-header L.read-value L.value-of L.read-variables L.set-variables L.read-bignum L.read-magnitude L.add-bignum L.read-unit-count L.read-sign L.read-float L.read-user-defined L.read-string L.read-text L.read-object L.read-hash L.read-default L.read-array L.read-fixnum L.read-instance-variables L.read-pairs L.read-elements L.counted L.read-symbol-like L.head L.read-object-link L.read-symbol-link L.entry L.read-symbol L.intern L.intern-as L.put-reference L.fill L.add-object-node L.add-object L.add-symbol L.add-bytes L.reserve L.add-node L.read-byte-string L.read-count L.read-integer L.read-form L.tell L.read-bytes L.read-byte L.takes-variables L.compare L.note A.compared-among A.compared-with A.bytes-compared A.find-symbol A.named A.name-of A.lowest A.bad-nodes A.too-long A.range A.zeroed A.padded N.equal N.flat N.words N.kind fits sign bignum-row fewest-units sign-byte unit-bytes form little wrong-sign integer-bytes low-bytes fewest leadingZeros pure refuse next _>>=_ look pick
 call input = L.load-call input lent 64
 
 unfoldable pub load-and-dump : List ℕ → Result

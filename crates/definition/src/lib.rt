@@ -142,7 +142,7 @@ pub enum Fault {
     Node(u32),
 }
 
-// Why a call is refused, in the order of the numbers 1 to 18 of documents 01 and 02.
+// Why a call is refused, in the order of the numbers 1 to 19 of documents 01 and 02.
 pub enum Refusal {
     BadTables(u32),
     BadArena(Fault),
@@ -163,6 +163,7 @@ pub enum Refusal {
     TooBig(u32),
     NotAWeight(u32),
     BadMoisture,
+    WrongSign(u8),
 }
 
 pub enum Answer {

@@ -1,7 +1,7 @@
--- An integer's bytes as dump writes them: how many data bytes there are, the five forms, and bytes that are another form.
+-- An integer's bytes as dump writes them: how many data bytes there are, the five forms, bytes that are another form, and a size byte against the sign.
 use Prim.Native.Nat.{ℕ, suc, _+_, _-_, _*_, _%_, _^_, _≤_, _<_}
 use native.Mathlib.Omega.{arith}
-use mathlib.Core.Bool.{Bool, true, false}
+use mathlib.Core.Bool.{Bool, true, false, _&&_, true≢false}
 use mathlib.Core.Path.{_≡_, refl, sym, ap, _∙_}
 use mathlib.Core.List.{List, [], _∷_}
 use lib.Count.{leadingZeros, leading-top}
@@ -9,7 +9,7 @@ use lib.Pow.{pow-mono}
 use lib.Dec.{leb, ltb, eqb}
 use borrow.Author.Tests.{lt-ltb, le-ltb, le-leb, lt-leb, eq-eqb, ne-eqb, eqb-true, eqb-false, leb-true, leb-false, ltb-true, ltb-false}
 use Rattle.definition.specs.Run.{pick}
-use Rattle.definition.specs.Integer.{integer-bytes, low-bytes, fewest}
+use Rattle.definition.specs.Integer.{integer-bytes, low-bytes, fewest, wrong-sign}
 use Rattle.definition.specs.Node.{equal}
 use Rattle.lists.specs.Words.{equal-self}
 
@@ -103,3 +103,28 @@ module _ (w b : ℕ) (bs : List ℕ) where
       zero? : (t : Bool) → eqb w 0 ≡ t → false ≡ equal (b ∷ bs) (integer-bytes w)
       zero? true e = let u = eqb-true w 0 e in other (bytes-zero w u) (z u)
       zero? false e = small? (leb w 122) refl (eqb-false w 0 e)
+
+-- ---- a size byte for a number of the other sign
+
+pub few-negative : (b w : ℕ) (bs : List ℕ) → 1 ≤ b → b ≤ 4 → 2147483648 ≤ w → w < 4294967296 → false ≡ equal (b ∷ bs) (integer-bytes w)
+few-negative b w bs h k l u =
+    other-form w b bs (λ z e. omega (arith, z, l)) (λ z m e. omega (arith, m, l)) (λ m v e. omega (arith, v, l)) (λ m v e. omega (arith, e, k, fewest-most (4294967295 - w))) (λ m e. omega (arith, e, k, m, u))
+
+pub many-positive : (b w : ℕ) (bs : List ℕ) → 252 ≤ b → w < 2147483648 → false ≡ equal (b ∷ bs) (integer-bytes w)
+many-positive b w bs h l =
+    other-form w b bs (λ z e. omega (arith, e, h)) (λ z m e. omega (arith, m, e, h)) (λ m v e. omega (arith, e, h, fewest-most w)) (λ m v e. omega (arith, m, l)) (λ m e. omega (arith, m, l))
+
+-- no form that dump writes has a size byte against its sign
+pub form-agrees : (w b : ℕ) (bs : List ℕ) → w < 4294967296 → equal (b ∷ bs) (integer-bytes w) ≡ true → wrong-sign b w ≡ false
+unfolding wrong-sign pick
+form-agrees w b bs u e = go (eqb b 4) (eqb b 252) (ltb w 2147483648) refl refl refl
+  where
+    no : {t : Bool} → false ≡ equal (b ∷ bs) (integer-bytes w) → t ≡ false
+    no q = absurd (true≢false (sym (q ∙ e)))
+
+    go : (x y z : Bool) → eqb b 4 ≡ x → eqb b 252 ≡ y → ltb w 2147483648 ≡ z → pick x (leb 2147483648 w) (y && ltb w 2147483648) ≡ false
+    go true y true f g h = lt-leb 2147483648 w (ltb-true w 2147483648 h)
+    go true y false f g h = let q = eqb-true b 4 f in no (few-negative b w bs (omega arith) (omega arith) (ltb-false w 2147483648 h) u)
+    go false true true f g h = let q = eqb-true b 252 g in no (many-positive b w bs (omega arith) (ltb-true w 2147483648 h))
+    go false true false f g h = h
+    go false false z f g h = refl

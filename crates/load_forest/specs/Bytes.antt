@@ -23,7 +23,7 @@ use Rattle.lists.specs.Ranges.{range-at, length-range-in}
 use Rattle.graph.specs.Forest.{Texted, text-string, text-float}
 use Rattle.graph.specs.View.{text-row}
 use Rattle.load_forest.specs.Trace.{Mode, Part, Plain, plain-nil, plain-true, plain-false, plain-fixnum, Trace, reading, plain, known, new, symbol-link, object-link, list, hash-default, object-pairs, text-bytes, user-bytes, bignum-node, stored, variables, no-elements, element, no-pairs, pair}
-use Rattle.load_forest.specs.Readers.{load-traced, read-byte-then, read-bytes-then}
+use Rattle.load_forest.specs.Readers.{load-traced, read-byte-then, read-bytes-then, tell-then}
 use Rattle.states.specs.States.{read-to, sought, with-node, with-symbol, with-object-node, with-bytes, with-word, with-row, with-room}
 use Rattle.states.specs.Rows.{list-length, Listed, is-array, is-hash, Varied, varied-string, varied-user}
 
@@ -55,27 +55,27 @@ ones-fit (suc (suc zero)) b e h = rw e (le-by-compare _ _ tt)
 ones-fit (suc (suc (suc zero))) b e h = rw e (le-by-compare _ _ tt)
 ones-fit (suc (suc (suc (suc j)))) b e h = absurd (omega arith)
 
-choose : (x : Bool) (f g : Form) → (x ≡ true → Fits f) → (x ≡ false → Fits g) → Fits (pick x f g)
+pub choose : (P : Form → Type 0) (x : Bool) (f g : Form) → (x ≡ true → P f) → (x ≡ false → P g) → P (pick x f g)
 unfolding pick
-choose true f g h k = h refl
-choose false f g h k = k refl
+choose P true f g h k = h refl
+choose P false f g h k = k refl
 
 form-fits : (b : ℕ) → b < 256 → Fits (form b)
 unfolding form Fits
 form-fits b h =
-    choose (eqb b 0) _ _ (λ e. omega arith)
-    (λ e₀. choose (leb b 4) _ _ (λ e. few-fit b (leb-true b 4 e))
-    (λ e₁. choose (leb b 127) _ _ (λ e. omega arith)
-    (λ e₂. choose (leb b 251) _ _ (λ e. mod-lt (2 ^ 32 + b - 251) (omega arith))
+    choose Fits (eqb b 0) _ _ (λ e. omega arith)
+    (λ e₀. choose Fits (leb b 4) _ _ (λ e. few-fit b (leb-true b 4 e))
+    (λ e₁. choose Fits (leb b 127) _ _ (λ e. omega arith)
+    (λ e₂. choose Fits (leb b 251) _ _ (λ e. mod-lt (2 ^ 32 + b - 251) (omega arith))
     (λ e₃. let l = leb-false b 251 e₃ in ones-fit (b - 252) b (omega arith) (omega arith)))))
 
 form-below : (input : List ℕ) → Below 256 input → (b : ℕ) (f : Form) → Fits f → (s t : State) (w : ℕ) → L.read-form input b f s ≡ ok w t → w < 4294967296
-unfolding L.read-form L.tell _>>=_ Fits
-form-below input h b (form-value x) g s t w e = let z : x ≡ w = cc in omega arith
+unfolding L.read-form _>>=_ Fits
+form-below input h b (form-value x) g s t w e = tell-then b [] x s w t e λ q z r. omega (arith, g, z)
 form-below input h b (data-bytes n above) g s t w e =
     read-bytes-then input n s _ w t e λ l e₁.
     let bs = range input (s .at) n in
-    let z : little bs above ≡ w = cc in
+    tell-then b bs (little bs above) _ w t e₁ λ a z r.
     let q : little bs above < (above + 1) * 256 ^ n = rw (length-range-in input (s .at) n l) at (little-below bs above (part-bytes input bs h (s .at, n, refl))) in
     omega arith
 

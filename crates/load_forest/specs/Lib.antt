@@ -3,6 +3,7 @@ pub mod Trace
 pub mod Readers
 pub mod Frames
 pub mod Bytes
+pub mod Signs
 pub mod Spelling
 pub mod Sound
 pub mod Kept

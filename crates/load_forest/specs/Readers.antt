@@ -11,8 +11,9 @@ use lib.Seq.{drop-cons, drop-drop}
 use native.Mathlib.Omega.{arith}
 use borrow.Author.Tests.{ltb-true, leb-true, eqb-true}
 use Rattle.definition.specs.declared.Refusal.{Refusal}
+use Rattle.definition.specs.declared.Refusal.the-variants.{WrongSign}
 use Rattle.definition.specs.Run.{Outcome, ok, refused, pure, refuse, next, _>>=_, look, pick}
-use Rattle.definition.specs.Integer.{Form, value as form-value, data-bytes, form, little, integer-bytes}
+use Rattle.definition.specs.Integer.{Form, value as form-value, data-bytes, form, little, wrong-sign, integer-bytes}
 use Rattle.definition.specs.Kind.{NIL, TRUE, FALSE, FIXNUM, SYMBOL, SYMBOL-LINK, OBJECT-LINK, INSTANCE-VARIABLES, ARRAY, HASH, HASH-DEFAULT, OBJECT, STRING, USER-DEFINED, FLOAT, BIGNUM, MINUS}
 use Rattle.definition.specs.Node.{Row, nil, bool, fixnum, symbol, array, hash, object, string, user, float, bignum, absent, present, equal}
 use Rattle.definition.specs.Magnitude.{fits, sign, fewest-units, sign-byte, unit-bytes, bignum-bytes, bignum-row}
@@ -22,7 +23,7 @@ use Rattle.definition.specs.Load.{State, Room, Reader, at-set, noted, begin}
 use Rattle.definition.specs.Dump.{byte-string-bytes}
 use Rattle.lists.specs.Lists.{At, apart, at-getD}
 use Rattle.lists.specs.Ranges.{length-range-in}
-use Rattle.lists.specs.Runs.{un as taken}
+use Rattle.lists.specs.Runs.{no-ok, un as taken}
 use Rattle.lists.specs.Words.{equal-true, length-low}
 use Rattle.lists.specs.Magnitudes.{of-words}
 use Rattle.graph.specs.Forest.{Texted, text-string, text-float}
@@ -155,16 +156,26 @@ noted-spelt {input} {s} {k} {n} t h a = record {
 told-spelt : {input : List ℕ} {s : State} {k : ℕ} (bs : List ℕ) (w : ℕ) → Spelt input s k (s .notes .form) bs → Spelt input s k (equal bs (integer-bytes w) && s .notes .form) (integer-bytes w)
 told-spelt bs w a = noted-spelt (equal bs (integer-bytes w)) (equal-true bs (integer-bytes w)) a
 
+-- what an integer's bytes say is its word, and its size byte is not against its sign
+pub tell-then : {G : Type 0} (b : ℕ) (bs : List ℕ) (x : ℕ) (s : State) (w : ℕ) (t : State) → L.tell b bs x s ≡ ok w t → (wrong-sign b x ≡ false → x ≡ w → noted (equal (b ∷ bs) (integer-bytes x)) s ≡ t → G) → G
+unfolding L.tell L.note pure refuse _>>=_ next pick
+tell-then {G} b bs x s w t e g = go (wrong-sign b x) refl e
+  where
+    go : (y : Bool) → wrong-sign b x ≡ y → pick y (refuse (WrongSign b)) (L.note (equal (b ∷ bs) (integer-bytes x)) >>= λ _. pure x) s ≡ ok w t → G
+    go true q e = no-ok e
+    go false q e = g q (ok-result e) (ok-state e)
+
 form-read : (input : List ℕ) (f : Form) (s : State) (w : ℕ) (u : State) → s .at < length input → L.read-form input (getD input (s .at) 0) f (at-set (s .at + 1) s) ≡ ok w u → Read input integer-bytes w s u
-unfolding L.read-form L.tell _>>=_
+unfolding L.read-form _>>=_
 form-read input (form-value x) s w u l e =
     let b = getD input (s .at) 0 in
-    rw (← (ok-result e)) (s .at + 1, _, told-spelt (b ∷ []) x (byte-spelt input s l), psym (ok-state e))
+    tell-then b [] x _ w u e λ q r z. rw (← r) (s .at + 1, _, told-spelt (b ∷ []) x (byte-spelt input s l), psym z)
 form-read input (data-bytes n above) s w u l e =
     let b = getD input (s .at) 0 in
     read-bytes-then input n (at-set (s .at + 1) s) _ w u e λ h e₁.
     let bs = range input (s .at + 1) n in
-    rw (← (ok-result e₁)) (s .at + 1 + n, _, told-spelt (b ∷ bs) (little bs above) (spelt-join (byte-spelt input s l) (bytes-spelt input n (at-set (s .at + 1) s) h)), psym (ok-state e₁))
+    tell-then b bs (little bs above) _ w u e₁ λ q r z.
+    rw (← r) (s .at + 1 + n, _, told-spelt (b ∷ bs) (little bs above) (spelt-join (byte-spelt input s l) (bytes-spelt input n (at-set (s .at + 1) s) h)), psym z)
 
 integer-read : (input : List ℕ) (s : State) (w : ℕ) (u : State) → L.read-integer input s ≡ ok w u → Read input integer-bytes w s u
 unfolding L.read-integer _>>=_

@@ -312,7 +312,7 @@ fn replay_all(
     objects: &mut [u32],
 ) {
     let mut wrong: u64 = 0;
-    for i in 0..10000 {
+    for i in 0..20000 {
         let s = step(data, nodes, references, bytes, symbols, objects);
         if s == 0 {
             print_counts(i, wrong);

@@ -8,13 +8,14 @@ use lib.ListN.{length, getD, drop, length-append}
 use lib.Seq.{getD-drop, drop-drop, take-append-seam, drop-append-seam}
 use native.Mathlib.Omega.{arith}
 use borrow.Author.Tests.{le-leb}
-use Rattle.definition.specs.Run.{ok, pure, pick}
+use Rattle.definition.specs.Run.{ok, pure, next, _>>=_, pick}
 use Rattle.definition.specs.Integer.{value, form, integer-bytes}
 use Rattle.definition.specs.Node.{equal}
 use Rattle.definition.specs.Arena.{range}
 use Rattle.definition.specs.Dump.{byte-string-bytes}
-use Rattle.definition.specs.Load.{State, at-set, read-byte, read-bytes, tell, read-form, read-integer, read-count, read-byte-string}
+use Rattle.definition.specs.Load.{State, at-set, read-byte, read-bytes, note, tell, read-form, read-integer, read-count, read-byte-string}
 use Rattle.lists.specs.Words.{equal-self}
+use Rattle.lists.specs.Integers.{form-agrees}
 use Rattle.load_text.specs.Steps.{step}
 use Rattle.load_text.specs.Codec.{Codes, short, long, codes}
 
@@ -49,25 +50,30 @@ read-bytes-ahead input s bs x a =
 
 -- ---- integers
 
+-- bytes that dump writes say their word
+tell-dumped : (b : ℕ) (bs : List ℕ) (w : ℕ) (s : State) → w < 4294967296 → equal (b ∷ bs) (integer-bytes w) ≡ true → tell b bs w s ≡ ok w s
+unfolding tell note pure _>>=_ next pick
+tell-dumped b bs w s u q = rw (form-agrees w b bs u q, q)
+
 -- bytes that say w, and are those that dump writes
-read-coded : (input : List ℕ) (s : State) (w : ℕ) (bs x : List ℕ) → Codes w bs → equal bs (integer-bytes w) ≡ true → Ahead input (s .at) (bs ++ x)
+read-coded : (input : List ℕ) (s : State) (w : ℕ) (bs x : List ℕ) → w < 4294967296 → Codes w bs → equal bs (integer-bytes w) ≡ true → Ahead input (s .at) (bs ++ x)
     → read-integer input s ≡ ok w (at-set (s .at + length bs) s)
-unfolding read-integer read-form tell
-read-coded input s w _ x (short b f) q a = step _ _ s b _ (read-byte-ahead input s b x a) ∙ go f q
+unfolding read-integer read-form
+read-coded input s w _ x u (short b f) q a = step _ _ s b _ (read-byte-ahead input s b x a) ∙ go f q
   where
     go : form b ≡ value w → equal (b ∷ []) (integer-bytes w) ≡ true → read-form input b (form b) (at-set (s .at + 1) s) ≡ ok w (at-set (s .at + 1) s)
-    go e q = rw (e, q)
-read-coded input s w _ x (long b n hi bs f l e) q a =
+    go e q = rw e (tell-dumped b [] w (at-set (s .at + 1) s) u q)
+read-coded input s w _ x u (long b n hi bs f l e) q a =
     step _ _ s b _ (read-byte-ahead input s b (bs ++ x) a) ∙ go (ahead-past (b ∷ []) (bs ++ x) a) q
   where
     go : Ahead input (s .at + 1) (bs ++ x) → equal (b ∷ bs) (integer-bytes w) ≡ true → read-form input b (form b) (at-set (s .at + 1) s) ≡ ok w (at-set (s .at + length (b ∷ bs)) s)
     go h q =
         let z : s .at + 1 + length bs ≡ s .at + suc (length bs) = omega arith in
-        rw (f, ← l) (step _ _ _ bs _ (read-bytes-ahead input (at-set (s .at + 1) s) bs x h) ∙ rw (e, q, z))
+        rw (f, ← l) (step _ _ _ bs _ (read-bytes-ahead input (at-set (s .at + 1) s) bs x h) ∙ rw (e, z) (tell-dumped b bs w (at-set (s .at + suc (length bs)) s) u q))
 
 pub read-integer-ahead : (input : List ℕ) (s : State) (w : ℕ) (x : List ℕ) → w < 4294967296 → Ahead input (s .at) (integer-bytes w ++ x)
     → read-integer input s ≡ ok w (at-set (s .at + length (integer-bytes w)) s)
-read-integer-ahead input s w x h a = read-coded input s w (integer-bytes w) x (codes w h) (equal-self (integer-bytes w)) a
+read-integer-ahead input s w x h a = read-coded input s w (integer-bytes w) x h (codes w h) (equal-self (integer-bytes w)) a
 
 pub read-count-ahead : (input : List ℕ) (s : State) (w : ℕ) (x : List ℕ) → w < 2147483648 → Ahead input (s .at) (integer-bytes w ++ x)
     → read-count input s ≡ ok w (at-set (s .at + length (integer-bytes w)) s)

@@ -19,6 +19,7 @@ use reader::NOT_AN_OBJECT;
 use reader::REFUSED;
 use reader::SHORT_INPUT;
 use reader::TOO_BIG;
+use reader::check_sign;
 use reader::header_at;
 use reader::in_form;
 use reader::integer_at;
@@ -45,7 +46,7 @@ ghost use Rattle.definition.specs.Magnitude.{sign, sign-byte, bignum-row};
 ghost use Rattle.definition.specs.Arena.{named, compared-among};
 ghost use Rattle.definition.specs.Load.{Room, State, Reader, Lists, lists, read-header, read-integer, read-count, read-bytes, read-byte-string, read-fixnum, read-symbol, read-symbol-link, read-object-link, read-symbol-like, read-text, read-user-defined, read-sign, read-magnitude, read-bignum, add-bignum, read-value, value-of, head, add-node, add-bytes, add-symbol, add-object, add-object-node, counted, fill, takes-variables};
 ghost use Rattle.reader.specs.Answers.{coded};
-ghost use Rattle.reader.specs.Integers.{size-of, word-of, dumped-at};
+ghost use Rattle.reader.specs.Integers.{size-of, form-at, word-at, dumped-at};
 ghost use Rattle.loader.specs.Holds.{Held, Holds, Somewhere, Goes, Leads, Meets, Does, Spans, Plain, Symbolic, Found, Like, Alike, Compared, Ends, find-listed, Free, Leaf, Entry, Link, Next, Coming, span, span-of, at-of, nodes-of, references-of, bytes-of, symbols-of, compared-of, new-symbol, read-name, add-name, read-number, settle, after-i, slots, wrong, Allowed};
 
 // The places of the eight counts: the offset, then how much of each table and list is used, then whether what was read is
@@ -68,7 +69,7 @@ pub const COMPARED: usize = 7;
 
 // ---- the input
 
-// An integer's 32 bits; another form than dump's is noted.
+// An integer's 32 bits; another form than dump's is noted. Only there can the size byte be against the sign.
 fn read_integer(input: &[u8], c: &mut [usize; 8]) -> u64
     requires { ⌜ (at-of (now c) ≤ length (now input)) × (length (now c) ≡ 8) ⌝ }
     ensures { λ r. ⌜ ((room : Room) (limit : ℕ) (T : Lists) → Meets (now (input .entry)) room limit (read-integer (now (input .entry))) T (now (c .entry)) r T (now (c .exit))) ⌝ }
@@ -88,7 +89,7 @@ fn read_integer(input: &[u8], c: &mut [usize; 8]) -> u64
         return w as u64;
     }
     c[FORM] = 1;
-    w as u64
+    check_sign(b, w)
 }
 
 // A length, count or index; small ones come first.
@@ -852,11 +853,11 @@ fn takes_integer(k: u8, to: usize, names: usize, node: usize, room: usize) -> bo
 
 // Node `node` becomes the integer at `at`, whose bytes are all there, if dump writes it so: how many they are. Else 0.
 fn put_integer(input: &[u8], nodes: &mut [u32], at: usize, node: usize) -> usize
-    requires { ⌜ (at + size-of (form (getD (now input) at 0)) ≤ length (now input)) × (node * width + width ≤ length (now nodes)) ⌝ }
-    ensures { λ r. ⌜ ((r ≡ 0 → ⊥) → now (nodes .exit) ≡ sets (now (nodes .entry)) (node * width) (2 ∷ word-of (drop (at + 1) (now (input .entry))) (form (getD (now (input .entry)) at 0)) ∷ 0 ∷ 0 ∷ 0 ∷ 0 ∷ 0 ∷ [])) ⌝ }
-    ensures { λ r. ⌜ ((r ≡ 0 → ⊥) → (r ≡ size-of (form (getD (now (input .entry)) at 0))) × (dumped-at (now (input .entry)) at ≡ true)) ⌝ }
+    requires { ⌜ (at + size-of (form-at (now input) at) ≤ length (now input)) × (node * width + width ≤ length (now nodes)) ⌝ }
+    ensures { λ r. ⌜ ((r ≡ 0 → ⊥) → now (nodes .exit) ≡ sets (now (nodes .entry)) (node * width) (2 ∷ word-at (now (input .entry)) at ∷ 0 ∷ 0 ∷ 0 ∷ 0 ∷ 0 ∷ [])) ⌝ }
+    ensures { λ r. ⌜ ((r ≡ 0 → ⊥) → (r ≡ size-of (form-at (now (input .entry)) at)) × (dumped-at (now (input .entry)) at ≡ true)) ⌝ }
     ensures { λ r. ⌜ (r ≡ 0 → (now (nodes .exit) ≡ now (nodes .entry)) × (dumped-at (now (input .entry)) at ≡ false)) ⌝ }
-    ensures { λ r. ⌜ word-of (drop (at + 1) (now (input .entry))) (form (getD (now (input .entry)) at 0)) < 4294967296 ⌝ }
+    ensures { λ r. ⌜ word-at (now (input .entry)) at < 4294967296 ⌝ }
 {
     let b = input[at];
     let w = integer_at(&input[..], at);

@@ -10,7 +10,7 @@ use borrow.Author.Tests.{leb-true, leb-false}
 use Rattle.definition.specs.Run.{pick}
 use Rattle.definition.specs.Integer.{Form, value, data-bytes, form, little, low-bytes, fewest, integer-bytes}
 use Rattle.definition.specs.Node.{equal}
-use Rattle.lists.specs.Integers.{fewest-most, fewest-some, fewest-within, fewest-beyond, bytes-zero, bytes-small, bytes-last, large-as, negative-as, same-form, other-form}
+use Rattle.lists.specs.Integers.{fewest-most, fewest-some, fewest-within, fewest-beyond, bytes-zero, bytes-small, bytes-last, large-as, negative-as, same-form, other-form, few-negative, many-positive}
 use Rattle.reader.specs.Integers.{size-of, word-of, data-of, as-dumped, least, of-zero, of-few, of-plus, of-minus, of-251, of-many}
 
 -- ---- the data bytes as the low bytes of the word
@@ -55,15 +55,6 @@ few-more (suc (suc zero)) w h k l m e = omega (arith, e, fewest-within w 1 (omeg
 few-more (suc (suc (suc zero))) w h k l m e = omega (arith, e, fewest-within w 2 (omega arith) (omega arith) (omega arith))
 few-more (suc (suc (suc (suc zero)))) w h k l m e = omega (arith, e, fewest-within w 3 (omega arith) (omega arith) (omega arith))
 few-more (suc (suc (suc (suc (suc b))))) w h k l m e = omega (arith, k)
-
--- a first byte for a number of the other sign
-few-negative : (b w : ℕ) (bs : List ℕ) → 1 ≤ b → b ≤ 4 → 2147483648 ≤ w → w < 4294967296 → false ≡ equal (b ∷ bs) (integer-bytes w)
-few-negative b w bs h k l u =
-    other-form w b bs (λ z e. omega (arith, z, l)) (λ z m e. omega (arith, m, l)) (λ m v e. omega (arith, v, l)) (λ m v e. omega (arith, e, k, fewest-most (4294967295 - w))) (λ m e. omega (arith, e, k, m, u))
-
-many-positive : (b w : ℕ) (bs : List ℕ) → 252 ≤ b → w < 2147483648 → false ≡ equal (b ∷ bs) (integer-bytes w)
-many-positive b w bs h l =
-    other-form w b bs (λ z e. omega (arith, e, h)) (λ z m e. omega (arith, m, e, h)) (λ m v e. omega (arith, e, h, fewest-most w)) (λ m v e. omega (arith, m, l)) (λ m e. omega (arith, m, l))
 
 -- the two tests
 few-test : (b w : ℕ) → 1 ≤ b → b ≤ 4 → w ≡ little (low-bytes b w) 0 → w < 2147483648 → leb (least b) w ≡ equal (b ∷ low-bytes b w) (integer-bytes w)

@@ -8,7 +8,7 @@ use lib.ListN.{length, getD, take, drop, length-drop}
 use lib.Seq.{length-take-le}
 use borrow.Author.Tests.{lt-ltb, le-ltb, le-leb, lt-leb}
 use Rattle.definition.specs.Run.{ok, refused, pure, refuse, pick, next, _>>=_}
-use Rattle.definition.specs.Integer.{Form, form}
+use Rattle.definition.specs.Integer.{low-bytes, wrong-sign}
 use Rattle.definition.specs.Arena.{range}
 use Rattle.definition.specs.Load.{noted, read-byte, read-bytes, read-header, read-integer, read-count, read-byte-string}
 use Rattle.definition.specs.Reader.{starting, taken, passed, spanned, next-byte, next-header, next-integer, next-byte-string}
@@ -16,7 +16,8 @@ use Rattle.definition.specs.declared.Answer.the-variants.{Accepted}
 use Rattle.definition.specs.declared.Refusal.{Refusal}
 use Rattle.definition.specs.declared.Refusal.the-variants.{ShortInput, NegativeCount}
 use Rattle.reader.specs.From.{taken-as, not-taken, no-text}
-use Rattle.reader.specs.Integers.{size-of, word-of, dumped-at, integer-read, integer-short, integer-none}
+use Rattle.reader.specs.Integers.{Whole, size-of, data-of, form-at, word-at, dumped-at, sign-checked, integer-read, integer-wrong}
+use Rattle.reader.specs.Answers.{refusal-at, coded, at-wrong-sign}
 
 -- at the start all is in dump form
 and-true : (t : Bool) → (t && true) ≡ t
@@ -46,20 +47,21 @@ module _ (input : List ℕ) (at : ℕ) where
   unfolding passed
   header-there t {p} e = sym (ap (passed at) e ∙ ap (taken-as 0 p) (and-true t))
 
-  -- ---- an integer, which takes n bytes
+  -- ---- an integer
 
-  abbrev first : Form
-  first = form (getD input at 0)
+  -- what check_sign makes of its first byte and its 32 bits
+  pub integer-checked : {w r : ℕ} → at + size-of (form-at input at) ≤ length input → w ≡ word-at input at → data-of (drop (at + 1) input) (form-at input at) ≡ low-bytes (size-of (form-at input at) - 1) w → w < 4294967296 → r ≡ sign-checked (getD input at 0) w → getD input at 0 ≤ 255 → (4294967296 ≤ r → read-integer input (starting at) ≡ refused (refusal-at 0 r)) × (r < 4294967296 → Whole input at r)
+  unfolding sign-checked pick
+  integer-checked {w} {r} h e d u c b = go (wrong-sign (getD input at 0) w) refl c
+    where
+      go : (t : Bool) → wrong-sign (getD input at 0) w ≡ t → r ≡ pick t (coded 19 (getD input at 0)) w → (4294967296 ≤ r → read-integer input (starting at) ≡ refused (refusal-at 0 r)) × (r < 4294967296 → Whole input at r)
+      go true q f =
+          (λ l. integer-wrong input (starting at) h (rw e at q) ∙ ap refused (sym (ap (refusal-at 0) f ∙ at-wrong-sign 0 _ b)), λ l. absurd (omega (arith, f)))
+      go false q f =
+          (λ l. absurd (omega (arith, f)), λ l. record { inside = h; agrees = rw e at q; word = f ∙ e; low = rw f d })
 
-  pub integer-gone : length input ≤ at → read-integer input (starting at) ≡ refused ShortInput
-  integer-gone l = integer-none input (starting at) l
-
-  module _ {n : ℕ} (e : n ≡ size-of first) (l : at < length input) where
-    pub integer-cut : length input - at < n → read-integer input (starting at) ≡ refused ShortInput
-    integer-cut h = integer-short input (starting at) (omega (arith, e)) l
-
-    pub integer-whole : {w : ℕ} {t : Bool} → n ≤ length input - at → w ≡ word-of (drop (at + 1) input) first → t ≡ dumped-at input at → read-integer input (starting at) ≡ ok w (noted t (starting (at + n)))
-    integer-whole h k q = rw (e, k, q) (integer-read input (starting at) (omega (arith, e)) l)
+  pub integer-whole : {w n : ℕ} {t : Bool} → Whole input at w → n ≡ size-of (form-at input at) → t ≡ dumped-at input at → read-integer input (starting at) ≡ ok w (noted t (starting (at + n)))
+  integer-whole k e q = rw (e, k .word, q) (integer-read input (starting at) (k .inside) (k .agrees))
 
   pub integer-refused : {q : Refusal} → read-integer input (starting at) ≡ refused q → not-taken q at ≡ next-integer input at
   unfolding taken

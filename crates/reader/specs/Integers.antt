@@ -1,19 +1,20 @@
--- An integer that stands at an offset: how many bytes it takes, its 32 bits, and whether dump writes it so.
+-- An integer that stands at an offset: how many bytes it takes, its 32 bits, whether its size byte is against their sign, and whether dump writes it so.
 use Prim.Native.Nat.{ℕ, suc, _+_, _-_, _%_, _^_, _≤_, _<_}
 use native.Mathlib.Omega.{arith}
 use mathlib.Core.Bool.{Bool, true, false}
-use mathlib.Core.Path.{_≡_, refl, sym}
+use mathlib.Core.Path.{_≡_, refl, sym, _∙_}
 use mathlib.Core.List.{List, [], _∷_}
 use lib.Dec.{leb, eqb}
 use lib.ListN.{length, getD, take, drop}
 use borrow.Author.Tests.{lt-ltb, le-ltb, le-leb, lt-leb, ne-eqb, eqb-true, eqb-false, leb-true, leb-false}
-use Rattle.definition.specs.Run.{ok, refused, pick, next, _>>=_}
-use Rattle.definition.specs.Integer.{Form, value, data-bytes, form, little, integer-bytes}
+use Rattle.definition.specs.Run.{ok, refused, pure, refuse, pick, next, _>>=_}
+use Rattle.definition.specs.Integer.{Form, value, data-bytes, form, little, low-bytes, wrong-sign, integer-bytes}
 use Rattle.definition.specs.Node.{equal}
 use Rattle.definition.specs.Arena.{range}
-use Rattle.definition.specs.Load.{State, at-set, noted, tell, read-byte, read-bytes, read-form, read-integer}
-use Rattle.definition.specs.declared.Refusal.the-variants.{ShortInput}
-use Rattle.lists.specs.Integers.{same-form}
+use Rattle.definition.specs.Load.{State, at-set, noted, note, tell, read-byte, read-bytes, read-form, read-integer}
+use Rattle.definition.specs.declared.Refusal.the-variants.{ShortInput, WrongSign}
+use Rattle.lists.specs.Integers.{same-form, form-agrees}
+use Rattle.reader.specs.Answers.{coded}
 
 -- how many bytes the form has, the first one included
 unfoldable pub size-of : Form → ℕ
@@ -34,9 +35,33 @@ data-of rest (data-bytes n above) = take n rest
 abbrev pub as-dumped : List ℕ → ℕ → Form → Bool
 as-dumped rest b f = equal (b ∷ data-of rest f) (integer-bytes (word-of rest f))
 
--- the integer at an offset
+-- of the integer at an offset: the form that its first byte says; its 32 bits; is its size byte against their sign; does dump write it so?
+abbrev pub form-at : List ℕ → ℕ → Form
+form-at input at = form (getD input at 0)
+
+abbrev pub word-at : List ℕ → ℕ → ℕ
+word-at input at = word-of (drop (at + 1) input) (form-at input at)
+
+abbrev pub wrong-at : List ℕ → ℕ → Bool
+wrong-at input at = wrong-sign (getD input at 0) (word-at input at)
+
 abbrev pub dumped-at : List ℕ → ℕ → Bool
-dumped-at input at = as-dumped (drop (at + 1) input) (getD input at 0) (form (getD input at 0))
+dumped-at input at = as-dumped (drop (at + 1) input) (getD input at 0) (form-at input at)
+
+-- all its bytes are there and its size byte is not against its sign; r is its 32 bits, and its data bytes are r's lowest
+pub record Whole (input : List ℕ) (at r : ℕ) : Type 0 where
+  pub inside : at + size-of (form-at input at) ≤ length input
+  pub agrees : wrong-at input at ≡ false
+  pub word : r ≡ word-at input at
+  pub low : data-of (drop (at + 1) input) (form-at input at) ≡ low-bytes (size-of (form-at input at) - 1) r
+
+-- the number that a reader answers for the 32 bits w after the first byte b
+unfoldable pub sign-checked : ℕ → ℕ → ℕ
+sign-checked b w = pick (wrong-sign b w) (coded 19 b) w
+
+-- one that dump writes so has the sign that its size byte tells
+pub dumped-agrees : (input : List ℕ) (at : ℕ) → word-at input at < 4294967296 → dumped-at input at ≡ true → wrong-at input at ≡ false
+dumped-agrees input at u e = form-agrees (word-at input at) (getD input at 0) _ u e
 
 -- the least number that dump writes with n data bytes; of a negative number, -1 minus it
 unfoldable pub least : ℕ → ℕ
@@ -129,10 +154,11 @@ size-some b = some-byte (form b)
 -- ---- the integer reader
 
 module _ (input : List ℕ) (s : State) (b : ℕ) where
-  form-read : (f : Form) → s .at < length input → s .at + size-of f ≤ length input → read-form input b f (at-set (s .at + 1) s) ≡ ok (word-of (drop (s .at + 1) input) f) (noted (as-dumped (drop (s .at + 1) input) b f) (at-set (s .at + size-of f) s))
-  unfolding read-form tell size-of word-of data-of read-bytes range _>>=_ next pick
-  form-read (value w) l h = refl
-  form-read (data-bytes n above) l h =
+  -- with all its bytes there it comes to what they tell
+  form-there : (f : Form) → s .at < length input → s .at + size-of f ≤ length input → read-form input b f (at-set (s .at + 1) s) ≡ tell b (data-of (drop (s .at + 1) input) f) (word-of (drop (s .at + 1) input) f) (at-set (s .at + size-of f) s)
+  unfolding read-form size-of word-of data-of read-bytes range _>>=_ next pick
+  form-there (value w) l h = refl
+  form-there (data-bytes n above) l h =
       let le : n ≤ length input - (s .at + 1) = omega arith in
       let e : s .at + 1 + n ≡ s .at + suc n = omega arith in
       simp (le-leb _ _ le, e)
@@ -143,21 +169,34 @@ module _ (input : List ℕ) (s : State) (b : ℕ) where
   form-short (data-bytes n above) l h = let lt : length input - (s .at + 1) < n = omega arith in simp (lt-leb _ _ lt)
 
 module _ (input : List ℕ) (s : State) where
-  -- all its bytes are there
-  pub integer-read : s .at + size-of (form (getD input (s .at) 0)) ≤ length input → s .at < length input → read-integer input s ≡ ok (word-of (drop (s .at + 1) input) (form (getD input (s .at) 0))) (noted (dumped-at input (s .at)) (at-set (s .at + size-of (form (getD input (s .at) 0))) s))
+  integer-there : s .at + size-of (form-at input (s .at)) ≤ length input → read-integer input s ≡ tell (getD input (s .at) 0) (data-of (drop (s .at + 1) input) (form-at input (s .at))) (word-at input (s .at)) (at-set (s .at + size-of (form-at input (s .at))) s)
   unfolding read-integer read-byte _>>=_ next pick
-  integer-read h l = simp (lt-ltb _ _ l) (form-read input s (getD input (s .at) 0) (form (getD input (s .at) 0)) l h)
+  integer-there h =
+      let l : s .at < length input = omega (arith, size-some (getD input (s .at) 0)) in
+      simp (lt-ltb _ _ l) (form-there input s (getD input (s .at) 0) (form-at input (s .at)) l h)
+
+  -- all its bytes are there
+  pub integer-read : s .at + size-of (form-at input (s .at)) ≤ length input → wrong-at input (s .at) ≡ false → read-integer input s ≡ ok (word-at input (s .at)) (noted (dumped-at input (s .at)) (at-set (s .at + size-of (form-at input (s .at))) s))
+  unfolding tell note pure _>>=_ next pick
+  integer-read h e = integer-there h ∙ rw e refl
+
+  -- and its size byte is against its sign
+  pub integer-wrong : s .at + size-of (form-at input (s .at)) ≤ length input → wrong-at input (s .at) ≡ true → read-integer input s ≡ refused (WrongSign (getD input (s .at) 0))
+  unfolding tell refuse pick
+  integer-wrong h e = integer-there h ∙ rw e refl
 
   -- one is missing
-  pub integer-short : length input < s .at + size-of (form (getD input (s .at) 0)) → s .at < length input → read-integer input s ≡ refused ShortInput
+  pub integer-short : length input < s .at + size-of (form-at input (s .at)) → s .at < length input → read-integer input s ≡ refused ShortInput
   unfolding read-integer read-byte _>>=_ next pick
-  integer-short h l = simp (lt-ltb _ _ l) (form-short input s (getD input (s .at) 0) (form (getD input (s .at) 0)) l h)
+  integer-short h l = simp (lt-ltb _ _ l) (form-short input s (getD input (s .at) 0) (form-at input (s .at)) l h)
 
   pub integer-none : length input ≤ s .at → read-integer input s ≡ refused ShortInput
   unfolding read-integer read-byte _>>=_ next pick
   integer-none h = simp (le-ltb _ _ h)
 
   -- an integer of one byte, which dump writes so
-  pub integer-small : (w : ℕ) → form (getD input (s .at) 0) ≡ value w → integer-bytes w ≡ getD input (s .at) 0 ∷ [] → s .at < length input → read-integer input s ≡ ok w (at-set (s .at + 1) s)
-  unfolding read-integer read-byte read-form tell _>>=_ next pick
-  integer-small w e f l = simp (lt-ltb _ _ l, e, sym (same-form w f))
+  pub integer-small : (w : ℕ) → form-at input (s .at) ≡ value w → w < 4294967296 → integer-bytes w ≡ getD input (s .at) 0 ∷ [] → s .at < length input → read-integer input s ≡ ok w (at-set (s .at + 1) s)
+  unfolding read-integer read-byte read-form tell note pure _>>=_ next pick
+  integer-small w e u f l =
+      let q = sym (same-form w f) in
+      simp (lt-ltb _ _ l, e, form-agrees w _ [] u q, q)

@@ -9,15 +9,15 @@ ghost use mathlib.Core.Path.{_≡_};
 ghost use mathlib.Core.Logic.{_⊎_};
 ghost use mathlib.Core.List.{List, [], _∷_};
 ghost use Prim.Native.Nat.{ℕ, _+_, _-_, _*_, _^_, _<_, _≤_};
-ghost use lib.ListN.{length, getD, take, drop};
-ghost use Rattle.definition.specs.Integer.{value, form, low-bytes, integer-bytes};
+ghost use lib.ListN.{length, take, drop};
+ghost use Rattle.definition.specs.Integer.{value, form, low-bytes, integer-bytes, wrong-sign};
 ghost use Rattle.definition.specs.Integer as integer;
 ghost use Rattle.definition.specs.Kind.{PLUS, MINUS};
-ghost use Rattle.definition.specs.Load.{read-header};
-ghost use Rattle.definition.specs.Reader.{left, next-byte, next-header, next-integer, next-byte-string};
+ghost use Rattle.definition.specs.Run.{refused};
+ghost use Rattle.definition.specs.Load.{read-header, read-integer};
+ghost use Rattle.definition.specs.Reader.{starting, left, next-byte, next-header, next-integer, next-byte-string};
 ghost use Rattle.reader.specs.Answers.{refusal-at, coded, Reads};
-ghost use Rattle.definition.specs.declared.Refusal.the-variants.{ShortInput};
-ghost use Rattle.reader.specs.Integers.{size-of, word-of, data-of, as-dumped, least};
+ghost use Rattle.reader.specs.Integers.{size-of, word-of, data-of, as-dumped, form-at, word-at, least, sign-checked, Whole};
 ghost use Rattle.reader.specs.From.{taken-as, not-taken, no-text};
 
 // A reader answers a number, which comes back in a register: an enum comes back in memory. Below REFUSED it is a value;
@@ -48,6 +48,8 @@ const BAD_SIGN: u64 = 15 * REFUSED;
 
 pub const TOO_BIG: u64 = 16 * REFUSED;
 
+const WRONG_SIGN: u64 = 19 * REFUSED;
+
 // The refusal that an answer from REFUSED on is, under this limit.
 pub fn refusal_of(r: u64, limit: u32) -> Refusal
     requires { ⌜ 4294967296 ≤ r ⌝ }
@@ -67,6 +69,7 @@ pub fn refusal_of(r: u64, limit: u32) -> Refusal
         11 => Refusal::TooDeep(limit),
         15 => Refusal::BadSign((detail % 256) as u8),
         16 => Refusal::TooBig(detail),
+        19 => Refusal::WrongSign((detail % 256) as u8),
         _ => Refusal::NoSpace(detail),
     }
 }
@@ -154,9 +157,9 @@ fn ones_above(n: usize) -> u32
 
 // The 32 bits of the integer at `at`, whose bytes are all there.
 pub fn integer_at(input: &[u8], at: usize) -> u32
-    requires { ⌜ at + size-of (form (getD (now input) at 0)) ≤ length (now input) ⌝ }
-    ensures { λ r. ⌜ r ≡ word-of (drop (at + 1) (now (input .entry))) (form (getD (now (input .entry)) at 0)) ⌝ }
-    ensures { λ r. ⌜ data-of (drop (at + 1) (now (input .entry))) (form (getD (now (input .entry)) at 0)) ≡ low-bytes (size-of (form (getD (now (input .entry)) at 0)) - 1) r ⌝ }
+    requires { ⌜ at + size-of (form-at (now input) at) ≤ length (now input) ⌝ }
+    ensures { λ r. ⌜ r ≡ word-at (now (input .entry)) at ⌝ }
+    ensures { λ r. ⌜ data-of (drop (at + 1) (now (input .entry))) (form-at (now (input .entry)) at) ≡ low-bytes (size-of (form-at (now (input .entry)) at) - 1) r ⌝ }
 {
     let b = byte(input[at]);
     if b <= 4 {
@@ -219,6 +222,27 @@ pub fn in_form(b: u8, w: u32) -> bool
         return false;
     }
     least(256 - b as usize) <= v
+}
+
+// Is the size byte b against the sign of the 32 bits w? Of fewer than four data bytes it never is.
+fn wrong_sign(b: u8, w: u32) -> bool
+    ensures { λ r. ⌜ r ≡ wrong-sign b w ⌝ }
+{
+    match b {
+        4 => 2147483648 <= w,
+        252 => w < 2147483648,
+        _ => false,
+    }
+}
+
+// An integer's 32 bits, or the refusal of its first byte b.
+pub fn check_sign(b: u8, w: u32) -> u64
+    ensures { λ r. ⌜ (r ≡ sign-checked b w) × (b ≤ 255) ⌝ }
+{
+    if wrong_sign(b, w) {
+        return WRONG_SIGN + b as u64;
+    }
+    w as u64
 }
 
 // The number that the one byte b is as an integer in the form that dump writes, where b is at most 127 and the number so at
@@ -285,12 +309,12 @@ pub fn left_at(input: &[u8], at: usize) -> usize
     0
 }
 
-// The refusal for want of bytes.
-fn short(at: usize) -> Taken
-    ensures { λ r. ⌜ r ≡ not-taken ShortInput at ⌝ }
+// A refusal; the offset stays.
+fn not_taken(q: Refusal, at: usize) -> Taken
+    ensures { λ r. ⌜ r ≡ not-taken q at ⌝ }
 {
     Taken {
-        answer: Answer::Refused(Refusal::ShortInput),
+        answer: Answer::Refused(q),
         value: 0,
         offset: at,
         form: false,
@@ -316,7 +340,7 @@ pub fn byte_from(input: &[u8], at: usize) -> Taken
     if at < input.len() {
         return took(byte(input[at]), at + 1, true);
     }
-    short(at)
+    not_taken(Refusal::ShortInput, at)
 }
 
 // The header.
@@ -324,33 +348,40 @@ pub fn header_from(input: &[u8], at: usize) -> Taken
     ensures { λ r. ⌜ r ≡ next-header (now (input .entry)) at ⌝ }
 {
     if input.len() < at {
-        return short(at);
+        return not_taken(Refusal::ShortInput, at);
     }
     let w = header_at(&input[..], at);
     if REFUSED <= w {
-        return Taken {
-            answer: Answer::Refused(refusal_of(w, 0)),
-            value: 0,
-            offset: at,
-            form: false,
-        };
+        return not_taken(refusal_of(w, 0), at);
     }
     took(0, at + 2, w == 0)
+}
+
+// The integer at `at`: its 32 bits, or why there is none.
+fn whole_integer(input: &[u8], at: usize) -> u64
+    ensures { λ r. ⌜ (4294967296 ≤ r → read-integer (now (input .entry)) (starting at) ≡ refused (refusal-at 0 r)) ⌝ }
+    ensures { λ r. ⌜ (r < 4294967296 → Whole (now (input .entry)) at r) ⌝ }
+{
+    if input.len() <= at {
+        return SHORT_INPUT;
+    }
+    let b = input[at];
+    if input.len() - at < integer_size(b) {
+        return SHORT_INPUT;
+    }
+    check_sign(b, integer_at(&input[..], at))
 }
 
 // An integer.
 pub fn integer_from(input: &[u8], at: usize) -> Taken
     ensures { λ r. ⌜ r ≡ next-integer (now (input .entry)) at ⌝ }
 {
-    if input.len() <= at {
-        return short(at);
+    let r = whole_integer(&input[..], at);
+    if REFUSED <= r {
+        return not_taken(refusal_of(r, 0), at);
     }
-    let n = integer_size(input[at]);
-    if input.len() - at < n {
-        return short(at);
-    }
-    let w = integer_at(&input[..], at);
-    took(w, at + n, in_form(input[at], w))
+    let w = r as u32;
+    took(w, at + integer_size(input[at]), in_form(input[at], w))
 }
 
 // A refused byte string.
@@ -370,18 +401,15 @@ fn no_text(q: Refusal, at: usize) -> Text
 pub fn byte_string_from(input: &[u8], at: usize) -> Text
     ensures { λ r. ⌜ r ≡ next-byte-string (now (input .entry)) at ⌝ }
 {
-    if input.len() <= at {
-        return no_text(Refusal::ShortInput, at);
+    let r = whole_integer(&input[..], at);
+    if REFUSED <= r {
+        return no_text(refusal_of(r, 0), at);
     }
-    let n = integer_size(input[at]);
-    if input.len() - at < n {
-        return no_text(Refusal::ShortInput, at);
-    }
-    let w = integer_at(&input[..], at);
+    let w = r as u32;
     if 2147483648 <= w {
         return no_text(Refusal::NegativeCount(w), at);
     }
-    let start = at + n;
+    let start = at + integer_size(input[at]);
     let k = w as usize;
     if input.len() - start < k {
         return no_text(Refusal::ShortInput, at);

@@ -67,6 +67,7 @@ pub fn numbers_of(q: Refusal) -> Numbers
         Refusal::TooBig(count) => plain(16, count, 0),
         Refusal::NotAWeight(handle) => plain(17, handle, 0),
         Refusal::BadMoisture => plain(18, 0, 0),
+        Refusal::WrongSign(byte) => plain(19, byte as u32, 0),
     }
 }
 

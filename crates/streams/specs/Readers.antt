@@ -115,9 +115,9 @@ module _ {n : ℕ} where
   unfolding L.compare
   compare k = record { alike = λ s. same _ _ (le-refl (s .at)) }
 
-  tell : (bs : List ℕ) (w : ℕ) → Blind n (L.tell bs w)
+  tell : (b : ℕ) (bs : List ℕ) (w : ℕ) → Blind n (L.tell b bs w)
   unfolding L.tell
-  tell bs w = record { alike = λ s. same _ _ (le-refl (s .at)) }
+  tell b bs w = either _ (stop _) (then (note _) λ _. give w)
 
 -- ---- the tables and lists
 
@@ -225,8 +225,8 @@ module _ (input more : List ℕ) where
 
   read-form : (b : ℕ) (f : Form) → Reads (λ i. L.read-form i b f)
   unfolding L.read-form
-  read-form b (value w) = tell _ w
-  read-form b (data-bytes k above) = then (read-bytes k) λ bs. tell _ _
+  read-form b (value w) = tell b _ w
+  read-form b (data-bytes k above) = then (read-bytes k) λ bs. tell b bs _
 
   read-integer : Reads L.read-integer
   unfolding L.read-integer

@@ -32,7 +32,8 @@ fn refused(number: u64, first: i64) -> Answer {
     Answer { number, first, second: 0 }
 }
 
-/// The Bignum whose sign byte stands at a place, where it ends, and whether it is written as dump writes it.
+/// The Bignum whose sign byte stands at a place, where it ends, and whether it is written as dump writes it; its count is taken
+/// with a size byte of either sign.
 pub fn bignum(input: &[u8], place: usize) -> Result<(Bignum, usize, bool), Answer> {
     let short = refused(4, 0);
     let minus = match *input.get(place).ok_or(short)? {

@@ -38,7 +38,7 @@ impl Random {
     }
 }
 
-// Every way to write an integer, the shortest first.
+// Every way to write an integer that load takes, the shortest first.
 fn forms(n: i32) -> Vec<Vec<u8>> {
     let mut forms = match n {
         0 => vec![vec![0], vec![5], vec![0xFB]],
@@ -49,12 +49,17 @@ fn forms(n: i32) -> Vec<Vec<u8>> {
     for k in 1..=4 {
         let rest = (n as i64) >> (8 * k);
         for (size, fits) in [(k, rest == 0), (-k, rest == -1)] {
-            if fits || k == 4 {
+            if fits {
                 forms.push([&[size as i8 as u8], &n.to_le_bytes()[..k as usize]].concat());
             }
         }
     }
     forms
+}
+
+// The integer with a size byte of the other sign.
+fn wrong_sign(n: i32) -> Vec<u8> {
+    [&[if n < 0 { 0x04 } else { 0xFC }], &n.to_le_bytes()[..]].concat()
 }
 
 // An input in the making, with what load's two lists hold by then.
@@ -69,7 +74,11 @@ struct Maker<'a> {
 }
 
 impl Maker<'_> {
+    // One in five in any form; seldom in one that is refused.
     fn integer(&mut self, n: i32) {
+        if self.random.one_in(300) {
+            return self.out.extend(wrong_sign(n));
+        }
         let forms = forms(n);
         let i = if self.random.one_in(5) { self.random.below(forms.len()) } else { 0 };
         self.out.extend(&forms[i]);

@@ -15,11 +15,11 @@ use Rattle.replay.proofs.print_counts.Reads as print-counts-reads
 
 abbrev Inv-loop : tie.InvT-loop
 Inv-loop data₀ nodes₀ references₀ bytes₀ symbols₀ objects₀ wrong₀ i₀ «data» nodes references bytes symbols objects wrong i =
-    (i ≤ 10000) × (length «data» ≡ length «data₀») × (length nodes ≡ length nodes₀) × (length references ≡ length references₀) × (length bytes ≡ length bytes₀) × (length symbols ≡ length symbols₀) × (length objects ≡ length objects₀)
+    (i ≤ 20000) × (length «data» ≡ length «data₀») × (length nodes ≡ length nodes₀) × (length references ≡ length references₀) × (length bytes ≡ length bytes₀) × (length symbols ≡ length symbols₀) × (length objects ≡ length objects₀)
 
 abbrev μ-loop : tie.MeasureT-loop
 μ-loop data₀ nodes₀ references₀ bytes₀ symbols₀ objects₀ wrong₀ i₀ «data» nodes references bytes symbols objects wrong i =
-    10000 - i
+    20000 - i
 
 loop-holds : tie.Need-loop-holds Inv-loop μ-loop
 loop-holds c =

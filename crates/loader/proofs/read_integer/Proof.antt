@@ -52,15 +52,15 @@ returns-3 c =
 element-write-c-2 : tie.Need-element-write-c-2
 element-write-c-2 c = search needs
 
-cast-result-2 : tie.Need-cast-result-2
-cast-result-2 c = search needs
+check-sign-requires : tie.Need-check-sign-requires
+check-sign-requires c κs = search needs
 
 returns-4 : tie.Need-returns-4
 returns-4 c =
-    let c4 = c .before .before .before .before in
-    let n = c4 .integer-size .ensures in
-    let w = c .before .before .integer-at .ensures in
-    λ room limit T. rw n (integer-other _ (omega (arith, n, c .before .before .before .if2 .left)) (w .0) (sym (c .if3 .left) ∙ c .before .in-form .ensures _ (w .0) (w .1)) (omega arith))
+    let c5 = c .before .before .before .before .before in
+    let n = c5 .integer-size .ensures in
+    let w = c .before .before .before .integer-at .ensures in
+    λ room limit T. rw n (integer-other _ _ (omega (arith, n, c .before .before .before .before .if2 .left)) (w .0) (sym (c .before .if3 .left) ∙ c .before .before .in-form .ensures _ (w .0) (w .1)) (omega arith) (c .check-sign .ensures .0) (c .check-sign .ensures .1))
 
 pub read-integer-spec : {M : Type 1} → statement M
 read-integer-spec =
@@ -79,5 +79,5 @@ read-integer-spec =
     cast-result
     returns-3
     element-write-c-2
-    cast-result-2
+    check-sign-requires
     returns-4)

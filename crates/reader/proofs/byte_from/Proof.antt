@@ -25,13 +25,13 @@ returns c =
     let a = c .before .before .before .before .before .args in
     c .took .ensures ∙ ap (λ b. taken-as b (a .at + 1) true) (c .before .byte .ensures .0) ∙ byte-there (a .input .now) (a .at) (c .before .before .before .if1 .taken)
 
-short-requires : tie.Need-short-requires
-short-requires c κs = search needs
+not-taken-requires : tie.Need-not-taken-requires
+not-taken-requires c κs = search needs
 
 returns-2 : tie.Need-returns-2
 returns-2 c =
     let a = c .before .before .before .args in
-    c .short .ensures ∙ byte-none (a .input .now) (a .at) (c .before .if1 .left)
+    c .not-taken .ensures ∙ byte-none (a .input .now) (a .at) (c .before .if1 .left)
 
 pub byte-from-spec : {M : Type 1} → statement M
 byte-from-spec =
@@ -42,5 +42,5 @@ byte-from-spec =
     add-took
     took-requires
     returns
-    short-requires
+    not-taken-requires
     returns-2)

@@ -6,13 +6,13 @@ use Rattle.reader.proofs.Froms.{header-past, header-refused, header-the
 use Rattle.reader.proofs.header_from.Statement.{statement}
 use Rattle.reader.proofs.header_from.Tie as tie
 
-short-requires : tie.Need-short-requires
-short-requires c κs = search needs
+not-taken-requires : tie.Need-not-taken-requires
+not-taken-requires c κs = search needs
 
 returns : tie.Need-returns
 returns c =
     let a = c .before .before .before .args in
-    c .short .ensures ∙ header-past (a .input .now) (a .at) (c .before .if1 .taken)
+    c .not-taken .ensures ∙ header-past (a .input .now) (a .at) (c .before .if1 .taken)
 
 header-at-requires : tie.Need-header-at-requires
 header-at-requires c κs = search needs
@@ -20,10 +20,14 @@ header-at-requires c κs = search needs
 refusal-of-requires : tie.Need-refusal-of-requires
 refusal-of-requires c κs = search needs
 
+not-taken-requires-2 : tie.Need-not-taken-requires-2
+not-taken-requires-2 c κs = search needs
+
 returns-2 : tie.Need-returns-2
 returns-2 c =
-    let a = c .before .before .before .before .before .args in
-    ap (λ q. not-taken q (a .at)) (c .refusal-of .ensures) ∙ header-refused (a .input .now) (a .at) (c .before .before .header-at .ensures .0 .stops (c .before .if2 .taken) 0 _ refl)
+    let c3 = c .before .before .before in
+    let a = c3 .before .before .before .args in
+    c .not-taken2 .ensures ∙ ap (λ q. not-taken q (a .at)) (c .before .refusal-of .ensures) ∙ header-refused (a .input .now) (a .at) (c3 .header-at .ensures .0 .stops (c .before .before .if2 .taken) 0 _ refl)
 
 add-took : tie.Need-add-took
 add-took c = search needs
@@ -40,10 +44,11 @@ pub header-from-spec : {M : Type 1} → statement M
 header-from-spec =
     tie.close
     (tie.spec
-    short-requires
+    not-taken-requires
     returns
     header-at-requires
     refusal-of-requires
+    not-taken-requires-2
     returns-2
     add-took
     took-requires

@@ -1,43 +1,50 @@
 -- The proof of integer_from.
 use borrow.Author.Needs.{needs}
-use mathlib.Core.Path.{_∙_}
-use Rattle.reader.proofs.Froms.{integer-gone, integer-cut, integer-whole, integer-refused, integer-there}
+use native.Mathlib.Omega.{arith}
+use mathlib.Core.Path.{ap, _∙_}
+use lib.ListN.{getD}
+use Rattle.reader.specs.From.{not-taken}
+use Rattle.reader.specs.Integers.{size-some}
+use Rattle.reader.proofs.Froms.{integer-whole, integer-refused, integer-there}
 use Rattle.reader.proofs.integer_from.Statement.{statement}
 use Rattle.reader.proofs.integer_from.Tie as tie
 
-short-requires : tie.Need-short-requires
-short-requires c κs = search needs
+whole-integer-requires : tie.Need-whole-integer-requires
+whole-integer-requires c κs = search needs
+
+refusal-of-requires : tie.Need-refusal-of-requires
+refusal-of-requires c κs = search needs
+
+not-taken-requires : tie.Need-not-taken-requires
+not-taken-requires c κs = search needs
 
 returns : tie.Need-returns
 returns c =
-    let a = c .before .before .before .args in
-    c .short .ensures ∙ integer-refused (a .input .now) (a .at) (integer-gone (a .input .now) (a .at) (c .before .if1 .taken))
+    let a = c .before .before .before .before .before .args in
+    c .not-taken .ensures ∙ ap (λ q. not-taken q (a .at)) (c .before .refusal-of .ensures) ∙ integer-refused (a .input .now) (a .at) (c .before .before .before .whole-integer .ensures .0 (c .before .before .if1 .taken))
+
+cast-w : tie.Need-cast-w
+cast-w c = search needs
 
 shared-slice-read-integer-size : tie.Need-shared-slice-read-integer-size
-shared-slice-read-integer-size c = search needs
+shared-slice-read-integer-size c =
+    let a = c .before .before .before .before .args in
+    omega (arith, c .before .before .whole-integer .ensures .1 (c .before .if1 .left) .inside, size-some (getD (a .input .now) (a .at) 0))
 
 integer-size-requires : tie.Need-integer-size-requires
 integer-size-requires c κs = search needs
 
-sub-if2 : tie.Need-sub-if2
-sub-if2 c = search needs
-
-short-requires-2 : tie.Need-short-requires-2
-short-requires-2 c κs = search needs
-
-returns-2 : tie.Need-returns-2
-returns-2 c =
-    let a = c .before .before .before .before .before .before .args in
-    c .short2 .ensures ∙ integer-refused (a .input .now) (a .at) (integer-cut (a .input .now) (a .at) (c .before .before .integer-size .ensures) (c .before .before .before .before .if1 .left) (c .before .if2 .taken))
-
-integer-at-requires : tie.Need-integer-at-requires
-integer-at-requires c κs = search needs
-
 add-took : tie.Need-add-took
-add-took c = search needs
+add-took c =
+    let k = c .before .before .before .whole-integer .ensures .1 (c .before .before .if1 .left) in
+    omega (arith, k .inside, c .integer-size .ensures)
 
 shared-slice-read-in-form : tie.Need-shared-slice-read-in-form
-shared-slice-read-in-form c = search needs
+shared-slice-read-in-form c =
+    let c4 = c .before .before .before .before in
+    let a = c4 .before .before .args in
+    let k = c4 .whole-integer .ensures .1 (c .before .before .before .if1 .left) in
+    omega (arith, k .inside, size-some (getD (a .input .now) (a .at) 0))
 
 in-form-requires : tie.Need-in-form-requires
 in-form-requires c κs = search needs
@@ -45,28 +52,26 @@ in-form-requires c κs = search needs
 took-requires : tie.Need-took-requires
 took-requires c κs = search needs
 
-returns-3 : tie.Need-returns-3
-returns-3 c =
+returns-2 : tie.Need-returns-2
+returns-2 c =
     let c3 = c .before .before .before in
-    let c5 = c3 .before .before in
-    let a = c5 .before .before .before .before .args in
-    let w = c3 .integer-at .ensures in
-    c .took .ensures ∙ integer-there (a .input .now) (a .at) _ (integer-whole (a .input .now) (a .at) (c5 .integer-size .ensures) (c5 .before .before .if1 .left) (c3 .before .if2 .left) (w .0) (c .before .in-form .ensures _ (w .0) (w .1)))
+    let a = c3 .before .before .before .before .before .args in
+    let k = c3 .before .before .before .whole-integer .ensures .1 (c3 .before .before .if1 .left) in
+    c .took .ensures ∙ integer-there (a .input .now) (a .at) _ (integer-whole (a .input .now) (a .at) k (c3 .integer-size .ensures) (c .before .in-form .ensures _ (k .word) (k .low)))
 
 pub integer-from-spec : {M : Type 1} → statement M
 integer-from-spec =
     tie.close
     (tie.spec
-    short-requires
+    whole-integer-requires
+    refusal-of-requires
+    not-taken-requires
     returns
+    cast-w
     shared-slice-read-integer-size
     integer-size-requires
-    sub-if2
-    short-requires-2
-    returns-2
-    integer-at-requires
     add-took
     shared-slice-read-in-form
     in-form-requires
     took-requires
-    returns-3)
+    returns-2)

@@ -24,6 +24,9 @@ cast-t15 c = search needs
 cast-t17 : tie.Need-cast-t17
 cast-t17 c = search needs
 
+cast-t19 : tie.Need-cast-t19
+cast-t19 c = search needs
+
 returns : tie.Need-returns
 unfolding refusal-at refusal-of pick
 returns c =
@@ -91,9 +94,15 @@ returns-11 c =
     rw e refl
 
 returns-12 : tie.Need-returns-12
+unfolding refusal-at refusal-of pick
 returns-12 c =
+    let e = c .match .keys12 in
+    rw e refl
+
+returns-13 : tie.Need-returns-13
+returns-13 c =
     let r = c .match .rest in
-    refusal-last _ _ (r .0 .0 .0 .0 .0 .0 .0 .0 .0 .0 .1) (r .0 .0 .0 .0 .0 .0 .0 .0 .0 .1) (r .0 .0 .0 .0 .0 .0 .0 .0 .1) (r .0 .0 .0 .0 .0 .0 .0 .1) (r .0 .0 .0 .0 .0 .0 .1) (r .0 .0 .0 .0 .0 .1) (r .0 .0 .0 .0 .1) (r .0 .0 .0 .1) (r .0 .0 .1) (r .0 .1) (r .1)
+    refusal-last _ _ (r .0 .0 .0 .0 .0 .0 .0 .0 .0 .0 .0 .1) (r .0 .0 .0 .0 .0 .0 .0 .0 .0 .0 .1) (r .0 .0 .0 .0 .0 .0 .0 .0 .0 .1) (r .0 .0 .0 .0 .0 .0 .0 .0 .1) (r .0 .0 .0 .0 .0 .0 .0 .1) (r .0 .0 .0 .0 .0 .0 .1) (r .0 .0 .0 .0 .0 .1) (r .0 .0 .0 .0 .1) (r .0 .0 .0 .1) (r .0 .0 .1) (r .0 .1) (r .1)
 
 pub refusal-of-spec : {M : Type 1} → statement M
 refusal-of-spec =
@@ -105,6 +114,7 @@ refusal-of-spec =
     cast-t13
     cast-t15
     cast-t17
+    cast-t19
     returns
     returns-2
     returns-3
@@ -116,4 +126,5 @@ refusal-of-spec =
     returns-9
     returns-10
     returns-11
-    returns-12)
+    returns-12
+    returns-13)

@@ -60,11 +60,11 @@ enum-known-q-5 c = search needs
 plain-requires-6 : tie.Need-plain-requires-6
 plain-requires-6 c κs = search needs
 
-sub-t26 : tie.Need-sub-t26
-sub-t26 c = search needs
+sub-t27 : tie.Need-sub-t27
+sub-t27 c = search needs
 
-add-t27 : tie.Need-add-t27
-add-t27 c = search needs
+add-t28 : tie.Need-add-t28
+add-t28 c = search needs
 
 enum-known-q-6 : tie.Need-enum-known-q-6
 enum-known-q-6 c = search needs
@@ -143,6 +143,15 @@ enum-told-4 c = search needs
 
 plain-requires-18 : tie.Need-plain-requires-18
 plain-requires-18 c κs = search needs
+
+enum-known-q-16 : tie.Need-enum-known-q-16
+enum-known-q-16 c = search needs
+
+cast-plain-6 : tie.Need-cast-plain-6
+cast-plain-6 c = search needs
+
+plain-requires-19 : tie.Need-plain-requires-19
+plain-requires-19 c κs = search needs
 
 returns : tie.Need-returns
 unfolding numbers signed place pick
@@ -244,6 +253,11 @@ unfolding numbers signed place pick
 returns-20 c =
     ap shown (c .plain18 .ensures) ∙ ap numbers (sym (c .before .enum-told4 .given .1))
 
+returns-21 : tie.Need-returns-21
+unfolding numbers signed place pick
+returns-21 c =
+    ap shown (c .plain19 .ensures) ∙ ap numbers (sym (c .before .before .q16 .given .1))
+
 pub numbers-of-spec : {M : Type 1} → statement M
 numbers-of-spec =
     tie.close
@@ -265,8 +279,8 @@ numbers-of-spec =
     plain-requires-5
     enum-known-q-5
     plain-requires-6
-    sub-t26
-    add-t27
+    sub-t27
+    add-t28
     enum-known-q-6
     plain-requires-7
     enum-known-q-7
@@ -293,6 +307,9 @@ numbers-of-spec =
     plain-requires-17
     enum-told-4
     plain-requires-18
+    enum-known-q-16
+    cast-plain-6
+    plain-requires-19
     returns
     returns-2
     returns-3
@@ -312,4 +329,5 @@ numbers-of-spec =
     returns-17
     returns-18
     returns-19
-    returns-20)
+    returns-20
+    returns-21)

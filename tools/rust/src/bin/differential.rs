@@ -7,12 +7,18 @@
 //
 // Allowed, and counted apart: ours refuses with 11 an input of more bytes than the limit has levels (the Rust has no limit),
 // or with 12 counts of more references than the larger table has, where the Rust refuses later. Left out of the comparison,
-// and counted apart: inputs in which load comes to a Float or a Bignum, which the Rust refuses as an unknown kind. What can be
-// asked of them: with strings for both such an input is compared, and ours must answer to both alike but for the node, the form
-// of a Bignum and `I`; with empty arrays for them, on which `I` is refused as on both, the Rust must give our answer; and where
-// load comes to a Bignum that is refused, ours must give the answer of a reader of Bignums written after the document.
+// and counted apart:
+//
+// Inputs in which load comes to an integer with a size byte of the other sign, which the Rust reads; a walk over the input
+// finds them. What can be asked of them: ours must be refused with 19 and the size byte, as soon as the data bytes are there and
+// not before; with the other size byte the Rust must read the same, and that input is compared.
+//
+// Other inputs in which load comes to a Float or a Bignum, which the Rust refuses as an unknown kind. What can be asked of
+// them: with strings for both such an input is compared, and ours must answer to both alike but for the node, the form of a
+// Bignum and `I`; with empty arrays for them, on which `I` is refused as on both, the Rust must give our answer; and where load
+// comes to a Bignum that is refused, ours must give the answer of a reader of Bignums written after the document.
 use beside_rust::bignum::{bignum, Bignum};
-use beside_rust::measure::{integer, measures};
+use beside_rust::measure::{integer, measures, wrong_sign_met, Role};
 use beside_rust::random::{damaged, value, Random, ALPHABET};
 use beside_rust::room::Room;
 use beside_rust::{inputs, Answer, Tables};
@@ -36,6 +42,15 @@ const PIECES: &[&[u8]] = &[
 ];
 // A Bignum's bytes, and what may stand around it.
 const AROUND: &[u8] = b"l+-0[@I\x00\x01\x06\x07\x0A\xFA";
+// What stands before an integer: a Fixnum, the lengths, the counts, the indices.
+const PLACES: &[&[u8]] = &[
+    b"i", b":", b"\"", b"u:\x06a", b"f", b"[", b"{", b"}", b"o:\x06a", b"I\"\x00", b"l+", b"l-", b";", b"@",
+];
+// Integers with size bytes of the other sign and of their own, cut off too, and what may stand around them.
+const SIGNED: &[&[u8]] = &[
+    b"\x04\x00\x00\x00\x80", b"\x04\x01\x00\x00", b"\x00", b"\xFC\x01\x00\x00\x00", b"\xFC\xFF\xFF\xFF", b"\xFF",
+    b"\x06", b"i", b"@", b";", b":", b"[", b"}", b"I", b"u", b"f", b"l-",
+];
 
 // How an input came out where nothing disagrees.
 #[derive(Clone, Copy, PartialEq)]
@@ -47,6 +62,8 @@ enum Outcome {
     NoSpace,
     /// load comes to a Float or a Bignum: the kind of the first, the number of our answer, and whether it is in dump form
     Later(u8, u64, bool),
+    /// load comes to a size byte of the other sign, and what it reads the integer for
+    WrongSign(u8, Role),
     Panic,
 }
 
@@ -273,6 +290,14 @@ fn with_arrays(input: &[u8]) -> Result<Exchanged, Answer> {
     exchanged(input, float, |_| b"[\x00".to_vec())
 }
 
+// What the Rust makes of an input with strings for its Floats and Bignums: the bytes used, and the dump or the error.
+fn read_by_rust(input: &[u8]) -> Result<(usize, Result<Vec<u8>, String>), Answer> {
+    let plain = with_strings(input)?.input;
+    let (mut rest, mut written) = (&plain[..], vec![]);
+    let read = ruby_marshal::load(&mut rest).and_then(|arena| ruby_marshal::dump(&mut written, &arena));
+    Ok((plain.len() - rest.len(), read.map(|()| written).map_err(|e| format!("{e:?}"))))
+}
+
 // Where the byte string at a place ends, if it is whole.
 fn byte_string_end(input: &[u8], place: usize) -> Option<usize> {
     let (length, start) = integer(input, place)?;
@@ -288,7 +313,9 @@ const STRING_NODE: u32 = 7;
 const USER_DEFINED_NODE: u32 = 8;
 const FLOAT_NODE: u32 = 9;
 const BIGNUM_NODE: u32 = 10;
+const SIZES: [u8; 2] = [0x04, 0xFC];
 const ACCEPTED: Answer = Answer { number: 0, first: 0, second: 0 };
+const SHORT_INPUT: Answer = Answer { number: 4, first: 0, second: 0 };
 const NOT_AN_OBJECT: Answer = Answer { number: 10, first: 0, second: 0 };
 const TOO_DEEP: Answer = Answer { number: 11, first: LIMIT as i64, second: 0 };
 const NO_REFERENCES: Answer = Answer { number: 12, first: 2, second: 0 };
@@ -306,13 +333,15 @@ struct Run {
     later: [usize; 2],
     /// refusals that agree, by number
     refused: [usize; 11],
-    /// refusals of inputs that left the comparison, by number
+    /// refusals of inputs with Floats or Bignums, by number
     later_refused: [usize; 17],
+    /// inputs that are refused for a size byte, by it and by what the integer is read for
+    signs: [[usize; 4]; 2],
     inputs: usize,
     disagree: usize,
-    /// of the class: inputs, accepted, refused, too deep, no space, with a Float, with a Bignum, panics, disagreeing; those in
-    /// dump form
-    row: [usize; 10],
+    /// of the class: inputs, accepted, refused, too deep, no space, with a Float, with a Bignum, with a wrong sign, panics,
+    /// disagreeing; those in dump form
+    row: [usize; 11],
 }
 
 impl Run {
@@ -328,6 +357,9 @@ impl Run {
             return Err(format!("load: {ours:?}, and in dump form"));
         }
         self.compare_measured(input, room, ours)?;
+        if let Some(at) = wrong_sign_met(input, LIMIT, self.lent[room].tables.references.len()) {
+            return self.compare_wrong_sign(input, at, room, ours);
+        }
         let loaded = catch_unwind(|| {
             let mut rest = input;
             let loaded = ruby_marshal::load(&mut rest);
@@ -361,6 +393,29 @@ impl Run {
         self.compared[0] += (tables.measures.compared > 0) as u64;
         self.compared[1] += tables.measures.compared;
         Ok(())
+    }
+
+    // What ours answers to an input with a size byte of the other sign at a place, and the same input with the other size byte.
+    fn compare_wrong_sign(&mut self, input: &[u8], at: (usize, Role), room: usize, ours: Answer) -> Result<Outcome, String> {
+        let (place, role) = at;
+        let size = input[place];
+        let tables = &mut self.lent[room].tables;
+        let [before, after] = [4, 5].map(|n| tables.load(&input[..place + n], LIMIT));
+        let refused = Answer { number: 19, first: size.into(), second: 0 };
+        if [before, after, ours] != [SHORT_INPUT, refused, refused] {
+            return Err(format!("load: {ours:?} for the integer at {place}; cut off in it {before:?}, after it {after:?}"));
+        }
+        let mut other = input.to_vec();
+        other[place] = size.wrapping_neg();
+        match catch_unwind(|| read_by_rust(input) == read_by_rust(&other)) {
+            Err(_) => return Ok(Outcome::Panic),
+            Ok(false) => return Err(format!("the Rust reads another integer at {place} with the other size byte")),
+            Ok(true) => (),
+        }
+        Ok(match self.compare(&other)? {
+            Outcome::Panic => Outcome::Panic,
+            _ => Outcome::WrongSign(size, role),
+        })
     }
 
     // What ours answers to an input with Floats or Bignums, beside the same input with strings and with empty arrays for them.
@@ -500,12 +555,16 @@ impl Run {
                 self.later_refused[n as usize] += 1;
                 if kind == FLOAT { 5 } else { 6 }
             }
-            Ok(Outcome::Panic) => 7,
-            Err(_) => 8,
+            Ok(Outcome::WrongSign(size, role)) => {
+                self.signs[(size == SIZES[1]) as usize][role as usize] += 1;
+                7
+            }
+            Ok(Outcome::Panic) => 8,
+            Err(_) => 9,
         };
         self.row[0] += 1;
         self.row[column] += 1;
-        self.row[9] += matches!(outcome, Ok(Outcome::Accepted(true) | Outcome::Later(_, _, true))) as usize;
+        self.row[10] += matches!(outcome, Ok(Outcome::Accepted(true) | Outcome::Later(_, _, true))) as usize;
         self.inputs += 1;
         if let Err(what) = &outcome {
             self.disagree += 1;
@@ -518,8 +577,9 @@ impl Run {
 
     // The class that was run, as a line of the table.
     fn end_class(&mut self, name: &str) {
-        let [all, accepted, refused, deep, space, floats, bignums, panics, disagree, formed] = std::mem::take(&mut self.row);
-        print!("{name:<34}{all:>9}{accepted:>9}{refused:>9}{deep:>9}{space:>9}{floats:>9}{bignums:>9}");
+        let [all, accepted, refused, deep, space, later @ .., panics, disagree, formed] = std::mem::take(&mut self.row);
+        let [floats, bignums, signs] = later;
+        print!("{name:<34}{all:>9}{accepted:>9}{refused:>9}{deep:>9}{space:>9}{floats:>9}{bignums:>9}{signs:>9}");
         println!("{panics:>7}{disagree:>9}{formed:>10}");
     }
 
@@ -562,10 +622,11 @@ impl Run {
             self.words(&mut vec![4, 8], &bytes, length);
         }
         self.end_class("2 bytes");
-        for kind in b"i[{}@;:\"f" {
+        for place in PLACES {
             for size in [1, 2, 3, 4, -1, -2, -3, -4_i8] {
                 let length = size.unsigned_abs() as usize;
-                self.words(&mut vec![4, 8, *kind, size as u8], b"\x00\x01\x7A\x7B\x7F\x80\x84\xFF", length);
+                let mut word = [&[4, 8], *place, &[size as u8]].concat();
+                self.words(&mut word, b"\x00\x01\x7A\x7B\x7F\x80\x84\xFF", length);
             }
         }
         self.end_class("integers of 1 to 4 bytes");
@@ -590,6 +651,8 @@ impl Run {
         let around: Vec<&[u8]> = AROUND.chunks(1).collect();
         self.undecided(&mut vec![4, 8], &around, 7);
         self.end_class("7 of 13 bytes around l, likewise");
+        self.undecided(&mut vec![4, 8], SIGNED, 6);
+        self.end_class("6 of 17 pieces around 04, likewise");
     }
 
     // Inputs as they are, then each damaged that many times.
@@ -633,12 +696,13 @@ fn made() -> Vec<Vec<u8>> {
 fn run(corpora: Vec<String>) -> usize {
     let [lent, measured] = [REFERENCES, REFERENCES].map(|sizes| sizes.map(Lent::new));
     let again = Lent::new(REFERENCES[0]);
-    let (compared, kinds, later, refused, later_refused, row) = ([0; 2], [0; 9], [0; 2], [0; 11], [0; 17], [0; 10]);
-    let mut run = Run { lent, measured, again, compared, kinds, later, refused, later_refused, inputs: 0, disagree: 0, row };
+    let (compared, kinds, later, refused, later_refused) = ([0; 2], [0; 9], [0; 2], [0; 11], [0; 17]);
+    let (signs, inputs, disagree, row) = ([[0; 4]; 2], 0, 0, [0; 11]);
+    let mut run = Run { lent, measured, again, compared, kinds, later, refused, later_refused, signs, inputs, disagree, row };
     let mut random = Random(48);
     println!(
-        "{:<34}{:>9}{:>9}{:>9}{:>9}{:>9}{:>9}{:>9}{:>7}{:>9}{:>10}",
-        "", "inputs", "accepted", "refused", "too deep", "no space", "Float", "Bignum", "panics", "disagree", "dump form"
+        "{:<34}{:>9}{:>9}{:>9}{:>9}{:>9}{:>9}{:>9}{:>9}{:>7}{:>9}{:>10}",
+        "", "inputs", "accepted", "refused", "too deep", "no space", "Float", "Bignum", "sign", "panics", "disagree", "dump form"
     );
     run.exhaustive();
     let classes: [(_, _, &[u8]); 3] =
@@ -658,6 +722,9 @@ fn run(corpora: Vec<String>) -> usize {
     }
     println!("nodes compared, kinds 0 to 8: {:?}; Floats and Bignums as strings: {:?}", run.kinds, run.later);
     println!("refusals 3 to 10 that agree: {:?}; with Floats or Bignums, 3 to 16: {:?}", &run.refused[3..], &run.later_refused[3..]);
+    for (size, roles) in SIZES.iter().zip(run.signs) {
+        println!("size byte {size:02X} of the other sign, at a Fixnum, a length, a count, an index: {roles:?}");
+    }
     let [inputs, bytes] = run.compared;
     println!("bytes compared in searches for names: {bytes}, in {inputs} loads");
     println!("{} inputs, {} disagree", run.inputs, run.disagree);
