@@ -6,16 +6,16 @@ use mathlib.Core.Bool.{Bool, true, false}
 use mathlib.Core.List.{List, [], _∷_}
 use mathlib.Core.Logic.{_⊎_, inl, inr}
 use lib.Dec.{eqb}
-use lib.ListN.{length, getD, set, drop, length-set}
+use lib.ListN.{length, getD, set, length-set}
 use lib.Seq.{sets, set-set, set-comm, getD-set-other}
 use borrow.Author.Tests.{lt-ltb, ne-eqb}
 use Rattle.definition.specs.Run.{pure, pick, look, _>>=_}
-use Rattle.definition.specs.Integer.{form, value, integer-bytes}
+use Rattle.definition.specs.Integer.{value, integer-bytes}
 use Rattle.definition.specs.Kind.{FIXNUM, SYMBOL-LINK}
 use Rattle.definition.specs.Node.{fixnum, words}
 use Rattle.definition.specs.Load.{Room, Reader, Lists, lists, head, value-of, read-value, read-integer, read-count, read-fixnum, read-symbol-link, read-symbol-like, put-reference, add-node, entry}
 use Rattle.definition.specs.declared.Refusal.the-variants.{MissingSymbol}
-use Rattle.reader.specs.Integers.{size-of, word-of, dumped-at, size-small}
+use Rattle.reader.specs.Integers.{form-at, size-at, word-at, dumped-at, size-small}
 use Rattle.loader.specs.Holds.{Held, Goes, Link, Next, Either, Coming, slot, slots, at-of, nodes-of, references-of, symbols-of}
 use Rattle.loader.proofs.Counts.{is}
 use Rattle.loader.proofs.Names.{untrue}
@@ -47,14 +47,14 @@ module _ {input : List ℕ} {room : Room} (name inner : Reader ℕ) (names : ℕ
 -- ---- a link
 
 -- the index of one byte, after the kind byte
-index-goes : {input : List ℕ} {room : Room} {c : List ℕ} {no re by sy ob : List ℕ} (i : ℕ) → at-of c < length input → form (getD input (at-of c) 0) ≡ value i → integer-bytes i ≡ getD input (at-of c) 0 ∷ [] → i < symbols-of c → i < 2147483648 → Goes input room (read-symbol-link input) (lists no re by sy ob) c (pure (getD sy i 0)) (lists no re by sy ob) (set c 0 (at-of c + 1))
+index-goes : {input : List ℕ} {room : Room} {c : List ℕ} {no re by sy ob : List ℕ} (i : ℕ) → at-of c < length input → form-at input (at-of c) ≡ value i → integer-bytes i ≡ getD input (at-of c) 0 ∷ [] → i < symbols-of c → i < 2147483648 → Goes input room (read-symbol-link input) (lists no re by sy ob) c (pure (getD sy i 0)) (lists no re by sy ob) (set c 0 (at-of c + 1))
 unfolding read-symbol-link read-count pick
 index-goes {c = c} i l e d h k =
     let q : symbols-of (set c 0 (at-of c + 1)) ≡ symbols-of c = getD-set-other c 0 4 (at-of c + 1) 0 (omega arith) in
     then (goes-first (λ i. look λ s. entry (s .symbols) i (MissingSymbol i)) (then (goes-first _ (integer-one {limit = 0} i l e d (omega arith) .goes (omega arith))) (goes-to (simp (lt-ltb i 2147483648 k)) (still (λ s H. refl)))))
     (symbol-listed i (MissingSymbol i) (omega (arith, q)))
 
-module _ {room : Room} {no re by sy ob : List ℕ} (input c : List ℕ) (limit levels : ℕ) (some : levels ≡ 0 → ⊥) (eight : length c ≡ 8) (i : ℕ) (l : at-of c + 2 ≤ length input) (k : getD input (at-of c) 0 ≡ SYMBOL-LINK) (e : form (getD input (at-of c + 1) 0) ≡ value i) (d : integer-bytes i ≡ getD input (at-of c + 1) 0 ∷ []) (h : i < symbols-of c) (small : i < 2147483648) where
+module _ {room : Room} {no re by sy ob : List ℕ} (input c : List ℕ) (limit levels : ℕ) (some : levels ≡ 0 → ⊥) (eight : length c ≡ 8) (i : ℕ) (l : at-of c + 2 ≤ length input) (k : getD input (at-of c) 0 ≡ SYMBOL-LINK) (e : form-at input (at-of c + 1) ≡ value i) (d : integer-bytes i ≡ getD input (at-of c + 1) 0 ∷ []) (h : i < symbols-of c) (small : i < 2147483648) where
   -- after the kind byte
   link-rest : Goes input room (read-symbol-link input) (lists no re by sy ob) (set c 0 (at-of c + 1)) (pure (getD sy i 0)) (lists no re by sy ob) (set c 0 (at-of c + 2))
   link-rest =
@@ -62,7 +62,7 @@ module _ {room : Room} {no re by sy ob : List ℕ} (input c : List ℕ) (limit l
       let q : symbols-of (set c 0 (at-of c + 1)) ≡ symbols-of c = getD-set-other c 0 4 (at-of c + 1) 0 (omega arith) in
       let next : at-of c + 2 ≡ at-of (set c 0 (at-of c + 1)) + 1 = omega (arith, p) in
       subst (λ x. Goes input room (read-symbol-link input) (lists no re by sy ob) (set c 0 (at-of c + 1)) (pure (getD sy i 0)) (lists no re by sy ob) x) (set-set c 0 (at-of c + 1) (at-of (set c 0 (at-of c + 1)) + 1) ∙ ap (set c 0) (sym next))
-      (index-goes i (omega (arith, p)) (ap (λ (x : ℕ). form (getD input x 0)) p ∙ e) (d ∙ ap (λ (x : ℕ). getD input x 0 ∷ []) (sym p)) (omega (arith, q)) small)
+      (index-goes i (omega (arith, p)) (ap (λ (x : ℕ). form-at input x) p ∙ e) (d ∙ ap (λ (x : ℕ). getD input x 0 ∷ []) (sym p)) (omega (arith, q)) small)
 
   -- as a name and as a value alike
   pub link-goes : (t : Bool) → Goes input room (pick t (read-symbol-like input room) (read-value input room limit levels)) (lists no re by sy ob) c (pure (getD sy i 0)) (lists no re by sy ob) (set c 0 (at-of c + 2))
@@ -71,13 +71,6 @@ module _ {room : Room} {no re by sy ob : List ℕ} (input c : List ℕ) (limit l
   link-goes false = then (goes-to (ap (λ (x : ℕ). value-of input room (read-value input room limit (levels - 1)) x (head x)) k) (kind-read limit levels some (omega arith))) link-rest
 
 -- ---- an integer
-
--- how many bytes the integer at an offset takes, and its 32 bits
-abbrev pub size-at : List ℕ → ℕ → ℕ
-size-at input at = size-of (form (getD input at 0))
-
-abbrev pub word-at : List ℕ → ℕ → ℕ
-word-at input at = word-of (drop (at + 1) input) (form (getD input at 0))
 
 module _ {room : Room} {no re by sy ob : List ℕ} (input c : List ℕ) (limit levels : ℕ) (some : levels ≡ 0 → ⊥) (eight : length c ≡ 8) (l : at-of c + 6 ≤ length input) (k : getD input (at-of c) 0 ≡ FIXNUM) (d : dumped-at input (at-of c + 1) ≡ true) (h : nodes-of c < length no / 7) where
   -- the integer, after the kind byte
@@ -90,7 +83,7 @@ module _ {room : Room} {no re by sy ob : List ℕ} (input c : List ℕ) (limit l
       let five = size-small (getD input (at-of c + 1) 0) in
       let number : Goes input room (read-integer input) (lists no re by sy ob) c₁ (pure (word-at input (at-of c + 1))) (lists no re by sy ob) (set c 0 (at-of c + 1 + size-at input (at-of c + 1))) =
       subst (λ x. Goes input room (read-integer input) (lists no re by sy ob) c₁ (pure (word-at input (at-of c + 1))) (lists no re by sy ob) x) (set-set c 0 (at-of c + 1) (at-of c + 1 + size-at input (at-of c + 1)))
-      (subst (λ a. Goes input room (read-integer input) (lists no re by sy ob) c₁ (pure (word-of (drop (a + 1) input) (form (getD input a 0)))) (lists no re by sy ob) (set c₁ 0 (a + size-of (form (getD input a 0))))) p
+      (subst (λ a. Goes input room (read-integer input) (lists no re by sy ob) c₁ (pure (word-at input a)) (lists no re by sy ob) (set c₁ 0 (a + size-at input a))) p
       (integer-whole {limit = 0} _ (rw p (omega (arith, five))) refl (sym d ∙ ap (dumped-at input) (sym p)) (rw p fits) .goes (rw p fits))) in
       let c₂ = set c 0 (at-of c + 1 + size-at input (at-of c + 1)) in
       let r : nodes-of c₂ ≡ nodes-of c = getD-set-other c 0 1 (at-of c + 1 + size-at input (at-of c + 1)) 0 (omega arith) in
@@ -207,16 +200,16 @@ module _ {input no₀ re₀ sy c₀ : List ℕ} {start end names levels : ℕ} {
       goes = λ room limit by ob. then (R .goes room limit by ob) (step room limit by ob);
     }
 
-  pub run-link : (i : ℕ) → (levels ≡ 0 → ⊥) → to < end → at + 2 ≤ length input → getD input at 0 ≡ SYMBOL-LINK → form (getD input (at + 1) 0) ≡ value i → integer-bytes i ≡ getD input (at + 1) 0 ∷ [] → i < symbols-of c₀ → Running input no₀ re₀ sy c₀ start end names levels no (set re to (getD sy i 0)) c (at + 2) (to + 1)
+  pub run-link : (i : ℕ) → (levels ≡ 0 → ⊥) → to < end → at + 2 ≤ length input → getD input at 0 ≡ SYMBOL-LINK → form-at input (at + 1) ≡ value i → integer-bytes i ≡ getD input (at + 1) 0 ∷ [] → i < symbols-of c₀ → Running input no₀ re₀ sy c₀ start end names levels no (set re to (getD sy i 0)) c (at + 2) (to + 1)
   run-link i some l h k e d y =
       let p = is-at in
       let z : i < 2147483648 = omega (arith, y, R .known, R .held .2 .holds .count-symbols, R .held .2 .holds .symbols .fits, R .held .2 .holds .small .symbols) in
       run-on c (at + 2) (getD sy i 0) l refl (getD-set-other c 0 2 (at + 2) 0 (omega arith) ∙ sym (getD-set-other c 0 2 at 0 (omega arith))) (getD-set-other c 0 4 (at + 2) 0 (omega arith) ∙ sym (getD-set-other c 0 4 at 0 (omega arith)))
       (λ room limit by ob.
       subst (λ x. Goes input room (slot (read-symbol-like input room) (read-value input room limit levels) names to) (lists no re by sy ob) c₁ (pure (getD sy i 0)) (lists no re by sy ob) x) (set-set c 0 at (at-of c₁ + 2) ∙ ap (λ (x : ℕ). set c 0 (x + 2)) p)
-      (link-goes input c₁ limit levels some (R .held .2 .holds .counts) i (rw p h) (ap (λ (x : ℕ). getD input x 0) p ∙ k) (ap (λ (x : ℕ). form (getD input (x + 1) 0)) p ∙ e) (d ∙ ap (λ (x : ℕ). getD input (x + 1) 0 ∷ []) (sym p)) (omega (arith, R .known)) z (eqb (to % 2) names)))
+      (link-goes input c₁ limit levels some (R .held .2 .holds .counts) i (rw p h) (ap (λ (x : ℕ). getD input x 0) p ∙ k) (ap (λ (x : ℕ). form-at input (x + 1)) p ∙ e) (d ∙ ap (λ (x : ℕ). getD input (x + 1) 0 ∷ []) (sym p)) (omega (arith, R .known)) z (eqb (to % 2) names)))
 
-  pub run-integer : {no' : List ℕ} (n : ℕ) → (levels ≡ 0 → ⊥) → to < end → at + 6 ≤ length input → getD input at 0 ≡ FIXNUM → dumped-at input (at + 1) ≡ true → (to % 2 ≡ names → ⊥) → nodes-of c < length no / 7 → n ≡ size-of (form (getD input (at + 1) 0)) → word-of (drop (at + 1 + 1) input) (form (getD input (at + 1) 0)) < 4294967296 → no' ≡ sets no (nodes-of c * 7) (2 ∷ word-of (drop (at + 1 + 1) input) (form (getD input (at + 1) 0)) ∷ 0 ∷ 0 ∷ 0 ∷ 0 ∷ 0 ∷ []) → length no' ≡ length no → Running input no₀ re₀ sy c₀ start end names levels no' (set re to (nodes-of c)) (set c 1 (nodes-of c + 1)) (at + 1 + n) (to + 1)
+  pub run-integer : {no' : List ℕ} (n : ℕ) → (levels ≡ 0 → ⊥) → to < end → at + 6 ≤ length input → getD input at 0 ≡ FIXNUM → dumped-at input (at + 1) ≡ true → (to % 2 ≡ names → ⊥) → nodes-of c < length no / 7 → n ≡ size-at input (at + 1) → word-at input (at + 1) < 4294967296 → no' ≡ sets no (nodes-of c * 7) (2 ∷ word-at input (at + 1) ∷ 0 ∷ 0 ∷ 0 ∷ 0 ∷ 0 ∷ []) → length no' ≡ length no → Running input no₀ re₀ sy c₀ start end names levels no' (set re to (nodes-of c)) (set c 1 (nodes-of c + 1)) (at + 1 + n) (to + 1)
   run-integer {no'} n some l h k d e y z fits f sized =
       let p = is-at in
       let q : nodes-of c₁ ≡ nodes-of c = getD-set-other c 0 1 at 0 (omega arith) in
@@ -233,12 +226,12 @@ module _ {input no₀ re₀ sy c₀ : List ℕ} {start end names levels : ℕ} {
       whole room limit by ob =
           let p = is-at in
           let q : nodes-of c₁ ≡ nodes-of c = getD-set-other c 0 1 at 0 (omega arith) in
-          let t : set (set c₁ 1 (nodes-of c₁ + 1)) 0 (at-of c₁ + 1 + size-of (form (getD input (at-of c₁ + 1) 0))) ≡ set (set c 1 (nodes-of c + 1)) 0 (at + 1 + n) =
-          (λ j. set (set c₁ 1 (q j + 1)) 0 (p j + 1 + size-of (form (getD input (p j + 1) 0))))
+          let t : set (set c₁ 1 (nodes-of c₁ + 1)) 0 (at-of c₁ + 1 + size-at input (at-of c₁ + 1)) ≡ set (set c 1 (nodes-of c + 1)) 0 (at + 1 + n) =
+          (λ j. set (set c₁ 1 (q j + 1)) 0 (p j + 1 + size-at input (p j + 1)))
           ∙ ap (λ (m : ℕ). set (set c₁ 1 (nodes-of c + 1)) 0 (at + 1 + m)) (sym z)
           ∙ ap (λ (m : List ℕ). set m 0 (at + 1 + n)) (set-comm c 0 1 at (nodes-of c + 1) (omega arith))
           ∙ set-set (set c 1 (nodes-of c + 1)) 0 at (at + 1 + n) in
           subst (λ m. Goes input room (read-value input room limit levels) (lists no re by sy ob) c₁ (pure m) (lists no' re by sy ob) (set (set c 1 (nodes-of c + 1)) 0 (at + 1 + n))) q
           (subst (λ m. Goes input room (read-value input room limit levels) (lists no re by sy ob) c₁ (pure (nodes-of c₁)) (lists no' re by sy ob) m) t
           (integer-goes input c₁ limit levels some (R .held .2 .holds .counts) (rw p h) (ap (λ (m : ℕ). getD input m 0) p ∙ k) (ap (λ (m : ℕ). dumped-at input (m + 1)) p ∙ d) (omega (arith, q, y)) (rw p fits)
-          (f ∙ λ j. sets no (sym q j * 7) (2 ∷ word-of (drop (sym p j + 1 + 1) input) (form (getD input (sym p j + 1) 0)) ∷ 0 ∷ 0 ∷ 0 ∷ 0 ∷ 0 ∷ []))))
+          (f ∙ λ j. sets no (sym q j * 7) (2 ∷ word-at input (sym p j + 1) ∷ 0 ∷ 0 ∷ 0 ∷ 0 ∷ 0 ∷ []))))

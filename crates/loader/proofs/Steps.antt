@@ -17,7 +17,7 @@ use Rattle.definition.specs.Load.{Room, Notes, State, Reader, Lists, lists, at-
 use Rattle.definition.specs.declared.Refusal.{Refusal}
 use Rattle.definition.specs.declared.Refusal.the-variants.{ShortInput, NotAnObject, NoSpace, WrongSign}
 use Rattle.reader.specs.Answers.{coded, refusal-at, at-short, at-variables, at-space, at-wrong-sign}
-use Rattle.reader.specs.Integers.{size-of, form-at, word-at, wrong-at, dumped-at, dumped-agrees, sign-checked, integer-read, integer-wrong, integer-short, integer-none, integer-small}
+use Rattle.reader.specs.Integers.{form-at, size-at, word-at, wrong-at, dumped-at, dumped-agrees, sign-checked, integer-read, integer-wrong, integer-short, integer-none, integer-small}
 use Rattle.loader.specs.Holds.{Begins, Holds, Held, Grown, Went, Goes, Leads, Meets, Spans, AllBelow, Plain, Symbolic, Entry, Fit, AllFit, Interned, Noted, Free, span, span-of, new-symbol, settle, at-of, nodes-of, references-of, bytes-of, symbols-of, objects-of, compared-of, Counting}
 use Rattle.loader.proofs.Counts.{Only, is, none, counting}
 use Rattle.loader.proofs.Counts as K
@@ -376,7 +376,7 @@ module _ {input : List ℕ} {room : Room} {c : List ℕ} {T : Lists} where
   byte-goes l = moved (at-of c + 1) (omega arith) (omega arith) (λ s H. let k : at-of c ≡ s .at = H .count-at in simp (k, lt-ltb (s .at) (length input) (omega arith)))
 
   -- an integer whose bytes are all there
-  integer-there : (t : Bool) (v : ℕ) → at-of c + size-of (form-at input (at-of c)) ≤ length input → v ≡ word-at input (at-of c) → t ≡ dumped-at input (at-of c) → wrong-at input (at-of c) ≡ false → (s : State) → Holds input room s T c → read-integer input s ≡ ok v (noted t (at-set (at-of c + size-of (form-at input (at-of c))) s))
+  integer-there : (t : Bool) (v : ℕ) → at-of c + size-at input (at-of c) ≤ length input → v ≡ word-at input (at-of c) → t ≡ dumped-at input (at-of c) → wrong-at input (at-of c) ≡ false → (s : State) → Holds input room s T c → read-integer input s ≡ ok v (noted t (at-set (at-of c + size-at input (at-of c)) s))
   integer-there t v h e q a s H =
       let k = H .count-at in
       rw (q, e, k) (integer-read input s (rw k at h) (rw k at a))
@@ -401,26 +401,26 @@ module _ {input : List ℕ} {room : Room} {limit : ℕ} {c : List ℕ} {T : List
   span-missing n l = denied ShortInput (omega arith) (at-short limit) (record { refuses = λ s H. let lt : length input - s .at < n = omega arith in simp (lt-leb _ _ lt) })
 
   -- an integer whose bytes are all there, in dump form or in another; one of one byte; one whose bytes are not
-  pub integer-whole : (v : ℕ) → at-of c + size-of (form-at input (at-of c)) ≤ length input → v ≡ word-at input (at-of c) → true ≡ dumped-at input (at-of c) → v < 4294967296 → Meets input room limit (read-integer input) T c v T (set c 0 (at-of c + size-of (form-at input (at-of c))))
+  pub integer-whole : (v : ℕ) → at-of c + size-at input (at-of c) ≤ length input → v ≡ word-at input (at-of c) → true ≡ dumped-at input (at-of c) → v < 4294967296 → Meets input room limit (read-integer input) T c v T (set c 0 (at-of c + size-at input (at-of c)))
   integer-whole v h e q f =
       let a = dumped-agrees input (at-of c) (omega (arith, e)) (sym q) in
-      given (λ s H. f) (moved (at-of c + size-of (form-at input (at-of c))) (omega arith) h (integer-there true v h e q a))
+      given (λ s H. f) (moved (at-of c + size-at input (at-of c)) (omega arith) h (integer-there true v h e q a))
 
-  pub integer-other : (v r : ℕ) → at-of c + size-of (form-at input (at-of c)) ≤ length input → v ≡ word-at input (at-of c) → false ≡ dumped-at input (at-of c) → v < 4294967296 → r ≡ sign-checked (getD input (at-of c) 0) v → getD input (at-of c) 0 ≤ 255 → Meets input room limit (read-integer input) T c r T (set (set c 0 (at-of c + size-of (form-at input (at-of c)))) 6 1)
+  pub integer-other : (v r : ℕ) → at-of c + size-at input (at-of c) ≤ length input → v ≡ word-at input (at-of c) → false ≡ dumped-at input (at-of c) → v < 4294967296 → r ≡ sign-checked (getD input (at-of c) 0) v → getD input (at-of c) 0 ≤ 255 → Meets input room limit (read-integer input) T c r T (set (set c 0 (at-of c + size-at input (at-of c))) 6 1)
   unfolding sign-checked pick
   integer-other v r h e q f g b = go (wrong-sign (getD input (at-of c) 0) v) refl g
     where
-      go : (t : Bool) → wrong-sign (getD input (at-of c) 0) v ≡ t → r ≡ pick t (coded 19 (getD input (at-of c) 0)) v → Meets input room limit (read-integer input) T c r T (set (set c 0 (at-of c + size-of (form-at input (at-of c)))) 6 1)
+      go : (t : Bool) → wrong-sign (getD input (at-of c) 0) v ≡ t → r ≡ pick t (coded 19 (getD input (at-of c) 0)) v → Meets input room limit (read-integer input) T c r T (set (set c 0 (at-of c + size-at input (at-of c))) 6 1)
       go true w k = rw k (denied (WrongSign _) (omega arith) (at-wrong-sign limit _ b) (record { refuses = λ s H. let o = H .count-at in rw o (integer-wrong input s (rw o at h) (rw (e, o) at w)) }))
-      go false w k = rw k (given (λ s H. f) (moved-lost (at-of c + size-of (form-at input (at-of c))) (omega arith) h (integer-there false v h e q (rw e at w))))
+      go false w k = rw k (given (λ s H. f) (moved-lost (at-of c + size-at input (at-of c)) (omega arith) h (integer-there false v h e q (rw e at w))))
 
-  pub integer-one : (v : ℕ) → at-of c < length input → form (getD input (at-of c) 0) ≡ value v → integer-bytes v ≡ getD input (at-of c) 0 ∷ [] → v < 4294967296 → Meets input room limit (read-integer input) T c v T (set c 0 (at-of c + 1))
+  pub integer-one : (v : ℕ) → at-of c < length input → form-at input (at-of c) ≡ value v → integer-bytes v ≡ getD input (at-of c) 0 ∷ [] → v < 4294967296 → Meets input room limit (read-integer input) T c v T (set c 0 (at-of c + 1))
   integer-one v h e b f =
       given (λ s H. f)
       (moved (at-of c + 1) (omega arith) (omega arith) (λ s H. let k = H .count-at in rw k (integer-small input s v (rw k at e) f (rw k at b) (omega arith))))
 
-  pub integer-cut : {T' : Lists} {c' : List ℕ} {m' : Reader ℕ} → at-of c < length input → length input - at-of c < size-of (form (getD input (at-of c) 0)) → Leads input room limit (read-integer input) m' T c (coded 4 0) T' c'
-  integer-cut h l = denied ShortInput (omega arith) (at-short limit) (record { refuses = λ s H. let k = H .count-at in let g : length input < at-of c + size-of (form (getD input (at-of c) 0)) = omega arith in integer-short input s (rw k at g) (omega arith) })
+  pub integer-cut : {T' : Lists} {c' : List ℕ} {m' : Reader ℕ} → at-of c < length input → length input - at-of c < size-at input (at-of c) → Leads input room limit (read-integer input) m' T c (coded 4 0) T' c'
+  integer-cut h l = denied ShortInput (omega arith) (at-short limit) (record { refuses = λ s H. let k = H .count-at in let g : length input < at-of c + size-at input (at-of c) = omega arith in integer-short input s (rw k at g) (omega arith) })
 
   pub integer-gone : {T' : Lists} {c' : List ℕ} {m' : Reader ℕ} → length input ≤ at-of c → Leads input room limit (read-integer input) m' T c (coded 4 0) T' c'
   integer-gone l = denied ShortInput (omega arith) (at-short limit) (record { refuses = λ s H. integer-none input s (omega arith) })

@@ -46,7 +46,7 @@ ghost use Rattle.definition.specs.Magnitude.{sign, sign-byte, bignum-row};
 ghost use Rattle.definition.specs.Arena.{named, compared-among};
 ghost use Rattle.definition.specs.Load.{Room, State, Reader, Lists, lists, read-header, read-integer, read-count, read-bytes, read-byte-string, read-fixnum, read-symbol, read-symbol-link, read-object-link, read-symbol-like, read-text, read-user-defined, read-sign, read-magnitude, read-bignum, add-bignum, read-value, value-of, head, add-node, add-bytes, add-symbol, add-object, add-object-node, counted, fill, takes-variables};
 ghost use Rattle.reader.specs.Answers.{coded};
-ghost use Rattle.reader.specs.Integers.{size-of, form-at, word-at, dumped-at};
+ghost use Rattle.reader.specs.Integers.{size-at, word-at, dumped-at};
 ghost use Rattle.loader.specs.Holds.{Held, Holds, Somewhere, Goes, Leads, Meets, Does, Spans, Plain, Symbolic, Found, Like, Alike, Compared, Ends, find-listed, Free, Leaf, Entry, Link, Next, Coming, span, span-of, at-of, nodes-of, references-of, bytes-of, symbols-of, compared-of, new-symbol, read-name, add-name, read-number, settle, after-i, slots, wrong, Allowed};
 
 // The places of the eight counts: the offset, then how much of each table and list is used, then whether what was read is
@@ -853,9 +853,9 @@ fn takes_integer(k: u8, to: usize, names: usize, node: usize, room: usize) -> bo
 
 // Node `node` becomes the integer at `at`, whose bytes are all there, if dump writes it so: how many they are. Else 0.
 fn put_integer(input: &[u8], nodes: &mut [u32], at: usize, node: usize) -> usize
-    requires { ⌜ (at + size-of (form-at (now input) at) ≤ length (now input)) × (node * width + width ≤ length (now nodes)) ⌝ }
+    requires { ⌜ (at + size-at (now input) at ≤ length (now input)) × (node * width + width ≤ length (now nodes)) ⌝ }
     ensures { λ r. ⌜ ((r ≡ 0 → ⊥) → now (nodes .exit) ≡ sets (now (nodes .entry)) (node * width) (2 ∷ word-at (now (input .entry)) at ∷ 0 ∷ 0 ∷ 0 ∷ 0 ∷ 0 ∷ [])) ⌝ }
-    ensures { λ r. ⌜ ((r ≡ 0 → ⊥) → (r ≡ size-of (form-at (now (input .entry)) at)) × (dumped-at (now (input .entry)) at ≡ true)) ⌝ }
+    ensures { λ r. ⌜ ((r ≡ 0 → ⊥) → (r ≡ size-at (now (input .entry)) at) × (dumped-at (now (input .entry)) at ≡ true)) ⌝ }
     ensures { λ r. ⌜ (r ≡ 0 → (now (nodes .exit) ≡ now (nodes .entry)) × (dumped-at (now (input .entry)) at ≡ false)) ⌝ }
     ensures { λ r. ⌜ word-at (now (input .entry)) at < 4294967296 ⌝ }
 {

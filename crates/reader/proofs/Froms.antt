@@ -16,7 +16,7 @@ use Rattle.definition.specs.declared.Answer.the-variants.{Accepted}
 use Rattle.definition.specs.declared.Refusal.{Refusal}
 use Rattle.definition.specs.declared.Refusal.the-variants.{ShortInput, NegativeCount}
 use Rattle.reader.specs.From.{taken-as, not-taken, no-text}
-use Rattle.reader.specs.Integers.{Whole, size-of, data-of, form-at, word-at, dumped-at, sign-checked, integer-read, integer-wrong}
+use Rattle.reader.specs.Integers.{Whole, size-at, data-at, word-at, dumped-at, sign-checked, integer-read, integer-wrong}
 use Rattle.reader.specs.Answers.{refusal-at, coded, at-wrong-sign}
 
 -- at the start all is in dump form
@@ -50,7 +50,7 @@ module _ (input : List ℕ) (at : ℕ) where
   -- ---- an integer
 
   -- what check_sign makes of its first byte and its 32 bits
-  pub integer-checked : {w r : ℕ} → at + size-of (form-at input at) ≤ length input → w ≡ word-at input at → data-of (drop (at + 1) input) (form-at input at) ≡ low-bytes (size-of (form-at input at) - 1) w → w < 4294967296 → r ≡ sign-checked (getD input at 0) w → getD input at 0 ≤ 255 → (4294967296 ≤ r → read-integer input (starting at) ≡ refused (refusal-at 0 r)) × (r < 4294967296 → Whole input at r)
+  pub integer-checked : {w r : ℕ} → at + size-at input at ≤ length input → w ≡ word-at input at → data-at input at ≡ low-bytes (size-at input at - 1) w → w < 4294967296 → r ≡ sign-checked (getD input at 0) w → getD input at 0 ≤ 255 → (4294967296 ≤ r → read-integer input (starting at) ≡ refused (refusal-at 0 r)) × (r < 4294967296 → Whole input at r)
   unfolding sign-checked pick
   integer-checked {w} {r} h e d u c b = go (wrong-sign (getD input at 0) w) refl c
     where
@@ -60,7 +60,7 @@ module _ (input : List ℕ) (at : ℕ) where
       go false q f =
           (λ l. absurd (omega (arith, f)), λ l. record { inside = h; agrees = rw e at q; word = f ∙ e; low = rw f d })
 
-  pub integer-whole : {w n : ℕ} {t : Bool} → Whole input at w → n ≡ size-of (form-at input at) → t ≡ dumped-at input at → read-integer input (starting at) ≡ ok w (noted t (starting (at + n)))
+  pub integer-whole : {w n : ℕ} {t : Bool} → Whole input at w → n ≡ size-at input at → t ≡ dumped-at input at → read-integer input (starting at) ≡ ok w (noted t (starting (at + n)))
   integer-whole k e q = rw (e, k .word, q) (integer-read input (starting at) (k .inside) (k .agrees))
 
   pub integer-refused : {q : Refusal} → read-integer input (starting at) ≡ refused q → not-taken q at ≡ next-integer input at

@@ -35,9 +35,15 @@ data-of rest (data-bytes n above) = take n rest
 abbrev pub as-dumped : List ℕ → ℕ → Form → Bool
 as-dumped rest b f = equal (b ∷ data-of rest f) (integer-bytes (word-of rest f))
 
--- of the integer at an offset: the form that its first byte says; its 32 bits; is its size byte against their sign; does dump write it so?
+-- of the integer at an offset: the form that its first byte says; how many bytes it takes; those after the first; its 32 bits; is its size byte against their sign; does dump write it so?
 abbrev pub form-at : List ℕ → ℕ → Form
 form-at input at = form (getD input at 0)
+
+abbrev pub size-at : List ℕ → ℕ → ℕ
+size-at input at = size-of (form-at input at)
+
+abbrev pub data-at : List ℕ → ℕ → List ℕ
+data-at input at = data-of (drop (at + 1) input) (form-at input at)
 
 abbrev pub word-at : List ℕ → ℕ → ℕ
 word-at input at = word-of (drop (at + 1) input) (form-at input at)
@@ -50,10 +56,10 @@ dumped-at input at = as-dumped (drop (at + 1) input) (getD input at 0) (form-at 
 
 -- all its bytes are there and its size byte is not against its sign; r is its 32 bits, and its data bytes are r's lowest
 pub record Whole (input : List ℕ) (at r : ℕ) : Type 0 where
-  pub inside : at + size-of (form-at input at) ≤ length input
+  pub inside : at + size-at input at ≤ length input
   pub agrees : wrong-at input at ≡ false
   pub word : r ≡ word-at input at
-  pub low : data-of (drop (at + 1) input) (form-at input at) ≡ low-bytes (size-of (form-at input at) - 1) r
+  pub low : data-at input at ≡ low-bytes (size-at input at - 1) r
 
 -- the number that a reader answers for the 32 bits w after the first byte b
 unfoldable pub sign-checked : ℕ → ℕ → ℕ
@@ -169,24 +175,24 @@ module _ (input : List ℕ) (s : State) (b : ℕ) where
   form-short (data-bytes n above) l h = let lt : length input - (s .at + 1) < n = omega arith in simp (lt-leb _ _ lt)
 
 module _ (input : List ℕ) (s : State) where
-  integer-there : s .at + size-of (form-at input (s .at)) ≤ length input → read-integer input s ≡ tell (getD input (s .at) 0) (data-of (drop (s .at + 1) input) (form-at input (s .at))) (word-at input (s .at)) (at-set (s .at + size-of (form-at input (s .at))) s)
+  integer-there : s .at + size-at input (s .at) ≤ length input → read-integer input s ≡ tell (getD input (s .at) 0) (data-at input (s .at)) (word-at input (s .at)) (at-set (s .at + size-at input (s .at)) s)
   unfolding read-integer read-byte _>>=_ next pick
   integer-there h =
       let l : s .at < length input = omega (arith, size-some (getD input (s .at) 0)) in
       simp (lt-ltb _ _ l) (form-there input s (getD input (s .at) 0) (form-at input (s .at)) l h)
 
   -- all its bytes are there
-  pub integer-read : s .at + size-of (form-at input (s .at)) ≤ length input → wrong-at input (s .at) ≡ false → read-integer input s ≡ ok (word-at input (s .at)) (noted (dumped-at input (s .at)) (at-set (s .at + size-of (form-at input (s .at))) s))
+  pub integer-read : s .at + size-at input (s .at) ≤ length input → wrong-at input (s .at) ≡ false → read-integer input s ≡ ok (word-at input (s .at)) (noted (dumped-at input (s .at)) (at-set (s .at + size-at input (s .at)) s))
   unfolding tell note pure _>>=_ next pick
   integer-read h e = integer-there h ∙ rw e refl
 
   -- and its size byte is against its sign
-  pub integer-wrong : s .at + size-of (form-at input (s .at)) ≤ length input → wrong-at input (s .at) ≡ true → read-integer input s ≡ refused (WrongSign (getD input (s .at) 0))
+  pub integer-wrong : s .at + size-at input (s .at) ≤ length input → wrong-at input (s .at) ≡ true → read-integer input s ≡ refused (WrongSign (getD input (s .at) 0))
   unfolding tell refuse pick
   integer-wrong h e = integer-there h ∙ rw e refl
 
   -- one is missing
-  pub integer-short : length input < s .at + size-of (form-at input (s .at)) → s .at < length input → read-integer input s ≡ refused ShortInput
+  pub integer-short : length input < s .at + size-at input (s .at) → s .at < length input → read-integer input s ≡ refused ShortInput
   unfolding read-integer read-byte _>>=_ next pick
   integer-short h l = simp (lt-ltb _ _ l) (form-short input s (getD input (s .at) 0) (form-at input (s .at)) l h)
 

@@ -17,7 +17,7 @@ ghost use Rattle.definition.specs.Run.{refused};
 ghost use Rattle.definition.specs.Load.{read-header, read-integer};
 ghost use Rattle.definition.specs.Reader.{starting, left, next-byte, next-header, next-integer, next-byte-string};
 ghost use Rattle.reader.specs.Answers.{refusal-at, coded, Reads};
-ghost use Rattle.reader.specs.Integers.{size-of, word-of, data-of, as-dumped, form-at, word-at, least, sign-checked, Whole};
+ghost use Rattle.reader.specs.Integers.{size-of, word-of, data-of, as-dumped, size-at, data-at, word-at, least, sign-checked, Whole};
 ghost use Rattle.reader.specs.From.{taken-as, not-taken, no-text};
 
 // A reader answers a number, which comes back in a register: an enum comes back in memory. Below REFUSED it is a value;
@@ -157,9 +157,9 @@ fn ones_above(n: usize) -> u32
 
 // The 32 bits of the integer at `at`, whose bytes are all there.
 pub fn integer_at(input: &[u8], at: usize) -> u32
-    requires { ⌜ at + size-of (form-at (now input) at) ≤ length (now input) ⌝ }
+    requires { ⌜ at + size-at (now input) at ≤ length (now input) ⌝ }
     ensures { λ r. ⌜ r ≡ word-at (now (input .entry)) at ⌝ }
-    ensures { λ r. ⌜ data-of (drop (at + 1) (now (input .entry))) (form-at (now (input .entry)) at) ≡ low-bytes (size-of (form-at (now (input .entry)) at) - 1) r ⌝ }
+    ensures { λ r. ⌜ data-at (now (input .entry)) at ≡ low-bytes (size-at (now (input .entry)) at - 1) r ⌝ }
 {
     let b = byte(input[at]);
     if b <= 4 {
