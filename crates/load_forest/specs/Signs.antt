@@ -1,12 +1,12 @@
--- An integer that is read has the sign that its size byte tells (02, 2.6): 01 to 04 zero or more, FF to FC less.
+-- An integer that is read has the sign that its size byte tells (02, 2.6): 01 to 04 zero or more, FF to FC less; so four data bytes are taken after one of 04 and FC.
 use Prim.Native.Nat.{ℕ, zero, suc, _+_, _-_, _^_, _≤_, _<_}
 use native.Mathlib.Omega.{arith}
-use mathlib.Core.Bool.{false}
+use mathlib.Core.Bool.{Bool, true, false, not}
 use mathlib.Core.Path.{_≡_, refl, ap, _∙_}
 use mathlib.Core.List.{List, []}
-use lib.Dec.{eqb, leb}
+use lib.Dec.{eqb, leb, ltb}
 use lib.ListN.{length, getD}
-use borrow.Author.Tests.{eqb-true, leb-true, leb-false, ltb-false}
+use borrow.Author.Tests.{eqb-true, leb-true, leb-false, le-leb, lt-leb, ltb-true, ltb-false}
 use Rattle.definition.specs.Run.{ok, pick, _>>=_}
 use Rattle.definition.specs.Integer.{Form, data-bytes, form, little, wrong-sign}
 use Rattle.definition.specs.Arena.{range}
@@ -74,3 +74,12 @@ module _ (input : List ℕ) (h : Below 256 input) where
   sign-told s t w e =
       read-byte-then input s _ w t e λ l e₁.
       form-told (getD input (s .at) 0) (h (s .at) (getD input (s .at) 0) (at-getD input (s .at) 0 l)) (at-set (s .at + 1) s) t w e₁
+
+-- after four data bytes just one of both size bytes is not against the sign
+pub one-size : (w : ℕ) → wrong-sign 252 w ≡ not (wrong-sign 4 w)
+unfolding wrong-sign pick
+one-size w = go (ltb w 2147483648) refl
+  where
+    go : (t : Bool) → ltb w 2147483648 ≡ t → ltb w 2147483648 ≡ not (leb 2147483648 w)
+    go true e = rw (e, lt-leb 2147483648 w (ltb-true w 2147483648 e)) refl
+    go false e = rw (e, le-leb 2147483648 w (ltb-false w 2147483648 e)) refl
