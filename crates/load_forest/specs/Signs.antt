@@ -1,17 +1,20 @@
--- An integer that is read has the sign that its size byte tells (02, 2.6): 01 to 04 zero or more, FF to FC less; so four data bytes are taken after one of 04 and FC.
+-- An integer that is read has the sign that its size byte tells (02, 2.6): 01 to 04 zero or more, FF to FC less; and four data bytes are read after just one of 04 and FC.
 use Prim.Native.Nat.{ℕ, zero, suc, _+_, _-_, _^_, _≤_, _<_}
 use native.Mathlib.Omega.{arith}
-use mathlib.Core.Bool.{Bool, true, false, not}
+use mathlib.Core.Bool.{Bool, true, false}
 use mathlib.Core.Path.{_≡_, refl, ap, _∙_}
-use mathlib.Core.List.{List, []}
+use mathlib.Core.List.{List, [], _∷_}
+use mathlib.Core.Logic.{_⊎_, inl, inr}
 use lib.Dec.{eqb, leb, ltb}
 use lib.ListN.{length, getD}
 use borrow.Author.Tests.{eqb-true, leb-true, leb-false, le-leb, lt-leb, ltb-true, ltb-false}
-use Rattle.definition.specs.Run.{ok, pick, _>>=_}
-use Rattle.definition.specs.Integer.{Form, data-bytes, form, little, wrong-sign}
+use Rattle.definition.specs.Run.{ok, refused, pure, refuse, next, pick, _>>=_}
+use Rattle.definition.specs.Integer.{Form, data-bytes, form, little, wrong-sign, integer-bytes}
+use Rattle.definition.specs.Node.{equal}
+use Rattle.definition.specs.declared.Refusal.the-variants.{WrongSign}
 use Rattle.definition.specs.Arena.{range}
 use Rattle.definition.specs.Load as L
-use Rattle.definition.specs.Load.{State, at-set}
+use Rattle.definition.specs.Load.{State, at-set, noted}
 use Rattle.lists.specs.Lists.{Below, at-getD}
 use Rattle.lists.specs.Words.{little-below, little-above}
 use Rattle.lists.specs.Ranges.{length-range-in}
@@ -75,11 +78,33 @@ module _ (input : List ℕ) (h : Below 256 input) where
       read-byte-then input s _ w t e λ l e₁.
       form-told (getD input (s .at) 0) (h (s .at) (getD input (s .at) 0) (at-getD input (s .at) 0 l)) (at-set (s .at + 1) s) t w e₁
 
--- after four data bytes just one of both size bytes is not against the sign
-pub one-size : (w : ℕ) → wrong-sign 252 w ≡ not (wrong-sign 4 w)
-unfolding wrong-sign pick
-one-size w = go (ltb w 2147483648) refl
-  where
-    go : (t : Bool) → ltb w 2147483648 ≡ t → ltb w 2147483648 ≡ not (leb 2147483648 w)
-    go true e = rw (e, lt-leb 2147483648 w (ltb-true w 2147483648 e)) refl
-    go false e = rw (e, le-leb 2147483648 w (ltb-false w 2147483648 e)) refl
+-- four data bytes that are there are read after one of 04 and FC, and refused after the other
+module _ (input : List ℕ) (s : State) (l : 4 ≤ length input - s .at) where
+  abbrev four : List ℕ
+  four = range input (s .at) 4
+
+  abbrev number : ℕ
+  number = little four 0
+
+  abbrev pub Only : ℕ → ℕ → Type 0
+  Only b c = (L.read-form input b (form b) s ≡ ok number (noted (equal (b ∷ four) (integer-bytes number)) (at-set (s .at + 4) s))) × (L.read-form input c (form c) s ≡ refused (WrongSign c))
+
+  comes : (b : ℕ) → form b ≡ data-bytes 4 0 → L.read-form input b (form b) s ≡ L.tell b four number (at-set (s .at + 4) s)
+  unfolding L.read-form L.read-bytes _>>=_ next pick
+  comes b e = rw (e, le-leb 4 (length input - s .at) l) refl
+
+  reads : (b : ℕ) → form b ≡ data-bytes 4 0 → wrong-sign b number ≡ false → L.read-form input b (form b) s ≡ ok number (noted (equal (b ∷ four) (integer-bytes number)) (at-set (s .at + 4) s))
+  unfolding L.tell L.note pure _>>=_ next pick
+  reads b e q = comes b e ∙ rw q refl
+
+  stops : (b : ℕ) → form b ≡ data-bytes 4 0 → wrong-sign b number ≡ true → L.read-form input b (form b) s ≡ refused (WrongSign b)
+  unfolding L.tell refuse pick
+  stops b e q = comes b e ∙ rw q refl
+
+  pub one-form : Only 4 252 ⊎ Only 252 4
+  unfolding form wrong-sign pick
+  one-form = go (ltb number 2147483648) refl
+    where
+      go : (t : Bool) → ltb number 2147483648 ≡ t → Only 4 252 ⊎ Only 252 4
+      go true e = inl (reads 4 refl (lt-leb 2147483648 number (ltb-true number 2147483648 e)), stops 252 refl e)
+      go false e = inr (reads 252 refl e, stops 4 refl (le-leb 2147483648 number (ltb-false number 2147483648 e)))
