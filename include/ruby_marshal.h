@@ -1,5 +1,5 @@
 /*
- * Ruby Marshal 4.8 in lent tables: load, dump, the arena's getters, its weighing and its builder. For C11 and C++.
+ * Ruby Marshal 4.8 in lent tables: load, dump, the arena's getters, weighing, costing and builder. For C11 and C++.
  *
  * Link libmarshal_c.a, which `rt staticlib marshal_c` writes to target/staticlib (x86-64 Linux). It allocates nothing, keeps
  * nothing between calls, and needs of the C library at most memcpy, memmove, memset and memcmp.
@@ -52,7 +52,9 @@ enum ruby_marshal_refusal {
     RUBY_MARSHAL_TOO_BIG = 16,        /* (units) bignum of more than 4 units of 16 bits, or of 2^63 and more */
     RUBY_MARSHAL_NOT_A_WEIGHT = 17,   /* (node) no number, or a dry weight below 0 */
     RUBY_MARSHAL_BAD_MOISTURE = 18,   /* moisture below 0 or above 0.5 */
-    RUBY_MARSHAL_WRONG_SIGN = 19      /* (size byte) integer below 0 after 4, or not below 0 after 252 */
+    RUBY_MARSHAL_WRONG_SIGN = 19,     /* (size byte) integer below 0 after 4, or not below 0 after 252 */
+    RUBY_MARSHAL_NOT_A_RECIPE = 20,   /* (node) wrong kind or below 0 in a recipe or prices; recipe of over 512 pairs */
+    RUBY_MARSHAL_NO_PRICE = 21        /* (key's node) name in the recipe without a price */
 };
 
 /* The slices that BAD_TABLES and NO_SPACE name; the lowest wrong one is named. No slice has more than 2147483647 entries. */
@@ -94,6 +96,7 @@ enum ruby_marshal_slice {
 #define RUBY_MARSHAL_READING_DOUBLES 1u
 #define RUBY_MARSHAL_WET_WEIGHT_WORDS 2u
 #define RUBY_MARSHAL_WET_WEIGHT_DOUBLES 3u
+#define RUBY_MARSHAL_BATCH_COST_WORDS 3u
 #define RUBY_MARSHAL_CREATE_WORDS 7u /* every create_ function, and replace_root */
 
 enum ruby_marshal_answer {
@@ -114,7 +117,8 @@ enum ruby_marshal_answer {
     RUBY_MARSHAL_START = 2,      /* get_symbol: where the name's bytes start, */
     RUBY_MARSHAL_LENGTH = 3,     /*             and how many they are */
     RUBY_MARSHAL_READS_AS = 2,   /* reading: enum ruby_marshal_reading, */
-    RUBY_MARSHAL_WHOLE = 3       /*          and the whole number, in two's complement: ruby_marshal_whole */
+    RUBY_MARSHAL_WHOLE = 3,      /*          and the whole number, in two's complement: ruby_marshal_whole */
+    RUBY_MARSHAL_CENTS = 2       /* batch_cost: the sum in cents */
 };
 
 /* What a node reads as. */
@@ -316,6 +320,32 @@ uint32_t ruby_marshal_wet_weight(
     size_t node_count, size_t reference_count, size_t byte_count, uint32_t root,
     uint32_t dry, uint32_t moisture,
     double *weighing, size_t weighing_length,
+    uint64_t *answer, size_t answer_length);
+
+/* ---- costs ---- */
+
+/* The most pairs that a recipe may have. */
+#define RUBY_MARSHAL_RECIPE_PAIRS 512u
+
+/*
+ * What a recipe costs at given prices. The recipe is a hash of kilograms, the prices are a hash of cents per tonne: fixnums
+ * from 0 up under symbols. Keys match by the bytes of their names, and in either hash a pair supersedes those before it of its
+ * name. Hash defaults play no part. Both handles may be one node.
+ *
+ * Answers: details, the sum in cents: of each pair of the recipe that is not superseded kilograms * cents / 1000, rounded to a
+ * cent, an exact half going up. The sum is below 2^62, and 0 where the call is refused.
+ * Tests the tables (1, slices 1 2 3), the whole arena (2), both handles, recipe before prices (13); then the recipe whole, and
+ * after it the prices whole (20): the kind, and of the recipe alone the number of pairs as written, at most 512, with the
+ * handle; each pair in order, superseded ones too, first its key, then its value, with the node; then, in the recipe's order,
+ * that each pair that is not superseded has a price, be it 0 (21, with the key's node).
+ * At worst each key of the recipe is compared with every key of both hashes.
+ */
+uint32_t ruby_marshal_batch_cost(
+    const uint32_t *nodes, size_t nodes_length,
+    const uint32_t *references, size_t references_length,
+    const uint8_t *bytes, size_t bytes_length,
+    size_t node_count, size_t reference_count, size_t byte_count, uint32_t root,
+    uint32_t recipe, uint32_t prices,
     uint64_t *answer, size_t answer_length);
 
 /* ---- builder ---- */
@@ -530,6 +560,8 @@ static inline const char *ruby_marshal_name(uint32_t returned)
     case RUBY_MARSHAL_NOT_A_WEIGHT: return "NOT-A-WEIGHT";
     case RUBY_MARSHAL_BAD_MOISTURE: return "BAD-MOISTURE";
     case RUBY_MARSHAL_WRONG_SIGN: return "WRONG-SIGN";
+    case RUBY_MARSHAL_NOT_A_RECIPE: return "NOT-A-RECIPE";
+    case RUBY_MARSHAL_NO_PRICE: return "NO-PRICE";
     default: return "?";
     }
 }

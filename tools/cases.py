@@ -13,10 +13,10 @@ CHANGED = os.path.join(TOP, "tools", "changed")
 
 # The files of a corpus, by the call that their cases are of.
 FILES = {"load": ["load-tight", "load-list", "saved", "load"], "dump": ["dump"], "build": ["build"], "pairs": ["pairs"],
-         "weigh": ["weigh"]}
+         "weigh": ["weigh"], "cost": ["cost"]}
 
 # The requests of document 02 that are in, as the marks name them.
-IN = {"2.1", "2.2", "2.3", "2.4", "2.5", "2.6"}
+IN = {"2.1", "2.2", "2.3", "2.4", "2.5", "2.6", "2.7"}
 
 
 def name_of(label):
@@ -209,6 +209,67 @@ def settle_weighing(case):
             raise SystemExit("%s: weighing %s, worked out %s" % (case["id"], case["weighing"], found))
 
 
+def words_of(arena, handle):
+    """A node's words."""
+    return arena["nodes"][7 * handle:7 * handle + 7]
+
+
+def pairs_of(arena, handle):
+    """A hash's keys and values, pair by pair, as written."""
+    start, count = words_of(arena, handle)[3:5]
+    listed = arena["refs"][start:start + 2 * count]
+    return list(zip(listed[::2], listed[1::2]))
+
+
+def not_a_recipe(arena, handle, most):
+    """The first faulty node of what should be a hash of amounts under names, after 2.7, or None: the hash for its kind or for
+    more pairs than `most`, then each pair, key before value, superseded ones too."""
+    if words_of(arena, handle)[0] != 5 or len(pairs_of(arena, handle)) > most:
+        return handle
+    for key, value in pairs_of(arena, handle):
+        if words_of(arena, key)[0] != 3:
+            return key
+        kind, amount = words_of(arena, value)[:2]
+        if kind != 2 or amount >> 31:
+            return value
+
+
+def surviving(arena, handle):
+    """By name the key's node and the amount: a later pair supersedes an earlier one, and stands at its own place."""
+    text, found = bytes.fromhex(arena["bytes"]), {}
+    for key, value in pairs_of(arena, handle):
+        start, length = words_of(arena, key)[1:3]
+        name = text[start:start + length]
+        found.pop(name, None)
+        found[name] = key, words_of(arena, value)[1]
+    return found
+
+
+def batch_cost(arena, recipe, prices):
+    """The answer of batch_cost over an arena that is well formed, after 2.7: three numbers, and the cents."""
+    for handle in (recipe, prices):
+        if handle >= arena["counts"][0]:
+            return [13, handle, 0], 0
+    for handle, most in ((recipe, 512), (prices, float("inf"))):
+        wrong = not_a_recipe(arena, handle, most)
+        if wrong is not None:
+            return [20, wrong, 0], 0
+    at, total = surviving(arena, prices), 0
+    for name, (key, kilograms) in surviving(arena, recipe).items():
+        if name not in at:
+            return [21, key, 0], 0
+        cents, rest = divmod(kilograms * at[name][1], 1000)
+        total += cents + (rest >= 500)
+    return [0, 0, 0], total
+
+
+def settle_cost(case):
+    """What a case says must be what is worked out of its arena, but for 1 and 2, which come before that."""
+    found = batch_cost(case, case["recipe"], case["prices"]) if case["answer"][0] not in (1, 2) else (case["answer"], 0)
+    if found != (case["answer"], case["cents"]):
+        raise SystemExit("%s: %s and %d cents, worked out %s and %d" % (case["id"], case["answer"], case["cents"], *found))
+
+
 def by_file(folders):
     """The cases of each file: by its name for the first folder, after the folder's name for the others."""
     found = {}
@@ -229,6 +290,8 @@ def by_file(folders):
                 settle_noted(c)
             if call(label) == "weigh":
                 settle_weighing(c)
+            if call(label) == "cost":
+                settle_cost(c)
     return found
 
 

@@ -144,15 +144,15 @@ static bool untouched(void)
 /* ---- each function over what is lent ---- */
 
 enum call {
-    LOAD, LOAD_MEASURED, DUMP, ROOT, KIND, GET, GET_SYMBOL, READING, WET_WEIGHT, NEW, REPLACE_ROOT, CREATE_NIL, CREATE_BOOL,
-    CREATE_FIXNUM, CREATE_SYMBOL, CREATE_NEW_SYMBOL, CREATE_ARRAY, CREATE_HASH, CREATE_OBJECT, CREATE_STRING,
+    LOAD, LOAD_MEASURED, DUMP, ROOT, KIND, GET, GET_SYMBOL, READING, WET_WEIGHT, BATCH_COST, NEW, REPLACE_ROOT, CREATE_NIL,
+    CREATE_BOOL, CREATE_FIXNUM, CREATE_SYMBOL, CREATE_NEW_SYMBOL, CREATE_ARRAY, CREATE_HASH, CREATE_OBJECT, CREATE_STRING,
     CREATE_USER_DEFINED, CREATE_FLOAT, CREATE_BIGNUM, CALLS
 };
 
 static const size_t answer_words[CALLS] = {
     RUBY_MARSHAL_LOAD_WORDS, RUBY_MARSHAL_LOAD_MEASURED_WORDS, RUBY_MARSHAL_DUMP_WORDS, RUBY_MARSHAL_ROOT_WORDS,
     RUBY_MARSHAL_KIND_WORDS, RUBY_MARSHAL_GET_WORDS, RUBY_MARSHAL_GET_SYMBOL_WORDS, RUBY_MARSHAL_READING_WORDS,
-    RUBY_MARSHAL_WET_WEIGHT_WORDS, RUBY_MARSHAL_NEW_WORDS,
+    RUBY_MARSHAL_WET_WEIGHT_WORDS, RUBY_MARSHAL_BATCH_COST_WORDS, RUBY_MARSHAL_NEW_WORDS,
     RUBY_MARSHAL_CREATE_WORDS, RUBY_MARSHAL_CREATE_WORDS, RUBY_MARSHAL_CREATE_WORDS, RUBY_MARSHAL_CREATE_WORDS,
     RUBY_MARSHAL_CREATE_WORDS, RUBY_MARSHAL_CREATE_WORDS, RUBY_MARSHAL_CREATE_WORDS, RUBY_MARSHAL_CREATE_WORDS,
     RUBY_MARSHAL_CREATE_WORDS, RUBY_MARSHAL_CREATE_WORDS, RUBY_MARSHAL_CREATE_WORDS, RUBY_MARSHAL_CREATE_WORDS,
@@ -193,6 +193,7 @@ static uint32_t call(enum call which, const struct lent *l, struct given g)
     case GET_SYMBOL: return ruby_marshal_get_symbol(TABLES, COUNTS, g.number, ANSWER);
     case READING: return ruby_marshal_reading(TABLES, COUNTS, g.number, DOUBLES, ANSWER);
     case WET_WEIGHT: return ruby_marshal_wet_weight(TABLES, COUNTS, g.number, g.other, DOUBLES, ANSWER);
+    case BATCH_COST: return ruby_marshal_batch_cost(TABLES, COUNTS, g.number, g.other, ANSWER);
     case NEW: return ruby_marshal_new(TABLES, ANSWER);
     case REPLACE_ROOT: return ruby_marshal_replace_root(TABLES, COUNTS, g.number, ANSWER);
     case CREATE_NIL: return ruby_marshal_create_nil(TABLES, COUNTS, ANSWER);
@@ -518,6 +519,96 @@ static void weighings(void)
     EXPECT(strcmp(ruby_marshal_name(RUBY_MARSHAL_BAD_MOISTURE), "?") != 0);
 }
 
+/* A hash of those pairs. */
+static uint32_t hash_of(struct lent *l, const uint32_t *pairs, size_t count)
+{
+    return made(CREATE_HASH, l, give_list(0, pairs, count * 2));
+}
+
+/* What is answered is the sum. */
+static void costs_so_much(struct lent *l, uint32_t recipe, uint32_t prices, uint64_t cents)
+{
+    accepted(BATCH_COST, l, give_two(recipe, prices));
+    EXPECT(l->answer[RUBY_MARSHAL_CENTS] == cents);
+}
+
+/* A refusal leaves no cents. */
+static void costs_nothing(struct lent *l, uint32_t recipe, uint32_t prices, uint32_t number, uint32_t node)
+{
+    l->answer[RUBY_MARSHAL_CENTS] = 7;
+    refused(BATCH_COST, l, give_two(recipe, prices), number, node, 0);
+    EXPECT(l->answer[RUBY_MARSHAL_CENTS] == 0);
+}
+
+/* Recipes at prices. */
+static void costs(void)
+{
+    struct lent l = lend(0, 40 * 7, 2200, 16, 0, 0, 0);
+    uint32_t nil, a, b, again, nothing, one, half, least, most, big, pairs[2 * (RUBY_MARSHAL_RECIPE_PAIRS + 1)];
+    uint32_t none, cent, free_of_charge, recipe, full, over, wrong;
+    size_t i;
+
+    accepted(NEW, &l, give(0));
+    nil = made(CREATE_NIL, &l, give(0));
+    a = made(CREATE_SYMBOL, &l, give_string(0, "a"));
+    b = made(CREATE_SYMBOL, &l, give_string(0, "b"));
+    again = made(CREATE_NEW_SYMBOL, &l, give_string(0, "a"));
+    nothing = made(CREATE_FIXNUM, &l, give_value(0));
+    one = made(CREATE_FIXNUM, &l, give_value(1));
+    half = made(CREATE_FIXNUM, &l, give_value(500));
+    least = made(CREATE_FIXNUM, &l, give_value(-1));
+    most = made(CREATE_FIXNUM, &l, give_value(INT32_MAX));
+    big = made(CREATE_BIGNUM, &l, give_bignum(false, 1));
+    none = hash_of(&l, no_words, 0);
+    pairs[0] = a, pairs[1] = one, pairs[2] = b, pairs[3] = one;
+    cent = hash_of(&l, pairs, 2);
+    pairs[1] = pairs[3] = nothing;
+    free_of_charge = hash_of(&l, pairs, 2);
+
+    /* an exact half goes up, line by line */
+    pairs[1] = pairs[3] = half;
+    recipe = hash_of(&l, pairs, 2);
+    costs_so_much(&l, recipe, cent, 2);
+    costs_so_much(&l, recipe, recipe, 500);
+    costs_so_much(&l, recipe, free_of_charge, 0);
+    costs_so_much(&l, cent, cent, 0);
+    costs_so_much(&l, none, none, 0);
+    costs_so_much(&l, none, recipe, 0);
+    costs_nothing(&l, recipe, none, RUBY_MARSHAL_NO_PRICE, a);
+
+    /* b, and the later a: of another node, but of the same name; the default is no price */
+    pairs[0] = a, pairs[1] = most, pairs[2] = b, pairs[3] = half, pairs[4] = again, pairs[5] = half;
+    recipe = hash_of(&l, pairs, 3);
+    costs_so_much(&l, recipe, cent, 2);
+    costs_nothing(&l, recipe, hash_of(&l, pairs, 1), RUBY_MARSHAL_NO_PRICE, b);
+    costs_nothing(&l, recipe, made(CREATE_HASH, &l, give_list(one + 1, pairs + 2, 2)), RUBY_MARSHAL_NO_PRICE, again);
+
+    /* the greatest lines of the most pairs, of which all but the last are superseded; one pair more */
+    for (i = 0; i < RUBY_MARSHAL_RECIPE_PAIRS + 1; i++)
+        pairs[2 * i] = i % 2 == 0 ? a : again, pairs[2 * i + 1] = most;
+    full = hash_of(&l, pairs, RUBY_MARSHAL_RECIPE_PAIRS);
+    costs_so_much(&l, full, full, 4611686014132421u);
+    over = hash_of(&l, pairs, RUBY_MARSHAL_RECIPE_PAIRS + 1);
+    costs_nothing(&l, over, over, RUBY_MARSHAL_NOT_A_RECIPE, over);
+    costs_so_much(&l, full, over, 4611686014132421u);
+
+    /* handles, then the recipe whole, then the prices whole; in a pair the key first, and what is superseded too */
+    costs_nothing(&l, 99, 98, RUBY_MARSHAL_BAD_HANDLE, 99);
+    costs_nothing(&l, nil, 98, RUBY_MARSHAL_BAD_HANDLE, 98);
+    costs_nothing(&l, a, nil, RUBY_MARSHAL_NOT_A_RECIPE, a);
+    costs_nothing(&l, recipe, nil, RUBY_MARSHAL_NOT_A_RECIPE, nil);
+    pairs[0] = nil, pairs[1] = least;
+    wrong = hash_of(&l, pairs, 1);
+    costs_nothing(&l, wrong, nil, RUBY_MARSHAL_NOT_A_RECIPE, nil);
+    costs_nothing(&l, recipe, wrong, RUBY_MARSHAL_NOT_A_RECIPE, nil);
+    pairs[0] = a, pairs[2] = again, pairs[3] = one, pairs[4] = nil;
+    costs_nothing(&l, hash_of(&l, pairs, 3), cent, RUBY_MARSHAL_NOT_A_RECIPE, least);
+    pairs[1] = big;
+    costs_nothing(&l, cent, hash_of(&l, pairs, 1), RUBY_MARSHAL_NOT_A_RECIPE, big);
+    EXPECT(strcmp(ruby_marshal_name(RUBY_MARSHAL_NOT_A_RECIPE), "?") != 0);
+    EXPECT(strcmp(ruby_marshal_name(RUBY_MARSHAL_NO_PRICE), "?") != 0);
+}
+
 /* An array that is its own member: a pass over the nodes ends, and so does dump. */
 static void cycle(void)
 {
@@ -758,6 +849,7 @@ int main(void)
     build_dump_load();
     bignums();
     weighings();
+    costs();
     cycle();
     dump_form();
     measured();

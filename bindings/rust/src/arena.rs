@@ -152,6 +152,21 @@ impl<'t> Arena<'t> {
         calls::wet_weight(self.node_table(), self.references, self.bytes, self.counts, dry, moisture)
     }
 
+    /// What a recipe, a hash of kilograms, costs at prices, a hash of cents per tonne; in cents.
+    ///
+    /// Both hold fixnums from 0 up under symbols, and may be one hash. Keys match by name, and in either hash a pair supersedes
+    /// those before it of its name. Each pair of the recipe that is not superseded costs kilograms × cents ÷ 1000, rounded to a
+    /// cent, an exact half going up; the answer is the sum. Hash defaults play no part.
+    ///
+    /// Refused, in this order: a handle of no node, recipe before prices ([`Refusal::BadHandle`]); the recipe, then the prices,
+    /// of each the kind, of the recipe the number of pairs, at most [`MAX_RECIPE_PAIRS`](crate::MAX_RECIPE_PAIRS), then each
+    /// pair, superseded ones too, key before value ([`Refusal::NotARecipe`]); the first pair of the recipe that is not
+    /// superseded and has no price ([`Refusal::NoPrice`]).
+    pub fn batch_cost(&self, recipe: Handle, prices: Handle) -> Result<u64, Refusal> {
+        let (recipe, prices) = (recipe.number(), prices.number());
+        calls::batch_cost(self.node_table(), self.references, self.bytes, self.counts, recipe, prices)
+    }
+
     /// How many words [`Arena::dump`] wants of scratch: one for each node that the node table can hold.
     pub fn scratch_words(&self) -> usize {
         self.rows.len()

@@ -164,6 +164,20 @@ pub fn wet_weight(
     Ok(Weighing { dry, moisture, wet })
 }
 
+/// What a recipe costs at prices, in cents.
+pub fn batch_cost(
+    nodes: &[u32],
+    references: &[u32],
+    bytes: &[u8],
+    counts: Counts,
+    recipe: u32,
+    prices: u32,
+) -> Result<u64, Refusal> {
+    let told = sys::batch_cost(nodes, references, bytes, counts, recipe, prices);
+    Refusal::of(told.number, &told.words)?;
+    Ok(told.words[2])
+}
+
 /// An arena that holds nil.
 pub fn new(nodes: &mut [u32], references: &mut [u32], bytes: &mut [u8]) -> Begun {
     let told = sys::new(nodes, references, bytes);

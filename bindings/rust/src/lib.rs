@@ -5,14 +5,14 @@
 //!
 //! [`load`] reads bytes into [`Tables`] and gives an [`Arena`]; [`Arena::root`] and the views below it ([`Node`], [`Value`])
 //! read it in place; [`Arena::dump`] writes it, and [`Arena::dump_form`] tells whether the input was already as it writes; a
-//! [`Builder`] makes one node by node. [`Arena::reading`] reads a node as a number, and [`Arena::wet_weight`] gives wet weight
-//! from dry weight and moisture. [`load_measured`] also counts what a load copied and compared. Nothing is allocated, except
-//! by what the feature `alloc` adds (`OwnedTables`, `Arena::dump_to_vec`). [`calls`] has the functions themselves, on slices
-//! and counts.
+//! [`Builder`] makes one node by node. [`Arena::reading`] reads a node as a number, [`Arena::wet_weight`] gives wet weight
+//! from dry weight and moisture, and [`Arena::batch_cost`] a recipe's cost at given prices. [`load_measured`] also counts what
+//! a load copied and compared. Nothing is allocated, except by what the feature `alloc` adds (`OwnedTables`,
+//! `Arena::dump_to_vec`). [`calls`] has the functions themselves, on slices and counts.
 //!
 //! An [`Arena`] is well formed: only an accepted load or builder call, or the archive's own check, makes one, and while it lives
 //! its tables are borrowed. So a view looks at the words of its node alone, and the archive is not called. (For a reading, a
-//! weighing and a dump it is, and looks through the whole arena first.)
+//! weighing, a cost and a dump it is, and looks through the whole arena first.)
 //!
 //! A value may hold itself, as `a = []; a << a` does in Ruby. Every iterator here ends, since it goes over one node's list;
 //! a walk that goes on into the members has to see for itself that it ends, for instance by [`Node::handle`].
@@ -59,6 +59,9 @@ pub use value::{Array, Float, Hash, Kind, Members, Node, Nodes, Object, Pairs, T
 
 /// The greatest limit: levels of nesting.
 pub const MAX_LIMIT: u32 = 128;
+
+/// The most pairs of a recipe: [`Arena::batch_cost`].
+pub const MAX_RECIPE_PAIRS: usize = 512;
 
 /// How many words a node has.
 pub const NODE_WORDS: usize = 7;

@@ -91,7 +91,7 @@ pub enum Fault {
     Node(u32),
 }
 
-/// Why a call is refused: the nineteen numbers of documents 01 and 02 with their details.
+/// Why a call is refused: the twenty-one numbers of documents 01 and 02 with their details.
 #[derive(Clone, Copy, Debug, PartialEq, Eq, Hash)]
 #[non_exhaustive]
 pub enum Refusal {
@@ -138,6 +138,11 @@ pub enum Refusal {
     BadMoisture,
     /// An integer below 0 after this size byte, 4, or not below 0 after 252.
     WrongSign(u8),
+    /// A node that is no hash where a recipe or prices are wanted, a key of theirs that is no symbol, a value that is no fixnum
+    /// from 0 up, or a recipe of more than [`MAX_RECIPE_PAIRS`](crate::MAX_RECIPE_PAIRS) pairs.
+    NotARecipe(u32),
+    /// A key of the recipe whose name has no price.
+    NoPrice(u32),
     /// A number that this crate doesn't know: the archive is of another version.
     Other {
         /// What was returned.
@@ -175,11 +180,13 @@ impl Refusal {
             17 => Refusal::NotAWeight(first as u32),
             18 => Refusal::BadMoisture,
             19 => Refusal::WrongSign(first as u8),
+            20 => Refusal::NotARecipe(first as u32),
+            21 => Refusal::NoPrice(first as u32),
             _ => Refusal::Other { number, first: first as i64, second },
         })
     }
 
-    /// The number in documents 01 and 02, 1 to 19.
+    /// The number in documents 01 and 02, 1 to 21.
     pub fn number(self) -> u32 {
         match self {
             Refusal::BadTables(_) => 1,
@@ -201,6 +208,8 @@ impl Refusal {
             Refusal::NotAWeight(_) => 17,
             Refusal::BadMoisture => 18,
             Refusal::WrongSign(_) => 19,
+            Refusal::NotARecipe(_) => 20,
+            Refusal::NoPrice(_) => 21,
             Refusal::Other { number, .. } => number,
         }
     }
@@ -223,7 +232,9 @@ impl Refusal {
             | Refusal::BadHandle(n)
             | Refusal::WrongKind(n)
             | Refusal::TooBig(n)
-            | Refusal::NotAWeight(n) => (n.into(), 0),
+            | Refusal::NotAWeight(n)
+            | Refusal::NotARecipe(n)
+            | Refusal::NoPrice(n) => (n.into(), 0),
             Refusal::Other { first, second, .. } => (first, second),
         }
     }
@@ -250,6 +261,8 @@ impl Refusal {
             Refusal::NotAWeight(_) => "NOT-A-WEIGHT",
             Refusal::BadMoisture => "BAD-MOISTURE",
             Refusal::WrongSign(_) => "WRONG-SIGN",
+            Refusal::NotARecipe(_) => "NOT-A-RECIPE",
+            Refusal::NoPrice(_) => "NO-PRICE",
             Refusal::Other { .. } => "?",
         }
     }
@@ -278,6 +291,8 @@ impl fmt::Display for Refusal {
             Refusal::NotAWeight(handle) => write!(f, "node {handle} is no weight"),
             Refusal::BadMoisture => f.write_str("moisture below 0 or above 0.5"),
             Refusal::WrongSign(size) => write!(f, "size byte {size:02X} on an integer of the other sign"),
+            Refusal::NotARecipe(handle) => write!(f, "node {handle} does not belong in a recipe or in prices"),
+            Refusal::NoPrice(handle) => write!(f, "the name of node {handle} has no price"),
             Refusal::Other { number, first, second } => write!(f, "refusal {number}, {first}, {second}"),
         }
     }

@@ -100,6 +100,15 @@ mod archive {
             answer: *mut u64, answer_length: usize,
         ) -> u32;
 
+        pub fn ruby_marshal_batch_cost(
+            nodes: *const u32, nodes_length: usize,
+            references: *const u32, references_length: usize,
+            bytes: *const u8, bytes_length: usize,
+            node_count: usize, reference_count: usize, byte_count: usize, root: u32,
+            recipe: u32, prices: u32,
+            answer: *mut u64, answer_length: usize,
+        ) -> u32;
+
         pub fn ruby_marshal_new(
             nodes: *mut u32, nodes_length: usize,
             references: *mut u32, references_length: usize,
@@ -426,6 +435,22 @@ pub fn wet_weight(
         )
     };
     WithDoubles { told: Told { number, words }, doubles }
+}
+
+pub fn batch_cost(nodes: &[u32], references: &[u32], bytes: &[u8], counts: Counts, recipe: u32, prices: u32) -> Told<3> {
+    let mut words = [0; 3];
+    // SAFETY: each pointer and length are those of one live reference; only `words`, a local, is written.
+    let number = unsafe {
+        archive::ruby_marshal_batch_cost(
+            nodes.as_ptr(), nodes.len(),
+            references.as_ptr(), references.len(),
+            bytes.as_ptr(), bytes.len(),
+            counts.nodes, counts.references, counts.bytes, counts.root,
+            recipe, prices,
+            words.as_mut_ptr(), words.len(),
+        )
+    };
+    Told { number, words }
 }
 
 pub fn new(nodes: &mut [u32], references: &mut [u32], bytes: &mut [u8]) -> Told<6> {

@@ -4,11 +4,12 @@
 #![cfg(feature = "alloc")]
 mod common;
 
-use common::{corpus, junk, junk_bytes, numbers, padded, Case, Json, LATER, WEIGHINGS};
+use common::{corpus, junk, junk_bytes, numbers, padded, Case, Json, COSTS, LATER, WEIGHINGS};
 use ruby_marshal_tables::{
     calls, load_measured, load_prefix, Arena, Builder, Counts, Handle, Lists, Measures, Node, OwnedTables, Reading, Refusal,
-    Slice, Tables, Value, Weighing, MAX_LIMIT,
+    Slice, Tables, Value, Weighing, MAX_LIMIT, MAX_RECIPE_PAIRS,
 };
+use std::collections::HashMap;
 
 // The limit of the programs, under which the corpus has its answers.
 const LIMIT: u32 = 64;
@@ -564,6 +565,87 @@ fn weighings() {
         }
     }
     println!("weigh: {accepted} accepted, {refused} refused, {large} with slices past the greatest length");
+}
+
+// ---- costs
+
+// A pair's key with its name, and the amount.
+type Line<'a> = (Handle, &'a [u8], u64);
+
+// The pairs of a recipe or of prices.
+fn lines<'a>(node: Node<'a>, most: usize) -> Result<Vec<Line<'a>>, Refusal> {
+    let wrong = |node: Node| Refusal::NotARecipe(node.handle().number());
+    let Value::Hash(hash) = node.value() else { return Err(wrong(node)) };
+    if hash.len() > most {
+        return Err(wrong(node));
+    }
+    let pair = |(key, value): (Node<'a>, Node<'a>)| {
+        let name = key.as_symbol().ok_or(wrong(key))?;
+        let amount = value.as_fixnum().and_then(|n| u64::try_from(n).ok()).ok_or(wrong(value))?;
+        Ok((key.handle(), name, amount))
+    };
+    hash.pairs().map(pair).collect()
+}
+
+// What a recipe costs, by the views.
+fn views_cost(arena: &Arena, recipe: u32, prices: u32) -> Result<u64, Refusal> {
+    let node = |number| arena.node(Handle::new(number)).ok_or(Refusal::BadHandle(number));
+    let (recipe, prices) = (node(recipe)?, node(prices)?);
+    let (recipe, prices) = (lines(recipe, MAX_RECIPE_PAIRS)?, lines(prices, usize::MAX)?);
+    let prices: HashMap<&[u8], u64> = prices.into_iter().map(|(_, name, cents)| (name, cents)).collect();
+    let mut sum = 0;
+    for (i, (key, name, kilograms)) in recipe.iter().enumerate() {
+        if recipe[i + 1..].iter().all(|(_, later, _)| later != name) {
+            let thousandths = kilograms * prices.get(name).ok_or(Refusal::NoPrice(key.number()))?;
+            sum += thousandths / 1000 + u64::from(thousandths % 1000 >= 500);
+        }
+    }
+    Ok(sum)
+}
+
+fn cost_case(case: &Case) -> bool {
+    let (nodes, references, bytes) = (case.words("nodes"), case.words("refs"), case.bytes("bytes"));
+    let counts = case.counts("counts");
+    let [recipe, prices] = ["recipe", "prices"].map(|name| case.field(name).number() as u32);
+    let cost = calls::batch_cost(&nodes, &references, &bytes, counts, recipe, prices);
+    assert_eq!(numbers(&cost), case.answer(), "{}", case.id());
+    assert_eq!(cost.unwrap_or(0), case.field("cents").number() as u64, "{}", case.id());
+    let arena = Arena::check(&nodes, &references, &bytes, counts);
+    assert_eq!(arena.is_err(), matches!(case.answer().0, 1 | 2), "{}", case.id());
+    if let Ok(arena) = arena {
+        // The case's nodes, the other way round, and each for both.
+        for (recipe, prices) in [(recipe, prices), (prices, recipe), (recipe, recipe), (prices, prices)] {
+            let again = arena.batch_cost(Handle::new(recipe), Handle::new(prices));
+            assert_eq!(again, views_cost(&arena, recipe, prices), "{}", case.id());
+        }
+        assert_eq!(cost, views_cost(&arena, recipe, prices), "{}", case.id());
+    }
+    cost.is_ok()
+}
+
+// Slices past the greatest length.
+fn huge_cost(case: &Case) -> Option<()> {
+    let sizes: Vec<usize> = case.field("sizes").list().iter().map(|n| n.number() as usize).collect();
+    let (nodes, references, bytes) = (huge::<u32>(sizes[0])?, huge::<u32>(sizes[1])?, huge::<u8>(sizes[2])?);
+    let (recipe, prices) = (case.size("recipe") as u32, case.size("prices") as u32);
+    let cost = calls::batch_cost(&nodes, &references, &bytes, case.counts("counts"), recipe, prices);
+    assert_eq!(numbers(&cost), case.answer(), "{}", case.id());
+    Some(())
+}
+
+#[test]
+fn costs() {
+    let (mut accepted, mut refused, mut large) = (0, 0, 0);
+    for case in corpus(COSTS) {
+        if case.has("huge") {
+            large += usize::from(huge_cost(&case).is_some());
+        } else if cost_case(&case) {
+            accepted += 1;
+        } else {
+            refused += 1;
+        }
+    }
+    println!("cost: {accepted} accepted, {refused} refused, {large} with slices past the greatest length");
 }
 
 // ---- pairs

@@ -146,6 +146,8 @@ fn getters_and_builders_over_every_length() {
         assert_eq!(reading, if wrong { Err(Refusal::BadTables(Slice::Nodes)) } else { Ok(Reading::NotANumber) });
         let weighed = calls::wet_weight(&n, &r, &b, c, 0, 1);
         assert_eq!(weighed, Err(if wrong { Refusal::BadTables(Slice::Nodes) } else { Refusal::BadHandle(1) }));
+        let cost = calls::batch_cost(&n, &r, &b, c, 0, 0);
+        assert_eq!(cost, Err(if wrong { Refusal::BadTables(Slice::Nodes) } else { Refusal::NotARecipe(0) }));
         let room = if wrong {
             Err(Refusal::BadTables(Slice::Nodes))
         } else if nodes == 1 {
@@ -194,7 +196,7 @@ fn getters_and_builders_over_every_length() {
         }
         let begun = Builder::new(Tables { nodes: &mut n, references: &mut r, bytes: &mut b }).map(|_| ());
         assert_eq!(begun, if wrong { Err(Refusal::BadTables(Slice::Nodes)) } else { Ok(()) });
-        calls_made += 19;
+        calls_made += 20;
     }
     println!("getters and builders: {calls_made} calls");
 }

@@ -5,7 +5,7 @@ mod common;
 use common::numbers;
 use ruby_marshal_tables::{
     calls, load, load_prefix, Arena, Builder, Counts, Fault, Handle, Kind, Lists, Measures, Node, OwnedTables, Reading,
-    Refusal, Slice, Tables, Value, Weighing, MAX_LIMIT, NODE_WORDS,
+    Refusal, Slice, Tables, Value, Weighing, MAX_LIMIT, MAX_RECIPE_PAIRS, NODE_WORDS,
 };
 use std::error::Error;
 
@@ -358,6 +358,67 @@ fn readings_and_weighings() {
     assert_eq!(refused(kilograms, least), Refusal::BadMoisture);
 }
 
+// Recipes at prices: halves go up, line by line; pairs that are superseded; refusals in their order.
+#[test]
+fn costs() {
+    let mut tables = OwnedTables::new(60, 2200, 20);
+    let mut builder = tables.builder().unwrap();
+    let nil = builder.create_nil().unwrap();
+    let [a, b] = [b"a", b"b"].map(|name| builder.create_symbol(name).unwrap());
+    let again = builder.create_new_symbol(b"a").unwrap(); // another node of the same name
+    let [zero, one, half, more, most, least] =
+        [0, 1, 500, 1500, i32::MAX, -1].map(|value| builder.create_fixnum(value).unwrap());
+    let big = builder.create_bignum(1).unwrap();
+    let float = builder.create_float(b"1").unwrap();
+    let mut hash = |pairs: &[[Handle; 2]]| builder.create_hash(pairs, None).unwrap();
+    let none = hash(&[]);
+    let cents = hash(&[[b, one], [again, one]]);
+    let halves = hash(&[[a, half], [b, half]]);
+    let up = hash(&[[a, more]]);
+    let nothing = hash(&[[a, zero]]);
+    let replaced = hash(&[[a, most], [b, half], [again, half]]);
+    let only_a = hash(&[[a, most], [again, one]]);
+    let only_b = hash(&[[b, zero]]);
+    let full = hash(&[[a, most]; MAX_RECIPE_PAIRS]);
+    let over = hash(&[[a, most]; MAX_RECIPE_PAIRS + 1]);
+    let [wrong_key, wrong_value, wrong_kind, wrong_text] =
+        [[nil, least], [a, least], [a, big], [a, float]].map(|pair| hash(&[pair, [a, one], [nil, nil]]));
+    let default = builder.create_hash(&[], Some(one)).unwrap();
+    let arena = builder.arena();
+
+    let cost = |recipe, prices| arena.batch_cost(recipe, prices);
+    assert_eq!(cost(halves, cents), Ok(2)); // 0.5 and 0.5
+    assert_eq!(cost(up, cents), Ok(2)); // 1.5
+    assert_eq!((cost(nothing, cents), cost(up, nothing)), (Ok(0), Ok(0))); // a price of 0 is one
+    assert_eq!(cost(cents, cents), Ok(0)); // 0.001 each
+    assert_eq!(cost(halves, halves), Ok(500)); // one hash for both
+    assert_eq!((cost(none, none), cost(none, over)), (Ok(0), Ok(0)));
+    assert_eq!(cost(replaced, cents), Ok(2)); // b and the second a
+    assert_eq!(cost(up, only_a), Ok(2)); // the second price
+    assert_eq!(cost(full, full), Ok(4611686014132421)); // the last pair's; a greater line there is not
+    assert_eq!(cost(full, over), cost(full, full)); // prices are any number of pairs
+
+    let number = |handle: Handle| handle.number();
+    let refused = |recipe, prices| arena.batch_cost(recipe, prices).unwrap_err();
+    assert_eq!(refused(Handle::new(99), Handle::new(98)), Refusal::BadHandle(99));
+    assert_eq!(refused(nil, Handle::new(98)), Refusal::BadHandle(98));
+    // The recipe whole before the prices; the number of pairs before the pairs, in a pair the key before the value; pairs that
+    // are superseded too.
+    assert_eq!(refused(nil, a), Refusal::NotARecipe(number(nil)));
+    assert_eq!(refused(none, a), Refusal::NotARecipe(number(a)));
+    assert_eq!(refused(over, over), Refusal::NotARecipe(number(over)));
+    assert_eq!(refused(wrong_key, nil), Refusal::NotARecipe(number(nil)));
+    assert_eq!(refused(wrong_value, wrong_kind), Refusal::NotARecipe(number(least)));
+    assert_eq!(refused(wrong_kind, wrong_value), Refusal::NotARecipe(number(big)));
+    assert_eq!(refused(up, wrong_text), Refusal::NotARecipe(number(float)));
+    // The first pair that is not superseded and has no price, by its own key; a default is none.
+    assert_eq!(refused(halves, none), Refusal::NoPrice(number(a)));
+    assert_eq!(refused(replaced, none), Refusal::NoPrice(number(b)));
+    assert_eq!(refused(replaced, only_b), Refusal::NoPrice(number(again)));
+    assert_eq!(refused(nothing, default), Refusal::NoPrice(number(a)));
+    assert_eq!(refused(halves, wrong_value), Refusal::NotARecipe(number(least)));
+}
+
 #[test]
 fn lent_tables_are_lent_again() {
     let (mut nodes, mut references, mut bytes) = ([0; 21], [0; 4], [0; 8]);
@@ -426,6 +487,8 @@ fn refusals() {
         (Refusal::NotAWeight(2), "NOT-A-WEIGHT", 17, (2, 0)),
         (Refusal::BadMoisture, "BAD-MOISTURE", 18, (0, 0)),
         (Refusal::WrongSign(252), "WRONG-SIGN", 19, (252, 0)),
+        (Refusal::NotARecipe(2), "NOT-A-RECIPE", 20, (2, 0)),
+        (Refusal::NoPrice(2), "NO-PRICE", 21, (2, 0)),
     ];
     for (refusal, name, number, details) in names {
         assert_eq!((refusal.name(), refusal.number(), refusal.details()), (name, number, details));

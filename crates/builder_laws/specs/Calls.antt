@@ -12,7 +12,7 @@ use Rattle.definition.specs.Run.{Run, Outcome, ok, refused, pure, next, _>>=_, 
 use Rattle.definition.specs.Node.{Row, nil, bool, fixnum, symbol, array, hash, object, string, user, float, bignum, absent}
 use Rattle.definition.specs.Magnitude.{sign, magnitude}
 use Rattle.definition.specs.Arena.{Tables, Arena, firsts, is-name, all-below, all-names, fault, bytes-right, row-right, vars-right, find-symbol}
-use Rattle.definition.specs.Build.{Lent, held, wrong, check, check-handles, byte-slice, member-slice, pair-slice, handle-checked, set-root, exchange-root, add, bits, create-nil, create-bool, create-fixnum, add-symbol, create-new-symbol, known-or-new, create-symbol, create-array, default-handle, create-hash, create-object, create-string, create-user-defined, create-float, create-bignum}
+use Rattle.definition.specs.Build.{Lent, held, wrong, check, check-handles, byte-slice, member-slice, pair-slice, handles-checked, set-root, exchange-root, add, bits, create-nil, create-bool, create-fixnum, add-symbol, create-new-symbol, known-or-new, create-symbol, create-array, default-handle, create-hash, create-object, create-string, create-user-defined, create-float, create-bignum}
 use Rattle.lists.specs.Joined.{yes-and, pick-true}
 use Rattle.lists.specs.Slices.{lowest-none, whole-pairs, tables-right}
 use Rattle.well_formed.specs.Right.{Fit, below-of, fault-fit}
@@ -322,7 +322,7 @@ module _ (L M : Lent) (h : ℕ) where
       (s, added tt tt (add-done [] [] (λ b r. bignum low high (sign minus m)) s (λ f. number-right-yes m (sign minus m) (sign-right m minus q)) e₂))
 
   did-root : (n : ℕ) → exchange-root n L ≡ ok h M → Result (move-root n)
-  unfolding exchange-root handle-checked set-root
+  unfolding exchange-root handles-checked set-root
   did-root n e =
       let (w, s, e₁) = after-check [] (λ u. check-handles (n ∷ []) >>= λ v. set-root n) L M h (sym (bind-assoc (check []) (λ u. check-handles (n ∷ [])) (λ v. set-root n) L) ∙ e) in
       let (b, e₂) = after-handles (n ∷ []) (λ v. set-root n) L M h e₁ in

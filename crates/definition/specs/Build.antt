@@ -68,13 +68,13 @@ check-space bs ms L =
 unfoldable pub words-at : List ℕ → ℕ → List ℕ
 words-at table h = take width (drop (h * width) table)
 
--- 1, 2, then the handle
-unfoldable pub handle-checked : ℕ → Run Lent (Unit {0})
-handle-checked h = check [] >>= λ _. check-handles (h ∷ [])
+-- 1, 2, then the handles
+unfoldable pub handles-checked : List ℕ → Run Lent (Unit {0})
+handles-checked hs = check [] >>= λ _. check-handles hs
 
 -- "`get` answers the seven words"
 unfoldable pub get-words : ℕ → Run Lent (List ℕ)
-get-words h = handle-checked h >>= λ _. look λ L. pure (words-at (L .tables .nodes) h)
+get-words h = handles-checked (h ∷ []) >>= λ _. look λ L. pure (words-at (L .tables .nodes) h)
 
 -- "`kind` word 0"
 unfoldable pub get-kind : ℕ → Run Lent ℕ
@@ -82,7 +82,7 @@ get-kind h = get-words h >>= λ ws. pure (getD ws 0 0)
 
 -- "`get_symbol` byte start and length": words 1 and 2
 unfoldable pub get-name : ℕ → Run Lent (List ℕ)
-get-name h = handle-checked h >>= λ _. check-names (h ∷ []) >>= λ _. look λ L. pure (take 2 (drop 1 (words-at (L .tables .nodes) h)))
+get-name h = handles-checked (h ∷ []) >>= λ _. check-names (h ∷ []) >>= λ _. look λ L. pure (take 2 (drop 1 (words-at (L .tables .nodes) h)))
 
 -- `root`
 unfoldable pub get-root : Run Lent ℕ
@@ -94,7 +94,7 @@ set-root h L = ok (L .counts .root) (record { tables = L .tables; counts = recor
 
 -- `replace_root`: the handle is tested, then the root replaced
 unfoldable pub exchange-root : ℕ → Run Lent ℕ
-exchange-root h = handle-checked h >>= λ _. set-root h
+exchange-root h = handles-checked (h ∷ []) >>= λ _. set-root h
 
 -- ---- builder
 

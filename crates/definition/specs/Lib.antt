@@ -11,6 +11,7 @@ pub mod Reader
 pub mod Dump
 pub mod Build
 pub mod Weight
+pub mod Cost
 pub mod Graph
 pub mod Starred
 pub mod Floats
@@ -19,3 +20,4 @@ pub mod DumpForm
 pub mod Measured
 pub mod Weights
 pub mod Signs
+pub mod Costs

@@ -1,4 +1,4 @@
--- The number and the two details of each refusal (01, "Refused calls"; 02, 2.4 to 2.6).
+-- The number and the two details of each refusal (01, "Refused calls"; 02, 2.4 to 2.7).
 use Prim.Native.Nat.{ℕ, _-_}
 use lib.Dec.{ltb}
 use lib.IntN.{ℤ, pos, negsuc}
@@ -6,7 +6,7 @@ use Rattle.definition.specs.Run.{pick}
 use Rattle.definition.specs.declared.Fault.{Fault}
 use Rattle.definition.specs.declared.Fault.the-variants.{Counts, Node}
 use Rattle.definition.specs.declared.Refusal.{Refusal}
-use Rattle.definition.specs.declared.Refusal.the-variants.{BadTables, BadArena, InvalidVersion, ShortInput, InvalidKind, NegativeCount, MissingSymbol, MissingObject, NotASymbol, NotAnObject, TooDeep, NoSpace, BadHandle, WrongKind, BadSign, TooBig, NotAWeight, BadMoisture, WrongSign}
+use Rattle.definition.specs.declared.Refusal.the-variants.{BadTables, BadArena, InvalidVersion, ShortInput, InvalidKind, NegativeCount, MissingSymbol, MissingObject, NotASymbol, NotAnObject, TooDeep, NoSpace, BadHandle, WrongKind, BadSign, TooBig, NotAWeight, BadMoisture, WrongSign, NotARecipe, NoPrice}
 use Rattle.definition.specs.declared.Answer.{Answer}
 use Rattle.definition.specs.declared.Answer.the-variants.{Accepted, Refused}
 
@@ -40,6 +40,8 @@ numbers (TooBig count) = (16, pos count, pos 0)
 numbers (NotAWeight handle) = (17, pos handle, pos 0)
 numbers BadMoisture = (18, pos 0, pos 0)
 numbers (WrongSign byte) = (19, pos byte, pos 0)
+numbers (NotARecipe handle) = (20, pos handle, pos 0)
+numbers (NoPrice handle) = (21, pos handle, pos 0)
 
 -- an answer as its three numbers; 0 is accepted
 unfoldable pub answer-numbers : Answer → ℕ × ℤ × ℤ

@@ -15,7 +15,7 @@ use Rattle.definition.specs.Run.{Run, Outcome, ok, refused, pure, refuse
 use Rattle.definition.specs.Refused.{signed}
 use Rattle.definition.specs.Node.{Row, nil, bool, fixnum, symbol, array, hash, object, string, user, float, bignum}
 use Rattle.definition.specs.Arena.{node, range}
-use Rattle.definition.specs.Build.{Lent, held, check, check-handles, handle-checked}
+use Rattle.definition.specs.Build.{Lent, held, handles-checked}
 use Rattle.definition.specs.declared.Answer.the-variants.{Accepted, Refused}
 use Rattle.definition.specs.declared.Read.{Read}
 use Rattle.definition.specs.declared.Reading.{Reading}
@@ -111,7 +111,7 @@ node-reading h = look λ L. pure (row-reading (held L .bytes) (node (held L) h))
 
 -- `reading`: 1, 2, 13, then what the node reads as
 unfoldable pub get-reading : ℕ → Run Lent Reading
-get-reading h = handle-checked h >>= λ _. node-reading h
+get-reading h = handles-checked (h ∷ []) >>= λ _. node-reading h
 
 -- ---- a weighing
 
@@ -157,7 +157,7 @@ weigh-nodes dry moisture = dry-at dry >>= λ d. double-at moisture >>= λ m. che
 
 -- `wet_weight`: 1, 2, 13 for each, then the weighing
 unfoldable pub wet-weight : ℕ → ℕ → Run Lent Weighing
-wet-weight dry moisture = check [] >>= λ _. check-handles (dry ∷ moisture ∷ []) >>= λ _. weigh-nodes dry moisture
+wet-weight dry moisture = handles-checked (dry ∷ moisture ∷ []) >>= λ _. weigh-nodes dry moisture
 
 -- ---- the calls
 

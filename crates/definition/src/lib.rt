@@ -78,6 +78,17 @@ impl Bignum {
     pub const TOO_BIG: u64 = 9223372036854775808;
 }
 
+// A recipe: the most pairs that it may have, the greatest amount of a pair, and the kilograms of a tonne.
+pub struct Recipe {}
+
+impl Recipe {
+    pub const PAIRS: u32 = 512;
+
+    pub const GREATEST: u32 = 2147483647;
+
+    pub const TONNE: u64 = 1000;
+}
+
 // A node's words: how many there are, their places, and the kinds' numbers in word 0, where a node begins. A word that a kind
 // does not use is 0.
 pub struct Node {}
@@ -142,7 +153,7 @@ pub enum Fault {
     Node(u32),
 }
 
-// Why a call is refused, in the order of the numbers 1 to 19 of documents 01 and 02.
+// Why a call is refused, in the order of the numbers 1 to 21 of documents 01 and 02.
 pub enum Refusal {
     BadTables(u32),
     BadArena(Fault),
@@ -164,6 +175,8 @@ pub enum Refusal {
     NotAWeight(u32),
     BadMoisture,
     WrongSign(u8),
+    NotARecipe(u32),
+    NoPrice(u32),
 }
 
 pub enum Answer {
@@ -274,4 +287,10 @@ pub struct Weighing {
 pub struct Weighed {
     pub answer: Answer,
     pub weighing: Weighing,
+}
+
+// batch_cost: the sum in cents, 0 where the call is refused.
+pub struct Costed {
+    pub answer: Answer,
+    pub cents: u64,
 }

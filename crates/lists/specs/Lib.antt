@@ -10,3 +10,5 @@ pub mod Rows
 pub mod Tables
 pub mod Slices
 pub mod Compared
+pub mod Same
+pub mod Latest

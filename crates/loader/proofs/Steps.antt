@@ -23,7 +23,8 @@ use Rattle.loader.proofs.Counts.{Only, is, none, counting}
 use Rattle.loader.proofs.Counts as K
 use Rattle.loader.proofs.Stores.{push, put, put-row, push-row, at-held, sets-first, split}
 use Rattle.loader.proofs.Interned.{interned-bytes, interned-more, interned-set, interned-known, interned-new}
-use Rattle.loader.proofs.Names.{symbolic-kind, symbolic-below, plain-set, symbol-name, same-length, range-more}
+use Rattle.loader.proofs.Names.{symbolic-kind, symbolic-below, plain-set, symbol-name, range-more}
+use Rattle.lists.specs.Same.{same-length}
 use Rattle.loader.proofs.Laws.{word, word-0, there, free-plain, denied, given, still, met-as, lead-first, lead-after, lead-stop}
 
 -- ---- rows that fit

@@ -30,6 +30,7 @@ use reader::small;
 use reader::wide;
 use store::copy_bytes;
 use store::put_node;
+use store::same_bytes;
 use store::zero_range;
 ghost use mathlib.Core.Path.{_≡_};
 ghost use mathlib.Core.List.{List, [], _∷_};
@@ -41,7 +42,7 @@ ghost use lib.ListN.{length, getD, set, take, drop};
 ghost use lib.Seq.{sets};
 ghost use Rattle.definition.specs.Integer.{form, value, low-bytes, integer-bytes};
 ghost use Rattle.definition.specs.Kind.{FIXNUM, STRING, PLUS, MINUS};
-ghost use Rattle.definition.specs.Node.{Row, words, nil, equal, width};
+ghost use Rattle.definition.specs.Node.{Row, words, nil, width};
 ghost use Rattle.definition.specs.Magnitude.{sign, sign-byte, bignum-row};
 ghost use Rattle.definition.specs.Arena.{named, compared-among};
 ghost use Rattle.definition.specs.Load.{Room, State, Reader, Lists, lists, read-header, read-integer, read-count, read-bytes, read-byte-string, read-fixnum, read-symbol, read-symbol-link, read-object-link, read-symbol-like, read-text, read-user-defined, read-sign, read-magnitude, read-bignum, add-bignum, read-value, value-of, head, add-node, add-bytes, add-symbol, add-object, add-object-node, counted, fill, takes-variables};
@@ -475,21 +476,6 @@ fn read_bignum(input: &[u8], nodes: &mut [u32], objects: &mut [u32], c: &mut [us
         return n;
     }
     read_magnitude(&input[..], nodes, objects, c, b, n)
-}
-
-// Are the n bytes from `from` on those from `to` on?
-fn same_bytes(input: &[u8], from: usize, bytes: &[u8], to: usize, n: usize) -> bool
-    requires { ⌜ (from + n ≤ length (now input)) × (to + n ≤ length (now bytes)) ⌝ }
-    ensures { λ r. ⌜ r ≡ equal (take n (drop from (now (input .entry)))) (take n (drop to (now (bytes .entry)))) ⌝ }
-{
-    let mut i = n;
-    while 0 < i {
-        i = i - 1;
-        if input[from + i] != bytes[to + i] {
-            return false;
-        }
-    }
-    true
 }
 
 // The last of the n bytes before `at`, or 0 where there are none.

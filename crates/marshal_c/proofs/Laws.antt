@@ -17,6 +17,7 @@ use Rattle.definition.specs.Dump.{DumpCall, dump-call-of}
 use Rattle.definition.specs.Build.{BuildCall, NewCall}
 use Rattle.definition.specs.declared.Answer.{Answer}
 use Rattle.definition.specs.declared.Begun.{Begun}
+use Rattle.definition.specs.declared.Costed.{Costed}
 use Rattle.definition.specs.declared.Counts.{Counts}
 use Rattle.definition.specs.declared.Created.{Created}
 use Rattle.definition.specs.declared.Dumped.{Dumped}
@@ -29,7 +30,7 @@ use Rattle.definition.specs.declared.Weighed.{Weighed}
 use Rattle.definition.specs.declared.Words.{Words}
 use Rattle.refusal.specs.Shown.{integer, shown}
 use Rattle.refusal.specs.declared.Numbers.{Numbers}
-use Rattle.marshal_c.specs.Reply.{word, details, count-words, loaded-words, measured-words, dumped-words, begun-words, number-words, node-words, name-words, created-words, reading-kind, reading-whole, reading-double, reading-words, weighed-words, weighing-doubles, reply, tell, tell-doubles, tell-load, tell-measured, tell-dump, tell-new, tell-build, tell-number, tell-words, tell-name, tell-reading, tell-weighed}
+use Rattle.marshal_c.specs.Reply.{word, details, count-words, loaded-words, measured-words, dumped-words, begun-words, number-words, node-words, name-words, created-words, reading-kind, reading-whole, reading-double, reading-words, weighed-words, weighing-doubles, costed-words, reply, tell, tell-doubles, tell-load, tell-measured, tell-dump, tell-new, tell-build, tell-number, tell-words, tell-name, tell-reading, tell-weighed, tell-costed}
 
 -- ---- details
 
@@ -149,6 +150,14 @@ module _ (words : List ℕ) where
   pub name-told : {r k : Name} {n : ℕ} {w : List ℕ} → 4 ≤ length words → (n ≡ answer-numbers (r .answer) .0) × (w ≡ sets words 0 (name-words r)) → r ≡ k → reply n w tt ≡ tell-name k words
   unfolding tell-name name-words details
   name-told {r = r} h e g = enough (r .answer) (name-words r) words tt tt h e ∙ ap (λ (k : Name). tell-name k words) g
+
+  pub costed-few : (r : Costed) → length words < 3 → reply 1 words tt ≡ tell-costed r words
+  unfolding tell-costed costed-words details
+  costed-few r h = too-few (r .answer) (costed-words r) words tt tt h
+
+  pub costed-told : {r k : Costed} {n : ℕ} {w : List ℕ} → 3 ≤ length words → (n ≡ answer-numbers (r .answer) .0) × (w ≡ sets words 0 (costed-words r)) → r ≡ k → reply n w tt ≡ tell-costed k words
+  unfolding tell-costed costed-words details
+  costed-told {r = r} h e g = enough (r .answer) (costed-words r) words tt tt h e ∙ ap (λ (k : Costed). tell-costed k words) g
 
 -- with doubles
 module _ (a : Answer) (ws : List ℕ) (ds doubles : List Float) (words : List ℕ) where

@@ -16,6 +16,7 @@ use Rattle.definition.specs.Build.{BuildCall, NewCall}
 use Rattle.definition.specs.Weight.{positive-zero}
 use Rattle.definition.specs.declared.Answer.{Answer}
 use Rattle.definition.specs.declared.Begun.{Begun}
+use Rattle.definition.specs.declared.Costed.{Costed}
 use Rattle.definition.specs.declared.Counts.{Counts}
 use Rattle.definition.specs.declared.Created.{Created}
 use Rattle.definition.specs.declared.Dumped.{Dumped}
@@ -102,6 +103,10 @@ reading-words r = details (r .answer) ++ (reading-kind (r .reading) ∷ reading-
 unfoldable pub weighed-words : Weighed → List ℕ
 weighed-words r = details (r .answer)
 
+-- batch_cost: the cents
+unfoldable pub costed-words : Costed → List ℕ
+costed-words r = details (r .answer) ++ (r .cents ∷ [])
+
 -- ---- doubles, which stand in a slice of their own
 
 -- the double that is read, positive zero unless it is one
@@ -162,6 +167,9 @@ tell-words r words = tell (r .answer) (node-words r) words tt tt
 
 unfoldable pub tell-name : Name → List ℕ → Reply (Unit {0})
 tell-name r words = tell (r .answer) (name-words r) words tt tt
+
+unfoldable pub tell-costed : Costed → List ℕ → Reply (Unit {0})
+tell-costed r words = tell (r .answer) (costed-words r) words tt tt
 
 -- a call's that answers doubles: ds stand first among those lent, and the rest stay as they were. Where fewer are lent than ds has, 1 is returned too, and nothing is touched
 unfoldable pub tell-doubles : Answer → List ℕ → List Float → List Float → List ℕ → Reply (List Float)

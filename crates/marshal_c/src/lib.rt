@@ -1,10 +1,12 @@
-// load, dump, the arena's getters, its weighing and its builder, for programs in C and in languages that call C.
+// load, dump, the arena's getters, weighing, costing and builder, for programs in C and in languages that call C.
 //
 // A slice is a pointer and a length there, and the counts are four numbers. The answer's number is returned, 0 where the call
 // is accepted. Its two details and what else the call answers go into the answer words, doubles into a slice of their own
 // (specs/Reply). Fewer words or doubles than a call writes are refused with 1, and nothing is touched then.
+use batch_cost::batch_cost;
 use definition::Answer;
 use definition::Begun;
+use definition::Costed;
 use definition::Counts;
 use definition::Created;
 use definition::Dumped;
@@ -49,8 +51,9 @@ ghost use Rattle.definition.specs.Load.{lists, counts, load-call, measured-call
 ghost use Rattle.definition.specs.Dump.{dump-call};
 ghost use Rattle.definition.specs.Build.{lent, build-call, new-call, number-done, words-done, name-done, get-words, get-kind, get-name, get-root, exchange-root, create-nil, create-bool, create-fixnum, create-new-symbol, create-symbol, create-array, create-hash, create-object, create-string, create-user-defined, create-float, create-bignum};
 ghost use Rattle.definition.specs.Weight.{get-reading, wet-weight, read-done, weighed-done};
+ghost use Rattle.definition.specs.Cost.{batch-cost, cost-done};
 ghost use Rattle.refusal.specs.Shown.{integer};
-ghost use Rattle.marshal_c.specs.Reply.{word, details, flag, count-words, loaded-words, measured-words, dumped-words, begun-words, number-words, node-words, name-words, created-words, reading-kind, reading-whole, reading-double, reading-words, weighed-words, weighing-doubles, tables, reply, tell-load, tell-measured, tell-dump, tell-new, tell-build, tell-number, tell-words, tell-name, tell-reading, tell-weighed};
+ghost use Rattle.marshal_c.specs.Reply.{word, details, flag, count-words, loaded-words, measured-words, dumped-words, begun-words, number-words, node-words, name-words, created-words, reading-kind, reading-whole, reading-double, reading-words, weighed-words, weighing-doubles, costed-words, tables, reply, tell-load, tell-measured, tell-dump, tell-new, tell-build, tell-number, tell-words, tell-name, tell-reading, tell-weighed, tell-costed};
 
 // Too few answer words or doubles: BAD-TABLES.
 const BAD_TABLES: u32 = 1;
@@ -75,6 +78,8 @@ const CREATED: usize = 7;
 const READ: usize = 4;
 
 const WEIGHED: usize = 2;
+
+const COSTED: usize = 3;
 
 // The doubles of a weighing.
 const DOUBLES: usize = 3;
@@ -295,6 +300,16 @@ fn tell_weighed(answer: &mut [u64], weighing: &mut [f64], r: Weighed) -> u32
     weighing[1] = w.moisture;
     weighing[2] = w.wet;
     tell(answer, a)
+}
+
+fn tell_costed(answer: &mut [u64], r: Costed) -> u32
+    requires { ⌜ 3 ≤ length (now answer) ⌝ }
+    ensures { λ n. ⌜ (n ≡ answer-numbers (r .answer) .0) × (now (answer .exit) ≡ sets (now (answer .entry)) 0 (costed-words r)) ⌝ }
+{
+    let a = r.answer;
+    let n = tell(answer, a);
+    answer[2] = r.cents;
+    n
 }
 
 // ---- load and dump
@@ -564,6 +579,36 @@ pub extern "C" fn ruby_marshal_wet_weight(
     };
     let r = wet_weight(&nodes[..], &references[..], &bytes[..], c, dry, moisture);
     tell_weighed(answer, weighing, r)
+}
+
+// ---- costs
+
+#[no_mangle]
+pub extern "C" fn ruby_marshal_batch_cost(
+    nodes: &[u32],
+    references: &[u32],
+    bytes: &[u8],
+    node_count: usize,
+    reference_count: usize,
+    byte_count: usize,
+    root: u32,
+    recipe: u32,
+    prices: u32,
+    answer: &mut [u64],
+) -> u32
+    ensures { λ r. ⌜ reply r (now (answer .exit)) tt ≡ tell-costed (cost-done (batch-cost recipe prices (lent (now (nodes .entry)) (now (references .entry)) (now (bytes .entry)) (counts «node_count» «reference_count» «byte_count» root)))) (now (answer .entry)) ⌝ }
+{
+    if answer.len() < COSTED {
+        return BAD_TABLES;
+    }
+    let c = Counts {
+        nodes: node_count,
+        references: reference_count,
+        bytes: byte_count,
+        root: root,
+    };
+    let r = batch_cost(&nodes[..], &references[..], &bytes[..], c, recipe, prices);
+    tell_costed(answer, r)
 }
 
 // ---- builder

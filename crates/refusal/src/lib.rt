@@ -68,6 +68,8 @@ pub fn numbers_of(q: Refusal) -> Numbers
         Refusal::NotAWeight(handle) => plain(17, handle, 0),
         Refusal::BadMoisture => plain(18, 0, 0),
         Refusal::WrongSign(byte) => plain(19, byte as u32, 0),
+        Refusal::NotARecipe(handle) => plain(20, handle, 0),
+        Refusal::NoPrice(handle) => plain(21, handle, 0),
     }
 }
 

@@ -1,8 +1,10 @@
-// The library that users link: load, dump, the reader of an input, the arena's getters and builder, and a node read as a
-// number and weighed.
+// The library that users link: load, dump, the reader of an input, the arena's getters and builder, a node read as a number
+// and weighed, and a recipe's cost.
+pub use batch_cost::batch_cost;
 pub use definition::Answer;
 pub use definition::Begun;
 pub use definition::Bignum;
+pub use definition::Costed;
 pub use definition::Counts;
 pub use definition::Created;
 pub use definition::Decimal;
@@ -15,6 +17,7 @@ pub use definition::Node;
 pub use definition::Number;
 pub use definition::Read;
 pub use definition::Reading;
+pub use definition::Recipe;
 pub use definition::Refusal;
 pub use definition::Taken;
 pub use definition::Text;

@@ -1,11 +1,11 @@
-// Stores into lent tables: a node, copies, zeros.
+// Stores into lent tables: a node, copies, zeros; and runs of bytes compared.
 use definition::Node;
 ghost use mathlib.Core.Path.{_≡_};
 ghost use mathlib.Core.List.{List, [], _∷_};
 ghost use Prim.Native.Nat.{ℕ, _+_, _≤_};
 ghost use lib.ListN.{length, take, drop, replicate};
 ghost use lib.Seq.{sets};
-ghost use Rattle.definition.specs.Node.{width};
+ghost use Rattle.definition.specs.Node.{width, equal};
 ghost use Rattle.store.specs.Laws.{cleared};
 
 // The words of a node, from word `base` on.
@@ -42,6 +42,21 @@ pub fn copy_bytes(source: &[u8], from: usize, bytes: &mut [u8], to: usize, n: us
         bytes[to + i] = source[from + i];
         i = i + 1;
     }
+}
+
+// Are the n bytes of `input` from `from` on those of `bytes` from `to` on? The last are looked at first: names mostly differ there.
+pub fn same_bytes(input: &[u8], from: usize, bytes: &[u8], to: usize, n: usize) -> bool
+    requires { ⌜ (from + n ≤ length (now input)) × (to + n ≤ length (now bytes)) ⌝ }
+    ensures { λ r. ⌜ r ≡ equal (take n (drop from (now (input .entry)))) (take n (drop to (now (bytes .entry)))) ⌝ }
+{
+    let mut i = n;
+    while 0 < i {
+        i = i - 1;
+        if input[from + i] != bytes[to + i] {
+            return false;
+        }
+    }
+    true
 }
 
 // All words of `source`, to `to` on.

@@ -8,17 +8,18 @@ use mathlib.Core.Option.{Option, none, some}
 use mathlib.Core.Path.{_≡_, refl, sym, ap, _∙_, subst}
 use lib.ListN.{length, getD, take, drop, replicate}
 use lib.Seq.{sets}
+use lib.Dec.{ltb}
 use borrow.Author.Tests.{lt-ltb, le-ltb, le-leb, lt-leb}
-use Rattle.definition.specs.Run.{Run, Outcome, ok, refused, pure, next, _>>=_, look, pick}
+use Rattle.definition.specs.Run.{Run, Outcome, ok, refused, pure, refuse, next, _>>=_, look, pick}
 use Rattle.definition.specs.Node.{Row, bool, bignum, words}
 use Rattle.definition.specs.Arena.{Tables, arena, find-symbol, zeroed}
-use Rattle.definition.specs.Build.{Lent, lent, BuildCall, build-done, build-call, number-done, words-done, name-done, new-call, new-if, wrong, check, check-handles, check-names, check-space, handle-checked, words-at, get-words, get-kind, get-name, get-root, set-root, exchange-root, append, add, held, add-symbol, known-or-new}
+use Rattle.definition.specs.Build.{Lent, lent, BuildCall, build-done, build-call, number-done, words-done, name-done, new-call, new-if, wrong, check, check-handles, check-names, check-space, handles-checked, words-at, get-words, get-kind, get-name, get-root, set-root, exchange-root, append, add, held, add-symbol, known-or-new}
 use Rattle.definition.specs.declared.Answer.{Answer}
 use Rattle.definition.specs.declared.Answer.the-variants.{Accepted, Refused}
 use Rattle.definition.specs.declared.Counts.{Counts}
 use Rattle.definition.specs.declared.Created.{Created}
 use Rattle.definition.specs.declared.Refusal.{Refusal}
-use Rattle.definition.specs.declared.Refusal.the-variants.{BadTables, NoSpace}
+use Rattle.definition.specs.declared.Refusal.the-variants.{BadTables, NoSpace, BadHandle}
 use Rattle.arena_check.specs.Held.{tables}
 use Rattle.arena_check.proofs.Rights.{node-words}
 use Rattle.store.specs.Laws.{cleared, cleared-whole}
@@ -36,6 +37,10 @@ not-accepted m L e s = subst (λ (x : Answer). Says x m L) e s
 pub says-on : (r : Answer) (m m′ : Run Lent (Unit {0})) (L : Lent) → m L ≡ m′ L → Says r m′ L → Says r m L
 says-on Accepted m m′ L e s = e ∙ s
 says-on (Refused q) m m′ L e s = e ∙ s
+
+pub below-if : {r : Answer} (s : Answer) (h count : ℕ) → r ≡ Accepted → Below r h count → Below s h count
+below-if Accepted h count p f = subst (λ (x : Answer). Below x h count) p f
+below-if (Refused q) h count p f = tt
 
 pub fit-of : {r : Answer} (n e b more : ℕ) (c : Counts) → r ≡ Accepted → FitsIf r n e b more c → Fit n e b more c
 fit-of n e b more c p f = subst (λ (x : Answer). FitsIf x n e b more c) p f
@@ -59,13 +64,32 @@ stop f e = ap (λ o. next o f) e
 -- ---- getters
 
 module _ (L : Lent) where
-  pub handle-on : (h : ℕ) → check [] L ≡ ok tt L → handle-checked h L ≡ check-handles (h ∷ []) L
-  unfolding _>>=_ handle-checked
+  pub handle-on : (h : ℕ) → check [] L ≡ ok tt L → handles-checked (h ∷ []) L ≡ check-handles (h ∷ []) L
+  unfolding _>>=_ handles-checked
   handle-on h p = on _ p
 
-  pub handle-stop : (h : ℕ) (q : Refusal) → check [] L ≡ refused q → handle-checked h L ≡ refused q
-  unfolding _>>=_ handle-checked
+  pub handle-stop : (h : ℕ) (q : Refusal) → check [] L ≡ refused q → handles-checked (h ∷ []) L ≡ refused q
+  unfolding _>>=_ handles-checked
   handle-stop h q p = stop _ p
+
+  -- a second handle after the first
+  by-first : (h k : ℕ) → handles-checked (h ∷ k ∷ []) L ≡ next (handles-checked (h ∷ []) L) (λ _. check-handles (k ∷ []))
+  unfolding handles-checked check-handles look pick pure refuse _>>=_ next
+  by-first h k = go (check [] L)
+    where
+      one : (b : Bool) (s : Lent) → pick {A = Run Lent (Unit {0})} b (check-handles (k ∷ [])) (refuse (BadHandle h)) s ≡ next (pick b (pure {A = Unit {0}} tt) (refuse (BadHandle h)) s) (λ _. check-handles (k ∷ []))
+      one true s = refl
+      one false s = refl
+
+      go : (o : Outcome Lent (Unit {0})) → next o (λ _. check-handles (h ∷ k ∷ [])) ≡ next (next o (λ _. check-handles (h ∷ []))) (λ _. check-handles (k ∷ []))
+      go (ok u s) = one (ltb h (s .counts .nodes)) s
+      go (refused q) = refl
+
+  pub second-on : (h k : ℕ) → handles-checked (h ∷ []) L ≡ ok tt L → handles-checked (h ∷ k ∷ []) L ≡ check-handles (k ∷ []) L
+  second-on h k p = by-first h k ∙ on _ p
+
+  pub second-stop : (h k : ℕ) (q : Refusal) → handles-checked (h ∷ []) L ≡ refused q → handles-checked (h ∷ k ∷ []) L ≡ refused q
+  second-stop h k q p = by-first h k ∙ stop _ p
 
   pub root-ok : check [] L ≡ ok tt L → record { answer = Accepted; value = L .counts .root } ≡ number-done (get-root L)
   unfolding _>>=_ get-root number-done look pure
@@ -75,11 +99,11 @@ module _ (L : Lent) where
   unfolding _>>=_ get-root number-done
   root-no q p = sym (ap number-done (stop _ p))
 
-  get-ok : (h : ℕ) → handle-checked h L ≡ ok tt L → get-words h L ≡ ok (words-at (L .tables .nodes) h) L
+  get-ok : (h : ℕ) → handles-checked (h ∷ []) L ≡ ok tt L → get-words h L ≡ ok (words-at (L .tables .nodes) h) L
   unfolding _>>=_ get-words look pure
   get-ok h p = on _ p
 
-  get-no : (h : ℕ) (q : Refusal) → handle-checked h L ≡ refused q → get-words h L ≡ refused q
+  get-no : (h : ℕ) (q : Refusal) → handles-checked (h ∷ []) L ≡ refused q → get-words h L ≡ refused q
   unfolding _>>=_ get-words
   get-no h q p = stop _ p
 
@@ -91,38 +115,38 @@ module _ (L : Lent) where
   unfolding words-at
   words-are h l = node-words (L .tables .nodes) (h * 7) l
 
-  pub get-all : (h x : ℕ) → x ≡ h → h * 7 + 7 ≤ length (L .tables .nodes) → handle-checked h L ≡ ok tt L
+  pub get-all : (h x : ℕ) → x ≡ h → h * 7 + 7 ≤ length (L .tables .nodes) → handles-checked (h ∷ []) L ≡ ok tt L
       → record { answer = Accepted; words = getD (L .tables .nodes) (x * 7) 0 ∷ word x 1 ∷ word x 2 ∷ word x 3 ∷ word x 4 ∷ word x 5 ∷ word x 6 ∷ [] } ≡ words-done (get-words h L)
   unfolding words-done
   get-all h x e l p =
       (λ i. record { answer = Accepted; words = getD (L .tables .nodes) (e i * 7) 0 ∷ word (e i) 1 ∷ word (e i) 2 ∷ word (e i) 3 ∷ word (e i) 4 ∷ word (e i) 5 ∷ word (e i) 6 ∷ [] })
       ∙ sym (ap words-done (get-ok h p) ∙ λ i. record { answer = Accepted; words = words-are h l i })
 
-  pub get-none : (h : ℕ) (q : Refusal) → handle-checked h L ≡ refused q → record { answer = Refused q; words = replicate 7 0 } ≡ words-done (get-words h L)
+  pub get-none : (h : ℕ) (q : Refusal) → handles-checked (h ∷ []) L ≡ refused q → record { answer = Refused q; words = replicate 7 0 } ≡ words-done (get-words h L)
   unfolding words-done
   get-none h q p = sym (ap words-done (get-no h q p))
 
-  pub kind-ok : (h x : ℕ) → x ≡ h → h * 7 + 7 ≤ length (L .tables .nodes) → handle-checked h L ≡ ok tt L → record { answer = Accepted; value = getD (L .tables .nodes) (x * 7) 0 } ≡ number-done (get-kind h L)
+  pub kind-ok : (h x : ℕ) → x ≡ h → h * 7 + 7 ≤ length (L .tables .nodes) → handles-checked (h ∷ []) L ≡ ok tt L → record { answer = Accepted; value = getD (L .tables .nodes) (x * 7) 0 } ≡ number-done (get-kind h L)
   unfolding _>>=_ number-done get-kind pure
   kind-ok h x e l p =
       (λ i. record { answer = Accepted; value = getD (L .tables .nodes) (e i * 7) 0 })
       ∙ sym (ap number-done (on _ (get-ok h p)) ∙ λ i. record { answer = Accepted; value = getD (words-are h l i) 0 0 })
 
-  pub kind-no : (h : ℕ) (q : Refusal) → handle-checked h L ≡ refused q → record { answer = Refused q; value = 0 } ≡ number-done (get-kind h L)
+  pub kind-no : (h : ℕ) (q : Refusal) → handles-checked (h ∷ []) L ≡ refused q → record { answer = Refused q; value = 0 } ≡ number-done (get-kind h L)
   unfolding _>>=_ number-done get-kind
   kind-no h q p = sym (ap number-done (stop _ (get-no h q p)))
 
-  pub name-ok : (h x : ℕ) → x ≡ h → h * 7 + 7 ≤ length (L .tables .nodes) → handle-checked h L ≡ ok tt L → check-names (h ∷ []) L ≡ ok tt L → record { answer = Accepted; start = word x 1; length = word x 2 } ≡ name-done (get-name h L)
+  pub name-ok : (h x : ℕ) → x ≡ h → h * 7 + 7 ≤ length (L .tables .nodes) → handles-checked (h ∷ []) L ≡ ok tt L → check-names (h ∷ []) L ≡ ok tt L → record { answer = Accepted; start = word x 1; length = word x 2 } ≡ name-done (get-name h L)
   unfolding _>>=_ name-done get-name look pure
   name-ok h x e l p q =
       (λ i. record { answer = Accepted; start = word (e i) 1; length = word (e i) 2 })
       ∙ sym (ap name-done (on _ p ∙ on _ q) ∙ λ i. record { answer = Accepted; start = getD (take 2 (drop 1 (words-are h l i))) 0 0; length = getD (take 2 (drop 1 (words-are h l i))) 1 0 })
 
-  pub name-no : (h : ℕ) (q : Refusal) → handle-checked h L ≡ ok tt L → check-names (h ∷ []) L ≡ refused q → record { answer = Refused q; start = 0; length = 0 } ≡ name-done (get-name h L)
+  pub name-no : (h : ℕ) (q : Refusal) → handles-checked (h ∷ []) L ≡ ok tt L → check-names (h ∷ []) L ≡ refused q → record { answer = Refused q; start = 0; length = 0 } ≡ name-done (get-name h L)
   unfolding _>>=_ name-done get-name
   name-no h q p r = sym (ap name-done (on _ p ∙ stop _ r))
 
-  pub name-stop : (h : ℕ) (q : Refusal) → handle-checked h L ≡ refused q → record { answer = Refused q; start = 0; length = 0 } ≡ name-done (get-name h L)
+  pub name-stop : (h : ℕ) (q : Refusal) → handles-checked (h ∷ []) L ≡ refused q → record { answer = Refused q; start = 0; length = 0 } ≡ name-done (get-name h L)
   unfolding _>>=_ name-done get-name
   name-stop h q p = sym (ap name-done (stop _ p))
 
@@ -133,12 +157,12 @@ module _ (L : Lent) where
   unfolding build-call build-done
   build-no m q p = sym (ap (build-done L) p)
 
-  pub root-set : (h : ℕ) → handle-checked h L ≡ ok tt L
+  pub root-set : (h : ℕ) → handles-checked (h ∷ []) L ≡ ok tt L
       → record { answer = record { answer = Accepted; handle = L .counts .root; counts = record { nodes = L .counts .nodes; references = L .counts .references; bytes = L .counts .bytes; root = h } }; tables = L .tables } ≡ build-call (exchange-root h) L
   unfolding _>>=_ build-call build-done exchange-root set-root
   root-set h p = sym (ap (build-done L) (on _ p))
 
-  pub root-not-set : (h : ℕ) (q : Refusal) → handle-checked h L ≡ refused q → exchange-root h L ≡ refused q
+  pub root-not-set : (h : ℕ) (q : Refusal) → handles-checked (h ∷ []) L ≡ refused q → exchange-root h L ≡ refused q
   unfolding _>>=_ exchange-root
   root-not-set h q p = stop _ p
 

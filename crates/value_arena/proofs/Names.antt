@@ -6,82 +6,41 @@ use native.Mathlib.Decide.{decLt}
 use mathlib.Core.Bool.{Bool, true, false, not, _&&_, _||_}
 use mathlib.Core.List.{List, [], _∷_}
 use mathlib.Core.Option.{Option, none, some}
-use mathlib.Core.Path.{_≡_, refl, sym, ap, _∙_, subst}
+use mathlib.Core.Path.{_≡_, sym, ap, _∙_, subst}
 use lib.Dec.{eqb}
 use lib.ListN.{length, getD, take, drop, drop-of-length-le, List·getD-eq-default}
-use lib.Seq.{drop-cons, length-take-le}
-use borrow.Author.Tests.{eq-eqb, ne-eqb}
+use lib.Seq.{drop-cons, length-take-le, take-length}
+use borrow.Author.Tests.{ne-eqb}
 use Rattle.definition.specs.Run.{ok, pick}
-use Rattle.definition.specs.Node.{Row, nil, symbol, kind, row, row-of, rows, equal}
+use Rattle.definition.specs.Node.{Row, nil, symbol, kind, row-of, rows, equal}
 use Rattle.definition.specs.Arena.{Arena, node, range, name-of, named, find-symbol, too-long, lowest}
 use Rattle.definition.specs.Build.{Lent, held, check, byte-slice, member-slice, pair-slice}
 use Rattle.lists.specs.Slices.{no-slice, slice, lowest-none, whole-pairs}
-use Rattle.lists.specs.Words.{equal-true}
-use Rattle.lists.specs.Ranges.{length-range, range-step, range-end}
-use Rattle.lists.specs.Tables.{length-rows, rows-at}
-use Rattle.arena_check.proofs.Lists.{kind-three}
-use Rattle.arena_check.proofs.Rights.{node-words, range-take}
-use Rattle.well_formed.specs.Nodes.{at-node}
+use Rattle.lists.specs.Same.{same-length}
+use Rattle.lists.specs.Ranges.{length-range}
+use Rattle.lists.specs.Tables.{length-rows}
+use Rattle.arena_check.proofs.Lists.{kind-test}
+use Rattle.arena_check.proofs.Rights.{range-take}
+use Rattle.well_formed.specs.Nodes.{at-node, node-row}
 use Rattle.well_formed.specs.Right as R
 use Rattle.well_formed.specs.Checks.{checked}
 use Rattle.value_arena.specs.Calls.{SymbolsIn}
 
--- ---- the same bytes
-
-module _ (name bytes : List ℕ) (from i : ℕ) (h : from + length name ≤ length bytes) where
-  abbrev there : List ℕ
-  there = take (length name) (drop from bytes)
-
-  step : i < length name → drop i there ≡ getD bytes (from + i) 0 ∷ drop (suc i) there
-  unfolding range
-  step k = range-step bytes from (length name) i h k
-
-  pub same-on : i < length name → getD name i 0 ≡ getD bytes (from + i) 0 → equal (drop i name) (drop i there) ≡ equal (drop (i + 1) name) (drop (i + 1) there)
-  unfolding equal pick
-  same-on k e =
-      (λ j. equal (drop-cons name i 0 k j) (step k j))
-      ∙ ap (λ (b : Bool). pick b (equal (drop (suc i) name) (drop (suc i) there)) false) (eq-eqb (getD name i 0) (getD bytes (from + i) 0) e)
-      ∙ ap (λ (m : ℕ). equal (drop m name) (drop m there)) (sym (add-one i))
-
-  pub same-not : i < length name → (getD name i 0 ≡ getD bytes (from + i) 0 → ⊥) → false ≡ equal (drop i name) (drop i there)
-  unfolding equal pick
-  same-not k e =
-      sym ((λ j. equal (drop-cons name i 0 k j) (step k j))
-      ∙ ap (λ (b : Bool). pick b (equal (drop (suc i) name) (drop (suc i) there)) false) (ne-eqb (getD name i 0) (getD bytes (from + i) 0) e))
-
-  pub same-all : length name ≤ i → true ≡ equal (drop i name) (drop i there)
-  unfolding equal range
-  same-all k = sym (λ j. equal (drop-of-length-le name {i = i} k j) (range-end bytes from (length name) i h k j))
-
 -- ---- a symbol's name
-
--- lists of different lengths differ
-differ : (l m : List ℕ) → (length l ≡ length m → ⊥) → false ≡ equal l m
-differ l m n = go (equal l m) refl
-  where
-    go : (b : Bool) → equal l m ≡ b → false ≡ b
-    go true e = absurd (n (ap length (equal-true l m e)))
-    go false e = refl
 
 module _ (A : Arena) (count : ℕ) (t : List ℕ) (i : ℕ) (name : List ℕ) (e : A .nodes ≡ rows count t) (lt : i < count) (le : count * 7 ≤ length t) where
   abbrev at : ℕ → ℕ
   at k = getD t (i * 7 + k) 0
 
-  -- the row by its words
-  row-is : node A i ≡ row-of (getD t (i * 7) 0) (at 1) (at 2) (at 3) (at 4) (at 5) (at 6)
-  unfolding node row
-  row-is =
-      ap (λ (l : List Row). getD l i nil) e ∙ rows-at count t i lt ∙ ap row (node-words t (i * 7) (omega arith))
-
   pub no-symbol : (getD t (i * 7) 0 ≡ 3 → ⊥) → false ≡ named (A .bytes) name (node A i)
   unfolding named
   no-symbol n =
       sym (ap (λ (b : Bool). b && equal name (name-of (A .bytes) (node A i)))
-      (ap (λ (r : Row). eqb (kind r) 3) row-is ∙ kind-three _ _ _ _ _ _ _ ∙ ne-eqb (getD t (i * 7) 0) 3 n))
+      (ap (λ (r : Row). eqb (kind r) 3) (node-row A count t e i lt) ∙ kind-test 3 (omega arith) (omega arith) _ _ _ _ _ _ _ ∙ ne-eqb (getD t (i * 7) 0) 3 n))
 
   symbol-is : getD t (i * 7) 0 ≡ 3 → node A i ≡ symbol (at 1) (at 2)
   unfolding row-of pick
-  symbol-is k = row-is ∙ ap (λ (x : ℕ). row-of x (at 1) (at 2) (at 3) (at 4) (at 5) (at 6)) k
+  symbol-is k = node-row A count t e i lt ∙ ap (λ (x : ℕ). row-of x (at 1) (at 2) (at 3) (at 4) (at 5) (at 6)) k
 
   name-is : getD t (i * 7) 0 ≡ 3 → named (A .bytes) name (node A i) ≡ equal name (range (A .bytes) (at 1) (at 2))
   unfolding named name-of kind
@@ -89,13 +48,13 @@ module _ (A : Arena) (count : ℕ) (t : List ℕ) (i : ℕ) (name : List ℕ) (e
 
   pub other-length : SymbolsIn A → getD t (i * 7) 0 ≡ 3 → (at 2 ≡ length name → ⊥) → false ≡ named (A .bytes) name (node A i)
   other-length s k n =
-      differ name (range (A .bytes) (at 1) (at 2)) (λ q. n (sym (q ∙ length-range (A .bytes) (at 1) (at 2) (s i (at 1) (at 2) (symbol-is k))))) ∙ sym (name-is k)
+      sym (same-length name (range (A .bytes) (at 1) (at 2)) (λ q. n (sym (q ∙ length-range (A .bytes) (at 1) (at 2) (s i (at 1) (at 2) (symbol-is k)))))) ∙ sym (name-is k)
 
   pub same-name : (bytes : List ℕ) (stored : ℕ) → A .bytes ≡ take stored bytes → getD t (i * 7) 0 ≡ 3 → at 2 ≡ length name → at 1 + at 2 ≤ stored
-      → equal name (take (length name) (drop (at 1) bytes)) ≡ named (A .bytes) name (node A i)
+      → equal (take (at 2) name) (take (at 2) (drop (at 1) bytes)) ≡ named (A .bytes) name (node A i)
   unfolding range
   same-name bytes stored f k n l =
-      ap (λ (m : ℕ). equal name (take m (drop (at 1) bytes))) (sym n)
+      ap (λ (x : List ℕ). equal x (take (at 2) (drop (at 1) bytes))) (ap (λ (m : ℕ). take m name) n ∙ take-length name)
       ∙ ap (equal name) (sym (range-take bytes stored (at 1) (at 2) l) ∙ ap (λ (b : List ℕ). range b (at 1) (at 2)) (sym f))
       ∙ sym (name-is k)
 

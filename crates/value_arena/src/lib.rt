@@ -20,6 +20,7 @@ use definition::Words;
 use store::copy_bytes;
 use store::copy_words;
 use store::put_node;
+use store::same_bytes;
 use store::zero_bytes;
 use store::zero_words;
 ghost use mathlib.Core.Path.{_≡_};
@@ -29,7 +30,7 @@ ghost use Prim.Native.Nat.{ℕ, _+_, _-_, _*_, _/_, _<_, _≤_};
 ghost use lib.ListN.{length, take, drop};
 ghost use Rattle.definition.specs.Run.{Run};
 ghost use Rattle.definition.specs.Refused as R;
-ghost use Rattle.definition.specs.Node.{width, Row, bool, words, rows, equal};
+ghost use Rattle.definition.specs.Node.{width, Row, bool, words, rows};
 ghost use Rattle.definition.specs.Arena.{Arena, node, named, firsts, lowest, find-symbol};
 ghost use Rattle.definition.specs.Build.{Lent, lent, build-call, number-done, words-done, name-done, new-call, check-handles, check-names, get-words, get-kind, get-name, get-root, exchange-root, bits, create-nil, create-bool, create-fixnum, create-new-symbol, create-symbol, create-array, create-hash, create-object, create-string, create-user-defined, create-float, create-bignum};
 ghost use Rattle.definition.specs.Build as B;
@@ -54,7 +55,7 @@ fn begin(nodes: &[u32], references: &[u32], bytes: &[u8], counts: Counts, more: 
 }
 
 // 13 for a handle that is not below the node count.
-pub fn check_handle(h: u32, count: usize) -> Answer
+fn check_handle(h: u32, count: usize) -> Answer
     ensures { λ r. ⌜ ((L : Lent) → L .counts .nodes ≡ count → Says r (check-handles (h ∷ [])) L) ⌝ }
     ensures { λ r. ⌜ Below r h count ⌝ }
 {
@@ -129,12 +130,31 @@ pub fn begin_handle(
     counts: Counts,
     h: u32,
 ) -> Answer
-    ensures { λ r. ⌜ Says r (B.handle-checked h) (lent (now (nodes .entry)) (now (references .entry)) (now (bytes .entry)) counts) ⌝ }
+    ensures { λ r. ⌜ Says r (B.handles-checked (h ∷ [])) (lent (now (nodes .entry)) (now (references .entry)) (now (bytes .entry)) counts) ⌝ }
     ensures { λ r. ⌜ FitsIf r (length (now (nodes .entry))) (length (now (references .entry))) (length (now (bytes .entry))) 0 counts × Below r h (counts .nodes) ⌝ }
 {
     let count = counts.nodes;
     match begin(&nodes[..], &references[..], &bytes[..], counts, 0) {
         Answer::Accepted => check_handle(h, count),
+        Answer::Refused(q) => Answer::Refused(q),
+    }
+}
+
+// 1, 2, then two handles.
+pub fn begin_handles(
+    nodes: &[u32],
+    references: &[u32],
+    bytes: &[u8],
+    counts: Counts,
+    first: u32,
+    second: u32,
+) -> Answer
+    ensures { λ r. ⌜ Says r (B.handles-checked (first ∷ second ∷ [])) (lent (now (nodes .entry)) (now (references .entry)) (now (bytes .entry)) counts) ⌝ }
+    ensures { λ r. ⌜ Below r first (counts .nodes) × Below r second (counts .nodes) ⌝ }
+{
+    let count = counts.nodes;
+    match begin_handle(&nodes[..], &references[..], &bytes[..], counts, first) {
+        Answer::Accepted => check_handle(second, count),
         Answer::Refused(q) => Answer::Refused(q),
     }
 }
@@ -465,20 +485,6 @@ fn wrong_pairs(n: usize) -> u32
 
 // ---- symbols by name
 
-fn same_bytes(name: &[u8], bytes: &[u8], from: usize) -> bool
-    requires { ⌜ from + length (now name) ≤ length (now bytes) ⌝ }
-    ensures { λ r. ⌜ r ≡ equal (now (name .entry)) (take (length (now (name .entry))) (drop from (now (bytes .entry)))) ⌝ }
-{
-    let mut i = 0;
-    while i < name.len() {
-        if name[i] != bytes[from + i] {
-            return false;
-        }
-        i = i + 1;
-    }
-    true
-}
-
 // Is node i a symbol with that name? (In an arena that was checked the last two tests hold.)
 fn is_named(nodes: &[u32], bytes: &[u8], count: usize, stored: usize, i: usize, name: &[u8]) -> bool
     requires { ⌜ (i < count) × (count * width ≤ length (now nodes)) × (stored ≤ length (now bytes)) ⌝ }
@@ -495,7 +501,7 @@ fn is_named(nodes: &[u32], bytes: &[u8], count: usize, stored: usize, i: usize, 
     let from = size(nodes[at + Node::START]);
     if from <= stored {
         if n <= stored - from {
-            return same_bytes(&name[..], &bytes[..], from);
+            return same_bytes(&name[..], 0, &bytes[..], from, n);
         }
     }
     false

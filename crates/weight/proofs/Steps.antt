@@ -1,24 +1,20 @@
 -- A reading and a weighing by what each step answers.
 use Prim.Native.Nat.{ℕ}
-use mathlib.Core.Path.{_≡_, refl, sym, ap, _∙_, subst}
+use mathlib.Core.Path.{_≡_, sym, ap, _∙_, subst}
 use mathlib.Core.Bool.{Bool, true, false, _||_}
 use mathlib.Core.List.{List, [], _∷_}
 use lib.ListN.{take}
 use lib.Ieee.{Float, lt}
-use lib.Dec.{ltb}
-use Rattle.definition.specs.Run.{Run, Outcome, ok, refused, pure, refuse, next, _>>=_, look, pick}
+use Rattle.definition.specs.Run.{Run, ok, refused, pure, refuse, _>>=_, look, pick}
 use Rattle.definition.specs.Node.{row}
-use Rattle.definition.specs.Build.{Lent, words-at, check, check-handles, handle-checked}
+use Rattle.definition.specs.Build.{Lent, words-at, handles-checked}
 use Rattle.definition.specs.Weight.{row-reading, node-reading, get-reading, positive-zero, half, as-double, double-at, dry-at, check-moisture, weigh, weigh-nodes, wet-weight, read-done}
-use Rattle.definition.specs.declared.Answer.{Answer}
 use Rattle.definition.specs.declared.Answer.the-variants.{Accepted, Refused}
 use Rattle.definition.specs.declared.Reading.{Reading}
 use Rattle.definition.specs.declared.Reading.the-variants.{NotANumber}
 use Rattle.definition.specs.declared.Refusal.{Refusal}
-use Rattle.definition.specs.declared.Refusal.the-variants.{BadHandle, NotAWeight, BadMoisture}
+use Rattle.definition.specs.declared.Refusal.the-variants.{NotAWeight, BadMoisture}
 use Rattle.value_arena.proofs.Calls.{on, stop}
-use Rattle.lists.specs.Runs.{un}
-use Rattle.well_formed.specs.Checks.{checked}
 use Rattle.weight.specs.Gives.{Has, Gives}
 use Rattle.weight.specs.declared.Given.{Given}
 use Rattle.weight.specs.declared.Given.the-variants as G
@@ -30,7 +26,7 @@ module _ (L : Lent) (nodes bytes : List ℕ) (stored h : ℕ) (k : Has L nodes b
   unfolding node-reading look pure
   is-read = ap (λ (x : Reading). ok x L) ((λ i. row-reading (k .0 i) (k .1 i)) ∙ sym e)
 
-  pub reading-is : handle-checked h L ≡ ok tt L → record { answer = Accepted; reading = r } ≡ read-done (get-reading h L)
+  pub reading-is : handles-checked (h ∷ []) L ≡ ok tt L → record { answer = Accepted; reading = r } ≡ read-done (get-reading h L)
   unfolding get-reading read-done _>>=_
   reading-is p = sym (ap read-done (on _ p ∙ is-read))
 
@@ -40,7 +36,7 @@ module _ (L : Lent) (nodes bytes : List ℕ) (stored h : ℕ) (k : Has L nodes b
   unfolding double-at _>>=_
   converted q = on _ is-read ∙ ap (λ (y : Reading). as-double h y L) q
 
-pub reading-not : (L : Lent) (h : ℕ) (q : Refusal) → handle-checked h L ≡ refused q → record { answer = Refused q; reading = NotANumber } ≡ read-done (get-reading h L)
+pub reading-not : (L : Lent) (h : ℕ) (q : Refusal) → handles-checked (h ∷ []) L ≡ refused q → record { answer = Refused q; reading = NotANumber } ≡ read-done (get-reading h L)
 unfolding get-reading read-done _>>=_
 reading-not L h q p = sym (ap read-done (stop _ p))
 
@@ -98,32 +94,12 @@ module _ (L : Lent) (d m : ℕ) where
       unfolding weigh-nodes _>>=_ pure
       weighed g = on _ e ∙ on _ f ∙ on _ g
 
-  -- ---- after the tests of the arena and the dry node's handle
+  -- ---- after the tests of the arena and of both handles
 
-  by-handles : wet-weight d m L ≡ next (handle-checked d L) (λ _. check-handles (m ∷ []) >>= λ _. weigh-nodes d m)
-  unfolding wet-weight handle-checked check-handles look pick pure refuse _>>=_ next
-  by-handles = go (check [] L)
-    where
-      one : (b : Bool) (s : Lent) → next (pick {A = Run Lent (Unit {0})} b (check-handles (m ∷ [])) (refuse (BadHandle d)) s) (λ _. weigh-nodes d m) ≡ next (pick b (pure {A = Unit {0}} tt) (refuse (BadHandle d)) s) (λ _. check-handles (m ∷ []) >>= λ _. weigh-nodes d m)
-      one true s = refl
-      one false s = refl
+  pub no-handles : (q : Refusal) → handles-checked (d ∷ m ∷ []) L ≡ refused q → wet-weight d m L ≡ refused q
+  unfolding wet-weight _>>=_
+  no-handles q e = stop _ e
 
-      go : (o : Outcome Lent (Unit {0})) → next o (λ _. check-handles (d ∷ m ∷ []) >>= λ _. weigh-nodes d m) ≡ next (next o (λ _. check-handles (d ∷ []))) (λ _. check-handles (m ∷ []) >>= λ _. weigh-nodes d m)
-      go (ok u s) = one (ltb d (s .counts .nodes)) s
-      go (refused q) = refl
-
-  pub no-handle : (q : Refusal) → handle-checked d L ≡ refused q → wet-weight d m L ≡ refused q
-  no-handle q e = by-handles ∙ stop _ e
-
-  pub no-second : (q : Refusal) → handle-checked d L ≡ ok tt L → check-handles (m ∷ []) L ≡ refused q → wet-weight d m L ≡ refused q
-  unfolding _>>=_
-  no-second q e f = by-handles ∙ on _ e ∙ stop _ f
-
-  pub both-handles : handle-checked d L ≡ ok tt L → check-handles (m ∷ []) L ≡ ok tt L → wet-weight d m L ≡ weigh-nodes d m L
-  unfolding _>>=_
-  both-handles e f = by-handles ∙ on _ e ∙ on _ f
-
--- an arena whose handle was accepted was checked
-pub was-checked : (L : Lent) (h : ℕ) → handle-checked h L ≡ ok tt L → check [] L ≡ ok tt L
-unfolding handle-checked _>>=_
-was-checked L h e = un (check [] L) _ e λ u M f g. f ∙ ap (ok tt) (sym (checked [] L M u f .1))
+  pub both-handles : handles-checked (d ∷ m ∷ []) L ≡ ok tt L → wet-weight d m L ≡ weigh-nodes d m L
+  unfolding wet-weight _>>=_
+  both-handles e = on _ e

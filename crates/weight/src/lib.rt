@@ -10,7 +10,7 @@ use definition::Refusal;
 use definition::Weighed;
 use definition::Weighing;
 use value_arena::begin_handle;
-use value_arena::check_handle;
+use value_arena::begin_handles;
 use value_arena::signed;
 ghost use mathlib.Core.Path.{_≡_};
 ghost use lib.ListN.{take};
@@ -162,13 +162,16 @@ pub fn wet_weight(
 ) -> Weighed
     ensures { λ r. ⌜ r ≡ weighed-done (wet-weight dry moisture (lent (now (nodes .entry)) (now (references .entry)) (now (bytes .entry)) counts)) ⌝ }
 {
-    let count = counts.nodes;
     let stored = counts.bytes;
-    match begin_handle(&nodes[..], &references[..], &bytes[..], counts, dry) {
-        Answer::Accepted => match check_handle(moisture, count) {
-            Answer::Accepted => weigh_nodes(&nodes[..], &bytes[..], stored, dry, moisture),
-            Answer::Refused(q) => refused(q),
-        },
+    match begin_handles(
+        &nodes[..],
+        &references[..],
+        &bytes[..],
+        counts,
+        dry,
+        moisture,
+    ) {
+        Answer::Accepted => weigh_nodes(&nodes[..], &bytes[..], stored, dry, moisture),
         Answer::Refused(q) => refused(q),
     }
 }

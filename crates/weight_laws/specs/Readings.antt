@@ -1,6 +1,6 @@
 -- What a node reads as, and what the call that reads it answers: a whole number of 32 bits, or the nearest double to a decimal, and never a NaN.
 use Prim.Native.Nat.{ℕ}
-use mathlib.Core.Path.{_≡_, refl, sym, ap, _∙_, subst}
+use mathlib.Core.Path.{_≡_, refl, sym, subst}
 use mathlib.Core.Bool.{Bool, not}
 use mathlib.Core.List.{List, [], _∷_}
 use mathlib.Core.Option.{Option, none, some}
@@ -11,13 +11,12 @@ use Rattle.definition.specs.Run.{Outcome, ok, refused, pure, next, _>>=_, look}
 use Rattle.definition.specs.Refused.{signed}
 use Rattle.definition.specs.Node.{Row, nil, bool, fixnum, symbol, array, hash, object, string, user, float, bignum}
 use Rattle.definition.specs.Arena.{node, range}
-use Rattle.definition.specs.Build.{Lent, held, check, handle-checked}
+use Rattle.definition.specs.Build.{Lent, held, handles-checked}
 use Rattle.definition.specs.Weight.{Decimal, decimal, double, text-reading, row-reading, node-reading, get-reading, read-done, Nearest}
 use Rattle.definition.specs.declared.Reading.{Reading}
 use Rattle.definition.specs.declared.Reading.the-variants.{Whole, Double, NotANumber}
 use Rattle.lists.specs.Lists.{apart as impossible}
-use Rattle.lists.specs.Runs.{un}
-use Rattle.well_formed.specs.Checks.{after-handles, checked}
+use Rattle.well_formed.specs.Checks.{handles-keep}
 use Rattle.weight_laws.specs.Decimals.{Plain, plain-finite, reading-plain, number, power, double-plain, double-nearest}
 use Rattle.weight_laws.specs.Grammar.{spelled, Proper, decimal-sound}
 
@@ -102,7 +101,7 @@ finite-no-nan (fin s m e) t = tt
 -- the call that reads, accepted or refused
 pub read-sized : (h : ℕ) (L : Lent) → Sized (read-done (get-reading h L) .reading)
 unfolding read-done get-reading node-reading _>>=_ look pure next
-read-sized h L = go (handle-checked h L)
+read-sized h L = go (handles-checked (h ∷ []) L)
   where
     go : (o : Outcome Lent (Unit {0})) → Sized (read-done (next o (λ _. node-reading h)) .reading)
     go (ok u M) = row-sized (held M .bytes) (node (held M) h)
@@ -112,22 +111,11 @@ read-sized h L = go (handle-checked h L)
 pub read-never-nan : (h : ℕ) (L : Lent) (x : Float) → read-done (get-reading h L) .reading ≡ Double x → T (not (isNan x))
 read-never-nan h L x e = let p : Sized (Double x) = subst Sized e (read-sized h L) in finite-no-nan x (plain-finite (p .0) x (p .1))
 
--- the tests before the reading leave the arena as it is
-keeps : (h : ℕ) (L M : Lent) (u : Unit {0}) → handle-checked h L ≡ ok u M → L ≡ M
-unfolding handle-checked _>>=_ next pure
-keeps h L M u e =
-    un (check [] L) _ e λ v K f g.
-    let r = after-handles (h ∷ []) (λ _. pure u) K M u (ap (λ (o : Outcome Lent (Unit {0})). next o (λ _. pure u)) g) in
-    checked [] L K v f .1 ∙ same (r .1)
-  where
-    same : {K M : Lent} → ok u K ≡ ok u M → K ≡ M
-    same e = cc
-
 -- so a double that it reads is the nearest to what the node's text says
 pub read-double : (h : ℕ) (L : Lent) (x : Float) → read-done (get-reading h L) .reading ≡ Double x → FromText (held L .bytes) (node (held L) h) x
 unfolding read-done get-reading node-reading _>>=_ look pure next
-read-double h L x e = go (handle-checked h L) refl e
+read-double h L x e = go (handles-checked (h ∷ []) L) refl e
   where
-    go : (o : Outcome Lent (Unit {0})) → handle-checked h L ≡ o → read-done (next o (λ _. node-reading h)) .reading ≡ Double x → FromText (held L .bytes) (node (held L) h) x
-    go (ok u M) f e = subst (λ (K : Lent). FromText (held K .bytes) (node (held K) h) x) (sym (keeps h L M u f)) (row-double (held M .bytes) (node (held M) h) x e)
+    go : (o : Outcome Lent (Unit {0})) → handles-checked (h ∷ []) L ≡ o → read-done (next o (λ _. node-reading h)) .reading ≡ Double x → FromText (held L .bytes) (node (held L) h) x
+    go (ok u M) f e = subst (λ (K : Lent). FromText (held K .bytes) (node (held K) h) x) (sym (handles-keep (h ∷ []) L M u f)) (row-double (held M .bytes) (node (held M) h) x e)
     go (refused r) f e = impossible (cc)

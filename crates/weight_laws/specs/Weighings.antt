@@ -15,7 +15,7 @@ use lib.Ieee.Positive.{num, den, den-pos}
 use borrow.Author.Tests.{ltb-false, le-ltb}
 use Rattle.definition.specs.Run.{Outcome, ok, refused, pure, refuse, next, _>>=_, look, pick}
 use Rattle.definition.specs.Arena.{node}
-use Rattle.definition.specs.Build.{Lent, held, check, check-handles}
+use Rattle.definition.specs.Build.{Lent, held, handles-checked}
 use Rattle.definition.specs.Weight.{row-reading, node-reading, positive-zero, one, half, as-double, double-at, dry-at, check-moisture, wet, weigh, weigh-nodes, wet-weight, weighed-done, apart, Ordinary, Within, Weighs}
 use Rattle.definition.specs.declared.Answer.the-variants.{Accepted}
 use Rattle.definition.specs.declared.Reading.{Reading}
@@ -305,11 +305,10 @@ judged d x w K M p q k = go (lt x positive-zero) (lt half x) refl refl k
 pub weighing-weighs : (h m : ℕ) (L M : Lent) (w : Weighing) → wet-weight h m L ≡ ok w M → Weighs w
 unfolding wet-weight weigh-nodes _>>=_
 weighing-weighs h m L M w e =
-    un (check [] L) _ e λ _ L₁ _ e₁.
-    un (check-handles (h ∷ m ∷ []) L₁) _ e₁ λ _ L₂ _ e₂.
-    un (dry-at h L₂) _ e₂ λ d L₃ f e₃.
-    un (double-at m L₃) _ e₃ λ x L₄ g e₄.
-    judged d x w L₄ M (dry-at-plain h L₂ L₃ d f) (double-at-plain m L₃ L₄ x g) e₄
+    un (handles-checked (h ∷ m ∷ []) L) _ e λ _ L₁ _ e₁.
+    un (dry-at h L₁) _ e₁ λ d L₂ f e₂.
+    un (double-at m L₂) _ e₂ λ x L₃ g e₃.
+    judged d x w L₃ M (dry-at-plain h L₁ L₂ d f) (double-at-plain m L₂ L₃ x g) e₃
 
 -- 02's bound: within dry / 2 ^ 51
 pub within-51 : (w : Weighing) → Within 52 w → Within 51 w

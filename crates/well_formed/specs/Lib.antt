@@ -2,3 +2,4 @@
 pub mod Nodes
 pub mod Right
 pub mod Checks
+pub mod Recipes

@@ -1,10 +1,12 @@
 -- The node at a place of an arena.
-use Prim.Native.Nat.{ℕ, _<_}
-use mathlib.Core.Path.{_≡_}
-use lib.ListN.{length}
-use Rattle.definition.specs.Node.{Row, nil, symbol}
+use Prim.Native.Nat.{ℕ, _+_, _*_, _≤_, _<_}
+use mathlib.Core.Path.{_≡_, ap, _∙_}
+use mathlib.Core.List.{List}
+use lib.ListN.{length, getD, List·getD-eq-default}
+use Rattle.definition.specs.Node.{Row, nil, symbol, width, row-of, rows}
 use Rattle.definition.specs.Arena.{Arena, node}
 use Rattle.lists.specs.Lists.{At, getD-at, at-getD}
+use Rattle.lists.specs.Tables.{length-rows, words-row}
 
 pub node-at : (A : Arena) (i : ℕ) (r : Row) → At (A .nodes) i r → node A i ≡ r
 unfolding node
@@ -17,3 +19,15 @@ at-node A i h = at-getD (A .nodes) i nil h
 -- node c is a symbol
 abbrev pub Name : Arena → ℕ → Type 0
 Name A c = (s : ℕ) × (l : ℕ) × At (A .nodes) c (symbol s l)
+
+-- ---- a node by the words of the table
+
+module _ (A : Arena) (count : ℕ) (t : List ℕ) (e : A .nodes ≡ rows count t) (i : ℕ) where
+  pub node-row : i < count → node A i ≡ row-of (getD t (i * width) 0) (getD t (i * width + 1) 0) (getD t (i * width + 2) 0) (getD t (i * width + 3) 0) (getD t (i * width + 4) 0) (getD t (i * width + 5) 0) (getD t (i * width + 6) 0)
+  unfolding node
+  node-row l = ap (λ (rs : List Row). getD rs i nil) e ∙ words-row count t i l
+
+  -- past the nodes there is nil
+  pub node-past : count ≤ i → node A i ≡ nil
+  unfolding node
+  node-past l = ap (λ (rs : List Row). getD rs i nil) e ∙ List·getD-eq-default (rows count t) nil {n = i} (rw (length-rows count t) l)

@@ -185,6 +185,22 @@ pub fn repeated(names: &[String], linked: bool) -> Vec<u8> {
     out
 }
 
+/// A recipe of the first n names and prices for them all, each name written out once.
+pub fn batch(names: &[String], n: usize) -> Vec<u8> {
+    let mut out = vec![4, 8, b'['];
+    integer(2, &mut out);
+    for (linked, of) in [(false, &names[..n]), (true, names)] {
+        out.push(b'{');
+        integer(of.len() as i32, &mut out);
+        for (i, name) in of.iter().enumerate() {
+            named(name, i, (linked && i < n) as i32, &mut out);
+            out.push(b'i');
+            integer(500 + i as i32, &mut out);
+        }
+    }
+    out
+}
+
 /// A kind of n names, and what it is called.
 pub type Naming = (&'static str, fn(usize) -> String);
 

@@ -197,9 +197,10 @@ fn cases(path: &Path) -> Vec<Case> {
     text.lines().map(case).collect()
 }
 
-/// The file that only folders after the first have, and the one that only the folder of document 02's functions has.
+/// The file that only folders after the first have, and those that only the folder of document 02's functions has.
 pub const LATER: &str = "load";
 pub const WEIGHINGS: &str = "weigh";
+pub const COSTS: &str = "cost";
 
 /// The cases of a file in the corpus's folders, which RUBY_MARSHAL_CORPUS names; none where it is not set.
 ///
@@ -230,7 +231,7 @@ pub fn corpus(file: &str) -> Vec<Case> {
         all.extend(cases(&folder.join(format!("{file}.jsonl"))));
         names.push(name);
     }
-    assert!(!all.is_empty() || [LATER, WEIGHINGS].contains(&file), "{file}: no cases in {folders:?}");
+    assert!(!all.is_empty() || [LATER, WEIGHINGS, COSTS].contains(&file), "{file}: no cases in {folders:?}");
     all
 }
 

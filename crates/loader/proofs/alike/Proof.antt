@@ -6,7 +6,7 @@ use mathlib.Core.Path.{_≡_, refl, sym, _∙_}
 use lib.ListN.{take, drop}
 use Rattle.definition.specs.Node.{equal}
 use Rattle.definition.specs.Arena.{bytes-compared}
-use Rattle.loader.proofs.Names.{same-none, same-apart-at, on-same, on-apart, on-end}
+use Rattle.lists.specs.Same.{same-none, same-apart-at, on-same, on-apart, on-end}
 use Rattle.loader.proofs.alike.Statement.{statement}
 use Rattle.loader.proofs.alike.Tie as tie
 

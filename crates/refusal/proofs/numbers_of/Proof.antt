@@ -60,11 +60,11 @@ enum-known-q-5 c = search needs
 plain-requires-6 : tie.Need-plain-requires-6
 plain-requires-6 c κs = search needs
 
-sub-t27 : tie.Need-sub-t27
-sub-t27 c = search needs
+sub-t29 : tie.Need-sub-t29
+sub-t29 c = search needs
 
-add-t28 : tie.Need-add-t28
-add-t28 c = search needs
+add-t30 : tie.Need-add-t30
+add-t30 c = search needs
 
 enum-known-q-6 : tie.Need-enum-known-q-6
 enum-known-q-6 c = search needs
@@ -152,6 +152,18 @@ cast-plain-6 c = search needs
 
 plain-requires-19 : tie.Need-plain-requires-19
 plain-requires-19 c κs = search needs
+
+enum-known-q-17 : tie.Need-enum-known-q-17
+enum-known-q-17 c = search needs
+
+plain-requires-20 : tie.Need-plain-requires-20
+plain-requires-20 c κs = search needs
+
+enum-known-q-18 : tie.Need-enum-known-q-18
+enum-known-q-18 c = search needs
+
+plain-requires-21 : tie.Need-plain-requires-21
+plain-requires-21 c κs = search needs
 
 returns : tie.Need-returns
 unfolding numbers signed place pick
@@ -258,6 +270,16 @@ unfolding numbers signed place pick
 returns-21 c =
     ap shown (c .plain19 .ensures) ∙ ap numbers (sym (c .before .before .q16 .given .1))
 
+returns-22 : tie.Need-returns-22
+unfolding numbers signed place pick
+returns-22 c =
+    ap shown (c .plain20 .ensures) ∙ ap numbers (sym (c .before .before .q17 .given .1))
+
+returns-23 : tie.Need-returns-23
+unfolding numbers signed place pick
+returns-23 c =
+    ap shown (c .plain21 .ensures) ∙ ap numbers (sym (c .before .before .q18 .given .1))
+
 pub numbers-of-spec : {M : Type 1} → statement M
 numbers-of-spec =
     tie.close
@@ -279,8 +301,8 @@ numbers-of-spec =
     plain-requires-5
     enum-known-q-5
     plain-requires-6
-    sub-t27
-    add-t28
+    sub-t29
+    add-t30
     enum-known-q-6
     plain-requires-7
     enum-known-q-7
@@ -310,6 +332,10 @@ numbers-of-spec =
     enum-known-q-16
     cast-plain-6
     plain-requires-19
+    enum-known-q-17
+    plain-requires-20
+    enum-known-q-18
+    plain-requires-21
     returns
     returns-2
     returns-3
@@ -330,4 +356,6 @@ numbers-of-spec =
     returns-18
     returns-19
     returns-20
-    returns-21)
+    returns-21
+    returns-22
+    returns-23)

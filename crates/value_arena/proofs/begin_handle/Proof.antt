@@ -2,7 +2,7 @@
 use borrow.Author.Needs.{needs}
 use mathlib.Core.Path.{refl}
 use mathlib.Core.List.{[], _∷_}
-use Rattle.definition.specs.Build.{lent, check, check-handles, handle-checked}
+use Rattle.definition.specs.Build.{lent, check, check-handles, handles-checked}
 use Rattle.value_arena.proofs.Tests.{none-lowest}
 use Rattle.value_arena.proofs.Calls.{accepted, not-accepted, says-on, fit-of, fit-if, handle-on, handle-stop}
 use Rattle.value_arena.proofs.begin_handle.Statement.{statement}
@@ -27,7 +27,7 @@ returns c =
     let r = c .check-handle .result in
     let told = c .before .enum-told .given .1 in
     let begun = c .before .before .before .begin .ensures in
-    (says-on r (handle-checked (a .h)) (check-handles (a .h ∷ [])) L (handle-on L (a .h) (accepted (check []) L told (begun .0 [] none-lowest))) (c .check-handle .ensures .0 L refl), (fit-if r (fit-of _ _ _ _ _ told (begun .1)), c .check-handle .ensures .1))
+    (says-on r (handles-checked (a .h ∷ [])) (check-handles (a .h ∷ [])) L (handle-on L (a .h) (accepted (check []) L told (begun .0 [] none-lowest))) (c .check-handle .ensures .0 L refl), (fit-if r (fit-of _ _ _ _ _ told (begun .1)), c .check-handle .ensures .1))
 
 returns-2 : tie.Need-returns-2
 returns-2 c =

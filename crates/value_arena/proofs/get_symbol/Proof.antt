@@ -3,7 +3,7 @@ use borrow.Author.Needs.{needs}
 use native.Mathlib.Omega.{arith}
 use mathlib.Core.Path.{refl}
 use mathlib.Core.List.{[], _∷_}
-use Rattle.definition.specs.Build.{lent, check-names, handle-checked}
+use Rattle.definition.specs.Build.{lent, check-names, handles-checked}
 use Rattle.value_arena.proofs.Calls.{accepted, not-accepted, fit-of, below-of, inside, name-ok, name-no, name-stop}
 use Rattle.value_arena.proofs.get_symbol.Statement.{statement}
 use Rattle.value_arena.proofs.get_symbol.Tie as tie
@@ -60,19 +60,19 @@ returns : tie.Need-returns
 returns c =
     let a = c .before .before .before .before .before .before .before .before .before .before .before .before .args in
     let L = lent (a .nodes .now) (a .references .now) (a .bytes .now) (a .counts) in
-    name-ok L (a .h) _ (c .before .before .size .ensures) (inside (fit-of _ _ _ _ _ (c .before .before .before .before .before .before .enum-told .given .1) (c .before .before .before .before .before .before .before .before .begin-handle .ensures .1 .0)) (below-of _ _ (c .before .before .before .before .before .before .enum-told .given .1) (c .before .before .before .before .before .before .before .before .begin-handle .ensures .1 .1)) refl) (accepted (handle-checked (a .h)) L (c .before .before .before .before .before .before .enum-told .given .1) (c .before .before .before .before .before .before .before .before .begin-handle .ensures .0)) (accepted (check-names (a .h ∷ [])) L (c .before .before .before .enum-told2 .given .1) (c .before .before .before .before .before .check-name .ensures L refl refl))
+    name-ok L (a .h) _ (c .before .before .size .ensures) (inside (fit-of _ _ _ _ _ (c .before .before .before .before .before .before .enum-told .given .1) (c .before .before .before .before .before .before .before .before .begin-handle .ensures .1 .0)) (below-of _ _ (c .before .before .before .before .before .before .enum-told .given .1) (c .before .before .before .before .before .before .before .before .begin-handle .ensures .1 .1)) refl) (accepted (handles-checked (a .h ∷ [])) L (c .before .before .before .before .before .before .enum-told .given .1) (c .before .before .before .before .before .before .before .before .begin-handle .ensures .0)) (accepted (check-names (a .h ∷ [])) L (c .before .before .before .enum-told2 .given .1) (c .before .before .before .before .before .check-name .ensures L refl refl))
 
 returns-2 : tie.Need-returns-2
 returns-2 c =
     let a = c .before .before .before .before .before .before .before .before .before .before .args in
     let L = lent (a .nodes .now) (a .references .now) (a .bytes .now) (a .counts) in
-    name-no L (a .h) _ (accepted (handle-checked (a .h)) L (c .before .before .before .before .enum-told .given .1) (c .before .before .before .before .before .before .begin-handle .ensures .0)) (not-accepted (check-names (a .h ∷ [])) L (c .before .q .given .1) (c .before .before .before .check-name .ensures L refl refl))
+    name-no L (a .h) _ (accepted (handles-checked (a .h ∷ [])) L (c .before .before .before .before .enum-told .given .1) (c .before .before .before .before .before .before .begin-handle .ensures .0)) (not-accepted (check-names (a .h ∷ [])) L (c .before .q .given .1) (c .before .before .before .check-name .ensures L refl refl))
 
 returns-3 : tie.Need-returns-3
 returns-3 c =
     let a = c .before .before .before .before .before .before .before .args in
     let L = lent (a .nodes .now) (a .references .now) (a .bytes .now) (a .counts) in
-    name-stop L (a .h) _ (not-accepted (handle-checked (a .h)) L (c .before .q2 .given .1) (c .before .before .before .begin-handle .ensures .0))
+    name-stop L (a .h) _ (not-accepted (handles-checked (a .h ∷ [])) L (c .before .q2 .given .1) (c .before .before .before .begin-handle .ensures .0))
 
 pub get-symbol-spec : {M : Type 1} → statement M
 get-symbol-spec =

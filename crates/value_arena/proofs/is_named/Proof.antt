@@ -1,9 +1,8 @@
 -- The proof of is_named.
 use borrow.Author.Needs.{needs}
 use native.Mathlib.Omega.{arith}
-use Prim.Native.Nat.{ℕ}
-use mathlib.Core.Path.{sym, ap, _∙_}
-use lib.ListN.{length, drop, take}
+use mathlib.Core.Path.{sym, _∙_}
+use lib.ListN.{drop, take}
 use Rattle.definition.specs.Node.{equal}
 use Rattle.value_arena.proofs.Names.{no-symbol, other-length, same-name, stored-in}
 use Rattle.value_arena.proofs.is_named.Statement.{statement}
@@ -60,7 +59,7 @@ returns-3 c =
     let a = c .before .before .before .before .before .before .before .before .before .before .before .before .before .args in
     λ A e f s.
     c .same-bytes .ensures
-    ∙ ap (λ (k : ℕ). equal (a .name .now) (take (length (a .name .now)) (drop k (a .bytes .now)))) (c .before .before .before .size2 .ensures)
+    ∙ (λ j. equal (take (c .before .before .before .before .before .before .size .ensures j) (a .name .now)) (take (c .before .before .before .before .before .before .size .ensures j) (drop (c .before .before .before .size2 .ensures j) (a .bytes .now))))
     ∙ same-name A (a .count) (a .nodes .now) (a .i) (a .name .now) e (c .before .before .before .before .before .before .before .before .before .before .before .before .before .pre .0) (c .before .before .before .before .before .before .before .before .before .before .before .before .before .pre .1) (a .bytes .now) (a .stored) f (c .before .before .before .before .before .before .before .before .if1 .left) (sym (c .before .before .before .before .before .before .size .ensures) ∙ c .before .before .before .before .before .if2 .left) (omega (arith, c .before .before .before .before .before .before .size .ensures, c .before .before .before .size2 .ensures, c .before .before .if3 .taken, c .before .if4 .taken))
 
 returns-4 : tie.Need-returns-4

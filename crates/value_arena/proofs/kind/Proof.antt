@@ -2,7 +2,8 @@
 use borrow.Author.Needs.{needs}
 use native.Mathlib.Omega.{arith}
 use mathlib.Core.Path.{refl}
-use Rattle.definition.specs.Build.{lent, handle-checked}
+use mathlib.Core.List.{[], _∷_}
+use Rattle.definition.specs.Build.{lent, handles-checked}
 use Rattle.value_arena.proofs.Calls.{accepted, not-accepted, fit-of, below-of, inside, kind-ok, kind-no}
 use Rattle.value_arena.proofs.kind.Statement.{statement}
 use Rattle.value_arena.proofs.kind.Tie as tie
@@ -34,13 +35,13 @@ returns : tie.Need-returns
 returns c =
     let a = c .before .before .before .before .before .before .before .before .args in
     let L = lent (a .nodes .now) (a .references .now) (a .bytes .now) (a .counts) in
-    kind-ok L (a .h) _ (c .before .size .ensures) (inside (fit-of _ _ _ _ _ (c .before .before .enum-told .given .1) (c .before .before .before .before .begin-handle .ensures .1 .0)) (below-of _ _ (c .before .before .enum-told .given .1) (c .before .before .before .before .begin-handle .ensures .1 .1)) refl) (accepted (handle-checked (a .h)) L (c .before .before .enum-told .given .1) (c .before .before .before .before .begin-handle .ensures .0))
+    kind-ok L (a .h) _ (c .before .size .ensures) (inside (fit-of _ _ _ _ _ (c .before .before .enum-told .given .1) (c .before .before .before .before .begin-handle .ensures .1 .0)) (below-of _ _ (c .before .before .enum-told .given .1) (c .before .before .before .before .begin-handle .ensures .1 .1)) refl) (accepted (handles-checked (a .h ∷ [])) L (c .before .before .enum-told .given .1) (c .before .before .before .before .begin-handle .ensures .0))
 
 returns-2 : tie.Need-returns-2
 returns-2 c =
     let a = c .before .before .before .before .before .before .before .args in
     let L = lent (a .nodes .now) (a .references .now) (a .bytes .now) (a .counts) in
-    kind-no L (a .h) _ (not-accepted (handle-checked (a .h)) L (c .before .q .given .1) (c .before .before .before .begin-handle .ensures .0))
+    kind-no L (a .h) _ (not-accepted (handles-checked (a .h ∷ [])) L (c .before .q .given .1) (c .before .before .before .begin-handle .ensures .0))
 
 pub kind-spec : {M : Type 1} → statement M
 kind-spec =

@@ -1,7 +1,8 @@
 -- The proof of replace_root.
 use borrow.Author.Needs.{needs}
 use mathlib.Core.Path.{ap, _∙_}
-use Rattle.definition.specs.Build.{lent, handle-checked, exchange-root}
+use mathlib.Core.List.{[], _∷_}
+use Rattle.definition.specs.Build.{lent, handles-checked, exchange-root}
 use Rattle.value_arena.specs.Calls.{built}
 use Rattle.value_arena.proofs.Calls.{accepted, not-accepted, root-set, root-not-set, build-no}
 use Rattle.value_arena.proofs.replace_root.Statement.{statement}
@@ -23,13 +24,13 @@ returns : tie.Need-returns
 returns c =
     let a = c .before .before .before .before .before .before .args in
     let L = lent (a .nodes .now) (a .references .now) (a .bytes .now) (a .counts) in
-    root-set L (a .h) (accepted (handle-checked (a .h)) L (c .enum-told .given .1) (c .before .before .begin-handle .ensures .0))
+    root-set L (a .h) (accepted (handles-checked (a .h ∷ [])) L (c .enum-told .given .1) (c .before .before .begin-handle .ensures .0))
 
 returns-2 : tie.Need-returns-2
 returns-2 c =
     let a = c .before .before .before .before .before .before .before .before .args in
     let L = lent (a .nodes .now) (a .references .now) (a .bytes .now) (a .counts) in
-    ap (λ r. built r (a .nodes .now) (a .references .now) (a .bytes .now)) (c .refused .ensures) ∙ build-no L (exchange-root (a .h)) _ (root-not-set L (a .h) _ (not-accepted (handle-checked (a .h)) L (c .before .before .q .given .1) (c .before .before .before .before .begin-handle .ensures .0)))
+    ap (λ r. built r (a .nodes .now) (a .references .now) (a .bytes .now)) (c .refused .ensures) ∙ build-no L (exchange-root (a .h)) _ (root-not-set L (a .h) _ (not-accepted (handles-checked (a .h ∷ [])) L (c .before .before .q .given .1) (c .before .before .before .before .begin-handle .ensures .0)))
 
 pub replace-root-spec : {M : Type 1} → statement M
 replace-root-spec =

@@ -1,9 +1,11 @@
 -- The proof of reading.
 use borrow.Author.Needs.{needs}
-use Rattle.definition.specs.Build.{lent, handle-checked}
+use mathlib.Core.List.{[], _∷_}
+use Rattle.definition.specs.Build.{lent, handles-checked}
 use Rattle.value_arena.proofs.Calls.{accepted, not-accepted, below-of}
 use Rattle.weight.proofs.Rows.{is-inside, has-it}
-use Rattle.weight.proofs.Steps.{was-checked, reading-is, reading-not}
+use Rattle.well_formed.specs.Checks.{was-checked}
+use Rattle.weight.proofs.Steps.{reading-is, reading-not}
 use Rattle.weight.proofs.reading.Statement.{statement}
 use Rattle.weight.proofs.reading.Tie as tie
 
@@ -19,7 +21,7 @@ read-node-requires c κs =
     let L = lent (a .nodes .now) (a .references .now) (a .bytes .now) (a .counts) in
     let e = c .before .before .begin-handle .ensures in
     let t = c .enum-told .given .1 in
-    is-inside L (a .h) (was-checked L (a .h) (accepted (handle-checked (a .h)) L t (e .0))) (below-of _ _ t (e .1 .1))
+    is-inside L (a .h) (was-checked (a .h ∷ []) L (accepted (handles-checked (a .h ∷ [])) L t (e .0))) (below-of _ _ t (e .1 .1))
 
 enum-known-q : tie.Need-enum-known-q
 enum-known-q c = search needs
@@ -30,14 +32,14 @@ returns c =
     let L = lent (a .nodes .now) (a .references .now) (a .bytes .now) (a .counts) in
     let e = c .before .before .before .begin-handle .ensures in
     let t = c .before .enum-told .given .1 in
-    let p = accepted (handle-checked (a .h)) L t (e .0) in
-    reading-is L (a .nodes .now) (a .bytes .now) (a .counts .bytes) (a .h) (has-it L (a .h) (was-checked L (a .h) p) (below-of _ _ t (e .1 .1))) (c .read-node .ensures) p
+    let p = accepted (handles-checked (a .h ∷ [])) L t (e .0) in
+    reading-is L (a .nodes .now) (a .bytes .now) (a .counts .bytes) (a .h) (has-it L (a .h) (was-checked (a .h ∷ []) L p) (below-of _ _ t (e .1 .1))) (c .read-node .ensures) p
 
 returns-2 : tie.Need-returns-2
 returns-2 c =
     let a = c .before .before .before .before .before .before .before .args in
     let L = lent (a .nodes .now) (a .references .now) (a .bytes .now) (a .counts) in
-    reading-not L (a .h) _ (not-accepted (handle-checked (a .h)) L (c .before .q .given .1) (c .before .before .before .begin-handle .ensures .0))
+    reading-not L (a .h) _ (not-accepted (handles-checked (a .h ∷ [])) L (c .before .q .given .1) (c .before .before .before .begin-handle .ensures .0))
 
 pub reading-spec : {M : Type 1} → statement M
 reading-spec =

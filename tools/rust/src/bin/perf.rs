@@ -5,12 +5,15 @@
 //
 // usage: perf                    the tables of times
 //        perf names              the bytes that a load copies and compares for recipes of 10, 100 and 1,000 names
+//        perf cost               what recipes of 10, 100 and 512 pairs cost at 1,000 prices, beside a hash map over the views
 //        perf deep CALL KIND     one load, and one dump where CALL is dump, at limit 128 of 128 levels of arrays, hashes,
 //                                defaults, objects or variables, or of nil alone (for trials of the stack)
 use beside_rust::inputs::*;
 use beside_rust::measure::measures;
 use beside_rust::walk;
 use beside_rust::Tables;
+use ruby_marshal_tables::{Node, Value};
+use std::collections::HashMap;
 use std::hint::black_box;
 use std::time::Instant;
 
@@ -106,6 +109,48 @@ fn names_table() {
     }
 }
 
+// What a recipe costs at prices, by a hash map of the names: a later pair supersedes an earlier one, a half cent goes up.
+fn cost_by_map(recipe: Node, prices: Node) -> u64 {
+    let [kilograms, cents] = [recipe, prices].map(|node| match node.value() {
+        Value::Hash(hash) => hash
+            .pairs()
+            .map(|(key, value)| match (key.value(), value.value()) {
+                (Value::Symbol(name), Value::Fixnum(amount)) => (name, amount as u64),
+                _ => panic!("a symbol and a Fixnum"),
+            })
+            .collect::<HashMap<_, _>>(),
+        _ => panic!("a hash"),
+    });
+    kilograms.iter().map(|(name, n)| (n * cents[name] + 500) / 1000).sum()
+}
+
+// The recipe's names come first among the prices, so that a search from the last price on meets nearly all of them.
+fn cost_table() {
+    println!("{:<24}{:>7}{:>8}{:>11}{:>11}{:>13}", "batch_cost", "pairs", "prices", "ours µs", "its check", "hash map µs");
+    for (kind, name) in NAMINGS {
+        let names: Vec<String> = (0..1000).map(name).collect();
+        for n in [10, 100, 512] {
+            let input = batch(&names, n);
+            let mut tables = Tables::ample(input.len());
+            assert_eq!(tables.load(&input, LIMIT).number, 0);
+            let arena = tables.arena().expect("an arena that load filled");
+            let Value::Array(root) = arena.root().value() else { panic!("an array") };
+            let [recipe, prices] = [0, 1].map(|i| root.get(i).expect("a hash"));
+            assert_eq!(arena.batch_cost(recipe.handle(), prices.handle()), Ok(cost_by_map(recipe, prices)));
+            let mut ours = || {
+                black_box(black_box(&arena).batch_cost(recipe.handle(), prices.handle())).unwrap();
+            };
+            let mut check = || {
+                black_box(black_box(&tables).check());
+            };
+            let [ours, check, map] = times([&mut ours, &mut check, &mut || {
+                black_box(cost_by_map(black_box(recipe), black_box(prices)));
+            }]);
+            println!("{:<24}{:>7}{:>8}{:>11.2}{:>11.2}{:>13.2}", kind, n, 1000, ours / 1000.0, check / 1000.0, map / 1000.0);
+        }
+    }
+}
+
 // The inputs are in dump form, so the output just holds what is written. The Rust writes into a vector that has the room.
 fn dump_row(name: &str, input: &[u8]) {
     let mut tables = tables_filled(input);
@@ -182,6 +227,9 @@ fn main() {
     }
     if words.len() == 2 && words[1] == "names" {
         return names_table();
+    }
+    if words.len() == 2 && words[1] == "cost" {
+        return cost_table();
     }
     let inputs = [
         ("small recipe", batches(900)),

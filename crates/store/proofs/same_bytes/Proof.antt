@@ -6,9 +6,9 @@ use mathlib.Core.Path.{_≡_, sym}
 use mathlib.Core.Bool.{true}
 use lib.ListN.{take, drop}
 use Rattle.definition.specs.Node.{equal}
-use Rattle.loader.proofs.Names.{same-none, same-more, same-apart-at}
-use Rattle.loader.proofs.same_bytes.Statement.{statement}
-use Rattle.loader.proofs.same_bytes.Tie as tie
+use Rattle.lists.specs.Same.{same-none, same-more, same-apart-at}
+use Rattle.store.proofs.same_bytes.Statement.{statement}
+use Rattle.store.proofs.same_bytes.Tie as tie
 
 abbrev Inv-loop : tie.InvT-loop
 Inv-loop input from bytes to n i₀ i =

@@ -1,0 +1,2 @@
+-- What the contracts say by words of the tables: pairs, and the last of a name.
+pub mod Tables

@@ -1,0 +1,1 @@
+// Theorems only: what a recipe costs, whatever the order of its pairs.

@@ -1,0 +1,2 @@
+-- What the program cost answers.
+pub mod Batch
