@@ -542,29 +542,33 @@ fn weigh_case(case: &Case) -> bool {
     weighed.is_ok()
 }
 
-// Slices past the greatest length.
-fn huge_weighing(case: &Case) -> Option<()> {
-    let sizes: Vec<usize> = case.field("sizes").list().iter().map(|n| n.number() as usize).collect();
-    let (nodes, references, bytes) = (huge::<u32>(sizes[0])?, huge::<u32>(sizes[1])?, huge::<u8>(sizes[2])?);
-    let (dry, moisture) = (case.size("dry") as u32, case.size("moisture") as u32);
-    let weighed = calls::wet_weight(&nodes, &references, &bytes, case.counts("counts"), dry, moisture);
-    assert_eq!(numbers(&weighed), case.answer(), "{}", case.id());
-    Some(())
+// The cases of a call over an arena: `call` says whether it is accepted; with slices past the greatest length, which a case only
+// gives the lengths of, `refused` tells its answer.
+fn over_arenas(file: &str, call: fn(&Case) -> bool, refused: fn(&Case, &[u32], &[u32], &[u8]) -> (u32, i64, u64)) {
+    let large = |case: &Case| {
+        let sizes: Vec<usize> = case.field("sizes").list().iter().map(|n| n.number() as usize).collect();
+        let (nodes, references, bytes) = (huge::<u32>(sizes[0])?, huge::<u32>(sizes[1])?, huge::<u8>(sizes[2])?);
+        assert_eq!(refused(case, &nodes, &references, &bytes), case.answer(), "{}", case.id());
+        Some(())
+    };
+    let mut met = [0; 3];
+    for case in corpus(file) {
+        if case.has("huge") {
+            met[2] += usize::from(large(&case).is_some());
+        } else {
+            met[usize::from(!call(&case))] += 1;
+        }
+    }
+    let [accepted, refused, large] = met;
+    println!("{file}: {accepted} accepted, {refused} refused, {large} with slices past the greatest length");
 }
 
 #[test]
 fn weighings() {
-    let (mut accepted, mut refused, mut large) = (0, 0, 0);
-    for case in corpus(WEIGHINGS) {
-        if case.has("huge") {
-            large += usize::from(huge_weighing(&case).is_some());
-        } else if weigh_case(&case) {
-            accepted += 1;
-        } else {
-            refused += 1;
-        }
-    }
-    println!("weigh: {accepted} accepted, {refused} refused, {large} with slices past the greatest length");
+    over_arenas(WEIGHINGS, weigh_case, |case, nodes, references, bytes| {
+        let (dry, moisture) = (case.size("dry") as u32, case.size("moisture") as u32);
+        numbers(&calls::wet_weight(nodes, references, bytes, case.counts("counts"), dry, moisture))
+    });
 }
 
 // ---- costs
@@ -623,29 +627,12 @@ fn cost_case(case: &Case) -> bool {
     cost.is_ok()
 }
 
-// Slices past the greatest length.
-fn huge_cost(case: &Case) -> Option<()> {
-    let sizes: Vec<usize> = case.field("sizes").list().iter().map(|n| n.number() as usize).collect();
-    let (nodes, references, bytes) = (huge::<u32>(sizes[0])?, huge::<u32>(sizes[1])?, huge::<u8>(sizes[2])?);
-    let (recipe, prices) = (case.size("recipe") as u32, case.size("prices") as u32);
-    let cost = calls::batch_cost(&nodes, &references, &bytes, case.counts("counts"), recipe, prices);
-    assert_eq!(numbers(&cost), case.answer(), "{}", case.id());
-    Some(())
-}
-
 #[test]
 fn costs() {
-    let (mut accepted, mut refused, mut large) = (0, 0, 0);
-    for case in corpus(COSTS) {
-        if case.has("huge") {
-            large += usize::from(huge_cost(&case).is_some());
-        } else if cost_case(&case) {
-            accepted += 1;
-        } else {
-            refused += 1;
-        }
-    }
-    println!("cost: {accepted} accepted, {refused} refused, {large} with slices past the greatest length");
+    over_arenas(COSTS, cost_case, |case, nodes, references, bytes| {
+        let (recipe, prices) = (case.size("recipe") as u32, case.size("prices") as u32);
+        numbers(&calls::batch_cost(nodes, references, bytes, case.counts("counts"), recipe, prices))
+    });
 }
 
 // ---- pairs
