@@ -68,7 +68,8 @@ enum ruby_marshal_slice {
     RUBY_MARSHAL_SLICE_LIMIT = 7,      /* no slice: the limit */
     RUBY_MARSHAL_SLICE_INPUT = 8,      /* the input, or a builder's byte string */
     RUBY_MARSHAL_SLICE_LIST = 9,       /* a builder's members or pairs */
-    RUBY_MARSHAL_SLICE_SCRATCH = 10    /* dump scratch: at least one word for each node that the node table can hold */
+    RUBY_MARSHAL_SLICE_SCRATCH = 10,   /* dump scratch: at least one word for each node that the node table can hold */
+    RUBY_MARSHAL_SLICE_BUCKETS = 11    /* bucket table: likewise */
 };
 
 /* The greatest limit: levels of nesting. */
@@ -86,6 +87,7 @@ enum ruby_marshal_slice {
 #define RUBY_MARSHAL_ANSWER_WORDS 10u /* enough for every function */
 #define RUBY_MARSHAL_LOAD_WORDS 8u
 #define RUBY_MARSHAL_LOAD_MEASURED_WORDS 10u
+#define RUBY_MARSHAL_LOAD_HASHED_WORDS 9u
 #define RUBY_MARSHAL_DUMP_WORDS 3u
 #define RUBY_MARSHAL_NEW_WORDS 6u
 #define RUBY_MARSHAL_ROOT_WORDS 3u
@@ -102,14 +104,15 @@ enum ruby_marshal_slice {
 enum ruby_marshal_answer {
     RUBY_MARSHAL_FIRST = 0,      /* first detail, in two's complement: ruby_marshal_detail */
     RUBY_MARSHAL_SECOND = 1,     /* second detail, never below 0 */
-    RUBY_MARSHAL_NODES = 2,      /* load, load_measured, new, replace_root, create_: the four counts */
+    RUBY_MARSHAL_NODES = 2,      /* the loads, new, replace_root, create_: the four counts */
     RUBY_MARSHAL_REFERENCES = 3,
     RUBY_MARSHAL_BYTES = 4,
     RUBY_MARSHAL_ROOT = 5,
-    RUBY_MARSHAL_USED = 6,       /* load, load_measured: bytes of input used, */
-    RUBY_MARSHAL_DUMP_FORM = 7,  /*       and 1 where they are in dump form, else 0 */
+    RUBY_MARSHAL_USED = 6,       /* the loads: bytes of input used, */
+    RUBY_MARSHAL_DUMP_FORM = 7,  /*            and 1 where they are in dump form, else 0 */
     RUBY_MARSHAL_COPIED = 8,     /* load_measured: bytes copied to the byte table, */
     RUBY_MARSHAL_COMPARED = 9,   /*                and bytes compared in searches for names */
+    RUBY_MARSHAL_LOOKED = 8,     /* load_hashed: words of the bucket table looked at */
     RUBY_MARSHAL_HANDLE = 6,     /* create_: the node; replace_root: the old root */
     RUBY_MARSHAL_WRITTEN = 2,    /* dump: bytes of output written */
     RUBY_MARSHAL_VALUE = 2,      /* root: the root's node; kind: the node's kind */
@@ -217,6 +220,31 @@ uint32_t ruby_marshal_load_measured(
     uint8_t *bytes, size_t bytes_length,
     uint32_t *symbols, size_t symbols_length,
     uint32_t *objects, size_t objects_length,
+    uint32_t limit,
+    uint64_t *answer, size_t answer_length);
+
+/*
+ * ruby_marshal_load, with the search for names by a bucket table: takes what load takes, and leaves in tables and lists what
+ * load leaves. load compares a name with all known ones of its length, this one with one or two, however many are known. With
+ * few names load is faster by some hundredths.
+ *
+ * The bucket table has at least one word for each node that the node table can hold. With two a node searches stay short; with
+ * one they grow where the nodes are names and little else. What it holds before the call does not matter.
+ *
+ * Answers: load's eight words, then the words of the bucket table looked at, 0 where it is refused.
+ * Looked at: a name that is written out (`:`), as a value or as a name, is searched for from the word numbered FNV-1a of its
+ * bytes (32 bits) modulo the table's words, upwards and round, to the word that holds its node or to one that is 0, which is
+ * looked at too. A link to a name (`;`) looks at nothing.
+ * Refused with 1 (slices 1 2 3 4 5 7 8 11): nothing is touched. After every other answer the bucket table is zero.
+ */
+uint32_t ruby_marshal_load_hashed(
+    const uint8_t *input, size_t input_length,
+    uint32_t *nodes, size_t nodes_length,
+    uint32_t *references, size_t references_length,
+    uint8_t *bytes, size_t bytes_length,
+    uint32_t *symbols, size_t symbols_length,
+    uint32_t *objects, size_t objects_length,
+    uint32_t *buckets, size_t buckets_length,
     uint32_t limit,
     uint64_t *answer, size_t answer_length);
 

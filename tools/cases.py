@@ -16,7 +16,7 @@ FILES = {"load": ["load-tight", "load-list", "saved", "load"], "dump": ["dump"],
          "weigh": ["weigh"], "cost": ["cost"]}
 
 # The requests of document 02 that are in, as the marks name them.
-IN = {"2.1", "2.2", "2.3", "2.4", "2.5", "2.6", "2.7"}
+IN = {"2.1", "2.2", "2.3", "2.4", "2.5", "2.6", "2.7", "2.8"}
 
 
 def name_of(label):
@@ -61,10 +61,11 @@ def compared(a, b):
 
 class Walk:
     """A walk over an input that load accepts, which knows document 02's reasons for no, and nothing of dump or tables: `form` is
-    whether it met none of them, `used` where it ended, `copied` and `compared` what the measuring load counts."""
+    whether it met none of them, `used` where it ended, `copied` and `compared` what the measuring load counts, `read` the names
+    read in full and `names` those that are new, in their order."""
 
     def __init__(self, text):
-        self.text, self.names = text, []
+        self.text, self.names, self.read = text, [], []
         self.form, self.used, self.copied, self.compared = text[1] == 8, 2, 0, 0
         self.value()
 
@@ -103,6 +104,7 @@ class Walk:
             self.integer()
             return
         name = self.take(self.integer())
+        self.read.append(name)
         known = self.search(name)
         self.meet(not known)
         if not known:
@@ -143,19 +145,44 @@ class Walk:
             self.variables()
 
 
+def fnv_1a(name):
+    """The hash of 2.8, 32 bits."""
+    found = 2166136261
+    for byte in name:
+        found = (found ^ byte) * 16777619 % 2 ** 32
+    return found
+
+
+def looked(names, size):
+    """How many of a bucket table's words are looked at in searches for these names, one after the other."""
+    table, total = [None] * size, 0
+    for name in names:
+        at, total = fnv_1a(name) % size, total + 1
+        while table[at] not in (None, name):
+            at, total = (at + 1) % size, total + 1
+        table[at] = name
+    return total
+
+
 def noted(case):
-    """What load and the measuring load say of a case besides the tables: dump form, bytes copied and bytes compared."""
+    """What load, the measuring and the hashed load say of a case besides the tables: dump form, bytes copied and compared, words of
+    the bucket table looked at."""
     if case["answer"][0]:
-        return {"dump_form": 0, "copied": 0, "compared": 0}
+        return {"dump_form": 0, "copied": 0, "compared": 0, "looked": 0}
     walk = Walk(bytes.fromhex(case["in"]))
     if (walk.used, walk.copied) != (case["used"], case["counts"][2]):
         raise SystemExit("%s: %d bytes used and %d kept, walked over %d with %d" % (
             case["id"], case["used"], case["counts"][2], walk.used, walk.copied))
-    return {"dump_form": int(walk.form), "copied": walk.copied, "compared": walk.compared}
+    return {"dump_form": int(walk.form), "copied": walk.copied, "compared": walk.compared,
+            "looked": 0 if case["hashed"][0] else looked(walk.read, case["buckets"])}
 
 
 def settle_noted(case):
-    """What a corpus says of these must be what the walk finds; where it says nothing, that is expected."""
+    """What a corpus says of these must be what the walk finds; where it says nothing, that is expected. A case without a bucket table
+    is given one of a word a node."""
+    case.setdefault("hashed", case["answer"])
+    if "sizes" in case:
+        case.setdefault("buckets", case["sizes"][0] // 7)
     for what, found in noted(case).items():
         if case.setdefault(what, found) != found:
             raise SystemExit("%s: %s %d, walked %d" % (case["id"], what, case[what], found))

@@ -50,7 +50,7 @@ struct bytes {
     size_t length;
 };
 
-static uint32_t *word_room[5];
+static uint32_t *word_room[6];
 static uint8_t *byte_room[3];
 static uint64_t *answer_room;
 static double *double_room;
@@ -73,7 +73,7 @@ static struct bytes bytes(int which, size_t length)
 
 /* ---- everything that a call is lent ---- */
 
-enum { NODES, REFERENCES, SYMBOLS, OBJECTS, SCRATCH };
+enum { NODES, REFERENCES, SYMBOLS, OBJECTS, BUCKETS, SCRATCH };
 enum { INPUT, BYTES, OUTPUT };
 
 struct lent {
@@ -83,6 +83,7 @@ struct lent {
     struct bytes bytes;
     struct words symbols;
     struct words objects;
+    struct words buckets;
     struct words scratch;
     struct bytes output;
     uint64_t *answer;
@@ -92,6 +93,7 @@ struct lent {
     struct ruby_marshal_counts counts;
 };
 
+/* The bucket table is as short as it may be. */
 static struct lent lend(size_t input, size_t nodes, size_t references, size_t byte_count, size_t lists, size_t scratch, size_t output)
 {
     struct lent l;
@@ -101,6 +103,7 @@ static struct lent lend(size_t input, size_t nodes, size_t references, size_t by
     l.bytes = bytes(BYTES, byte_count);
     l.symbols = words(SYMBOLS, lists);
     l.objects = words(OBJECTS, lists);
+    l.buckets = words(BUCKETS, nodes / RUBY_MARSHAL_NODE_WORDS);
     l.scratch = words(SCRATCH, scratch);
     l.output = bytes(OUTPUT, output);
     l.answer = answer_room + ROOM - RUBY_MARSHAL_ANSWER_WORDS;
@@ -112,16 +115,16 @@ static struct lent lend(size_t input, size_t nodes, size_t references, size_t by
 }
 
 /* What all rooms hold, to be compared with later. */
-static uint8_t kept[5 * ROOM * 4 + 3 * ROOM + 2 * ROOM * 8];
+static uint8_t kept[6 * ROOM * 4 + 3 * ROOM + 2 * ROOM * 8];
 
 static size_t each_room(uint8_t *to, const uint8_t *other)
 {
     size_t at = 0, differ = 0;
     int i;
-    for (i = 0; i < 10; i++) {
-        const uint8_t *room = i < 5 ? (const uint8_t *)word_room[i]
-            : i < 8 ? byte_room[i - 5] : i < 9 ? (const uint8_t *)answer_room : (const uint8_t *)double_room;
-        size_t size = i < 5 ? ROOM * 4 : i < 8 ? ROOM : ROOM * 8;
+    for (i = 0; i < 11; i++) {
+        const uint8_t *room = i < 6 ? (const uint8_t *)word_room[i]
+            : i < 9 ? byte_room[i - 6] : i < 10 ? (const uint8_t *)answer_room : (const uint8_t *)double_room;
+        size_t size = i < 6 ? ROOM * 4 : i < 9 ? ROOM : ROOM * 8;
         if (to != NULL)
             memcpy(to + at, room, size);
         else
@@ -144,15 +147,15 @@ static bool untouched(void)
 /* ---- each function over what is lent ---- */
 
 enum call {
-    LOAD, LOAD_MEASURED, DUMP, ROOT, KIND, GET, GET_SYMBOL, READING, WET_WEIGHT, BATCH_COST, NEW, REPLACE_ROOT, CREATE_NIL,
-    CREATE_BOOL, CREATE_FIXNUM, CREATE_SYMBOL, CREATE_NEW_SYMBOL, CREATE_ARRAY, CREATE_HASH, CREATE_OBJECT, CREATE_STRING,
-    CREATE_USER_DEFINED, CREATE_FLOAT, CREATE_BIGNUM, CALLS
+    LOAD, LOAD_MEASURED, LOAD_HASHED, DUMP, ROOT, KIND, GET, GET_SYMBOL, READING, WET_WEIGHT, BATCH_COST, NEW, REPLACE_ROOT,
+    CREATE_NIL, CREATE_BOOL, CREATE_FIXNUM, CREATE_SYMBOL, CREATE_NEW_SYMBOL, CREATE_ARRAY, CREATE_HASH, CREATE_OBJECT,
+    CREATE_STRING, CREATE_USER_DEFINED, CREATE_FLOAT, CREATE_BIGNUM, CALLS
 };
 
 static const size_t answer_words[CALLS] = {
-    RUBY_MARSHAL_LOAD_WORDS, RUBY_MARSHAL_LOAD_MEASURED_WORDS, RUBY_MARSHAL_DUMP_WORDS, RUBY_MARSHAL_ROOT_WORDS,
-    RUBY_MARSHAL_KIND_WORDS, RUBY_MARSHAL_GET_WORDS, RUBY_MARSHAL_GET_SYMBOL_WORDS, RUBY_MARSHAL_READING_WORDS,
-    RUBY_MARSHAL_WET_WEIGHT_WORDS, RUBY_MARSHAL_BATCH_COST_WORDS, RUBY_MARSHAL_NEW_WORDS,
+    RUBY_MARSHAL_LOAD_WORDS, RUBY_MARSHAL_LOAD_MEASURED_WORDS, RUBY_MARSHAL_LOAD_HASHED_WORDS, RUBY_MARSHAL_DUMP_WORDS,
+    RUBY_MARSHAL_ROOT_WORDS, RUBY_MARSHAL_KIND_WORDS, RUBY_MARSHAL_GET_WORDS, RUBY_MARSHAL_GET_SYMBOL_WORDS,
+    RUBY_MARSHAL_READING_WORDS, RUBY_MARSHAL_WET_WEIGHT_WORDS, RUBY_MARSHAL_BATCH_COST_WORDS, RUBY_MARSHAL_NEW_WORDS,
     RUBY_MARSHAL_CREATE_WORDS, RUBY_MARSHAL_CREATE_WORDS, RUBY_MARSHAL_CREATE_WORDS, RUBY_MARSHAL_CREATE_WORDS,
     RUBY_MARSHAL_CREATE_WORDS, RUBY_MARSHAL_CREATE_WORDS, RUBY_MARSHAL_CREATE_WORDS, RUBY_MARSHAL_CREATE_WORDS,
     RUBY_MARSHAL_CREATE_WORDS, RUBY_MARSHAL_CREATE_WORDS, RUBY_MARSHAL_CREATE_WORDS, RUBY_MARSHAL_CREATE_WORDS,
@@ -175,6 +178,7 @@ struct given {
 #define TABLES l->nodes.at, l->nodes.length, l->references.at, l->references.length, l->bytes.at, l->bytes.length
 #define INPUT_OF l->input.at, l->input.length
 #define LISTS l->symbols.at, l->symbols.length, l->objects.at, l->objects.length
+#define BUCKETS_OF l->buckets.at, l->buckets.length
 #define COUNTS l->counts.nodes, l->counts.references, l->counts.bytes, l->counts.root
 #define ANSWER l->answer, l->answer_length
 #define DOUBLES l->doubles, l->doubles_length
@@ -185,6 +189,7 @@ static uint32_t call(enum call which, const struct lent *l, struct given g)
     switch (which) {
     case LOAD: return ruby_marshal_load(INPUT_OF, TABLES, LISTS, g.number, ANSWER);
     case LOAD_MEASURED: return ruby_marshal_load_measured(INPUT_OF, TABLES, LISTS, g.number, ANSWER);
+    case LOAD_HASHED: return ruby_marshal_load_hashed(INPUT_OF, TABLES, LISTS, BUCKETS_OF, g.number, ANSWER);
     case DUMP:
         return ruby_marshal_dump(TABLES, COUNTS, l->scratch.at, l->scratch.length, l->output.at, l->output.length, g.number, ANSWER);
     case ROOT: return ruby_marshal_root(TABLES, COUNTS, ANSWER);
@@ -658,7 +663,31 @@ static void dump_form(void)
     }
 }
 
-/* What the measuring load counts; the rest of its answer is load's. */
+/* Another load of an input of at most two levels: its answer begins with load's, and it leaves what load leaves. */
+static void loads_alike(enum call which, struct lent *l)
+{
+    uint64_t loaded[RUBY_MARSHAL_LOAD_WORDS], more[RUBY_MARSHAL_ANSWER_WORDS];
+    size_t i;
+    accepted(LOAD, l, give(2));
+    memcpy(loaded, l->answer, sizeof loaded);
+    memset(l->buckets.at, which == LOAD_HASHED ? 0 : 0xA5, l->buckets.length * 4);
+    keep();
+    memset(l->nodes.at, 0xA5, l->nodes.length * 4);
+    memset(l->references.at, 0xA5, l->references.length * 4);
+    memset(l->bytes.at, 0xA5, l->bytes.length);
+    memset(l->symbols.at, 0xA5, l->symbols.length * 4);
+    memset(l->objects.at, 0xA5, l->objects.length * 4);
+    memset(l->buckets.at, 0xA5, l->buckets.length * 4);
+    accepted(which, l, give(2));
+    EXPECT(memcmp(loaded, l->answer, sizeof loaded) == 0);
+    memcpy(more, l->answer, sizeof more);
+    for (i = RUBY_MARSHAL_LOAD_WORDS; i < answer_words[which]; i++)
+        l->answer[i] = UINT64_MAX - i;
+    EXPECT(untouched());
+    memcpy(l->answer, more, sizeof more);
+}
+
+/* What the measuring load counts. */
 static void measured(void)
 {
     static const struct {
@@ -679,27 +708,47 @@ static void measured(void)
     size_t i;
     for (i = 0; i < sizeof cases / sizeof cases[0]; i++) {
         struct lent l = lend(cases[i].length, 4 * 7, 3, 4, 3, 0, 0);
-        uint64_t loaded[RUBY_MARSHAL_LOAD_WORDS];
         put(&l, cases[i].input);
-        accepted(LOAD, &l, give(2));
-        memcpy(loaded, l.answer, sizeof loaded);
-        keep();
-        memset(l.nodes.at, 0xA5, l.nodes.length * 4);
-        memset(l.references.at, 0xA5, l.references.length * 4);
-        memset(l.bytes.at, 0xA5, l.bytes.length);
-        memset(l.symbols.at, 0xA5, l.symbols.length * 4);
-        memset(l.objects.at, 0xA5, l.objects.length * 4);
-        accepted(LOAD_MEASURED, &l, give(2));
-        EXPECT(memcmp(loaded, l.answer, sizeof loaded) == 0);
+        loads_alike(LOAD_MEASURED, &l);
         EXPECT(l.answer[RUBY_MARSHAL_COPIED] == cases[i].copied && l.answer[RUBY_MARSHAL_COMPARED] == cases[i].compared);
         EXPECT(l.answer[RUBY_MARSHAL_BYTES] == cases[i].copied);
-        l.answer[RUBY_MARSHAL_COPIED] = UINT64_MAX - RUBY_MARSHAL_COPIED;
-        l.answer[RUBY_MARSHAL_COMPARED] = UINT64_MAX - RUBY_MARSHAL_COMPARED;
-        EXPECT(untouched());
     }
 }
 
-/* Each refusal of both loads, with its details and their signs. */
+/* The words that the hashed load looks at. Of 4 words, a and e start at the first, b and f at the next, d and h at the last. */
+static void hashed(void)
+{
+    static const struct {
+        const char *input;
+        size_t length, buckets;
+        uint64_t looked;
+    } cases[] = {
+        { "\x04\x08" "0", 3, 4, 0 },
+        { "\x04\x08:\x06" "a", 5, 4, 1 },
+        { "\x04\x08[\x07:\x06" "a:\x06" "a", 10, 4, 2 },
+        { "\x04\x08[\x07:\x06" "a:\x06" "d", 10, 4, 2 },
+        { "\x04\x08[\x07:\x06" "a:\x06" "e", 10, 4, 3 },
+        { "\x04\x08[\x07:\x06" "b:\x06" "f", 10, 4, 3 },
+        { "\x04\x08[\x07:\x06" "d:\x06" "h", 10, 4, 3 }, /* h goes round */
+        { "\x04\x08[\x08:\x06" "d:\x06" "h:\x06" "h", 13, 4, 5 },
+        { "\x04\x08[\x08:\x06" "d:\x06" "h;\x06", 12, 4, 3 },
+        { "\x04\x08[\x07:\x06" "a:\x06" "e", 10, 5, 2 },
+        { "\x04\x08[\x07:\x06" "c:\x06" "d", 10, 5, 3 },
+        { "\x04\x08[\x07\"\x06" "a:\x06" "a", 10, 4, 1 },
+        { "\x04\x08[\x07:\x00:\x00", 8, 4, 2 },
+        { "\x04\x08o:\x06" "a\x06:\x06" "af\x06" "1", 13, 4, 2 },
+    };
+    size_t i;
+    for (i = 0; i < sizeof cases / sizeof cases[0]; i++) {
+        struct lent l = lend(cases[i].length, 4 * 7, 3, 4, 3, 0, 0);
+        l.buckets = words(BUCKETS, cases[i].buckets);
+        put(&l, cases[i].input);
+        loads_alike(LOAD_HASHED, &l);
+        EXPECT(l.answer[RUBY_MARSHAL_LOOKED] == cases[i].looked);
+    }
+}
+
+/* Each refusal of the loads, with its details and their signs. */
 static void refusals(void)
 {
     static const struct {
@@ -731,13 +780,15 @@ static void refusals(void)
     size_t i;
     for (i = 0; i < sizeof cases / sizeof cases[0]; i++) {
         int which;
-        for (which = LOAD; which <= LOAD_MEASURED; which++) {
+        for (which = LOAD; which <= LOAD_HASHED; which++) {
             struct lent l = lend(cases[i].length, 3 * 7, 2, 2, 2, 0, 0);
             put(&l, cases[i].input);
             memset(l.answer, 0xA5, RUBY_MARSHAL_ANSWER_WORDS * 8);
+            memset(l.buckets.at, 0xA5, l.buckets.length * 4);
             refused((enum call)which, &l, give(cases[i].limit), cases[i].number, cases[i].first, cases[i].second);
             EXPECT(l.answer[RUBY_MARSHAL_NODES] == (cases[i].number == RUBY_MARSHAL_BAD_TABLES ? 0u : 1u));
             EXPECT(zero(l.answer + RUBY_MARSHAL_REFERENCES, (answer_words[which] - RUBY_MARSHAL_REFERENCES) * 8));
+            EXPECT(zero(l.buckets.at, l.buckets.length * 4) == (which == LOAD_HASHED && cases[i].number != RUBY_MARSHAL_BAD_TABLES));
         }
         EXPECT(strcmp(ruby_marshal_name(cases[i].number), "?") != 0);
     }
@@ -835,12 +886,28 @@ static void lengths(void)
         else
             accepted(DUMP, &l, give(1));
     }
+    for (n = 0; n <= 5; n++) {
+        struct lent l = lend(3, 4 * 7, 0, 0, 0, 0, 0);
+        put(&l, "\x04\x08" "0");
+        l.buckets = words(BUCKETS, n);
+        memset(l.answer, 0, RUBY_MARSHAL_ANSWER_WORDS * 8);
+        keep();
+        if (n < 4) {
+            /* after every slice of a lower number */
+            refused(LOAD_HASHED, &l, give(129), RUBY_MARSHAL_BAD_TABLES, RUBY_MARSHAL_SLICE_LIMIT, 0);
+            refused(LOAD_HASHED, &l, give(1), RUBY_MARSHAL_BAD_TABLES, RUBY_MARSHAL_SLICE_BUCKETS, 0);
+            l.answer[RUBY_MARSHAL_FIRST] = 0;
+            EXPECT(untouched());
+        } else {
+            accepted(LOAD_HASHED, &l, give(1));
+        }
+    }
 }
 
 int main(void)
 {
     int i;
-    for (i = 0; i < 5; i++)
+    for (i = 0; i < 6; i++)
         word_room[i] = (uint32_t *)slice(ROOM * 4);
     for (i = 0; i < 3; i++)
         byte_room[i] = (uint8_t *)slice(ROOM);
@@ -853,6 +920,7 @@ int main(void)
     cycle();
     dump_form();
     measured();
+    hashed();
     refusals();
     few_words();
     few_doubles();

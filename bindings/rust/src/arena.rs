@@ -63,6 +63,25 @@ pub fn load_measured<'t>(
     Ok((Arena::loaded(nodes, references, bytes, measured.load)?, measured.measures))
 }
 
+/// [`load`], with names searched for by a bucket table, and the number of its words that were looked at.
+///
+/// The table has a word or more for each node that the node table can hold, whatever it holds before; afterwards it is zero, or
+/// as it was where a slice or the limit is wrong. A search starts at the word that the name's hash says (FNV-1a, 32 bits, modulo
+/// the words) and goes up, wrapping, to the name's node or a zero word; both ends are counted. With two words a node it looks at
+/// one or two words, however many names there are, where [`load`] compares a name with all of its length; with one word a node
+/// searches grow where the nodes are names and little else. What is loaded is the same.
+pub fn load_hashed<'t>(
+    input: &[u8],
+    tables: Tables<'t>,
+    lists: Lists<'_>,
+    buckets: &mut [u32],
+    limit: u32,
+) -> Result<(Arena<'t>, u64), Refusal> {
+    let Tables { nodes, references, bytes } = tables;
+    let hashed = calls::load_hashed(input, nodes, references, bytes, lists.symbols, lists.objects, buckets, limit);
+    Ok((Arena::loaded(nodes, references, bytes, hashed.load)?, hashed.looked))
+}
+
 /// An arena that is well formed, over tables that nothing changes while it lives.
 #[derive(Clone, Copy)]
 pub struct Arena<'t> {

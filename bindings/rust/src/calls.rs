@@ -1,7 +1,7 @@
 //! The archive's functions on slices and counts, in the order of include/ruby_marshal.h, which says what each takes and leaves.
 //!
-//! They take whatever the slices and counts hold: tables that are no arena are refused. Every call but [`load`],
-//! [`load_measured`] and [`new`] looks through the whole arena first; an [`Arena`](crate::Arena) is read without that.
+//! They take whatever the slices and counts hold: tables that are no arena are refused. Every call but the loads and [`new`]
+//! looks through the whole arena first; an [`Arena`](crate::Arena) is read without that.
 use crate::{sys, Counts, Measures, Reading, Refusal, Weighing};
 
 /// What [`load`] answers.
@@ -25,6 +25,15 @@ pub struct Measured {
     pub load: Loaded,
     /// Both 0 when refused.
     pub measures: Measures,
+}
+
+/// What [`load_hashed`] answers.
+#[derive(Clone, Copy, Debug, PartialEq, Eq)]
+pub struct Hashed {
+    /// What [`load`] answers.
+    pub load: Loaded,
+    /// Words of the bucket table looked at, 0 when refused.
+    pub looked: u64,
 }
 
 /// What [`new`] answers.
@@ -95,6 +104,22 @@ pub fn load_measured(
     let told = sys::load_measured(input, nodes, references, bytes, symbols, objects, limit);
     let words = &told.words;
     Measured { load: loaded(told.number, words), measures: Measures { copied: words[8], compared: words[9] } }
+}
+
+/// [`load`], with names searched for by a bucket table, and how many of its words were looked at.
+#[allow(clippy::too_many_arguments)]
+pub fn load_hashed(
+    input: &[u8],
+    nodes: &mut [u32],
+    references: &mut [u32],
+    bytes: &mut [u8],
+    symbols: &mut [u32],
+    objects: &mut [u32],
+    buckets: &mut [u32],
+    limit: u32,
+) -> Hashed {
+    let told = sys::load_hashed(input, nodes, references, bytes, symbols, objects, buckets, limit);
+    Hashed { load: loaded(told.number, &told.words), looked: told.words[8] }
 }
 
 /// Writes the arena's root into output; the number of bytes written.

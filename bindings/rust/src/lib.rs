@@ -7,7 +7,8 @@
 //! read it in place; [`Arena::dump`] writes it, and [`Arena::dump_form`] tells whether the input was already as it writes; a
 //! [`Builder`] makes one node by node. [`Arena::reading`] reads a node as a number, [`Arena::wet_weight`] gives wet weight
 //! from dry weight and moisture, and [`Arena::batch_cost`] a recipe's cost at given prices. [`load_measured`] also counts what
-//! a load copied and compared. Nothing is allocated, except by what the feature `alloc` adds (`OwnedTables`,
+//! a load copied and compared; [`load_hashed`] searches for names by a bucket table, which thousands of names are better for.
+//! Nothing is allocated, except by what the feature `alloc` adds (`OwnedTables`, whose load is the hashed one, and
 //! `Arena::dump_to_vec`). [`calls`] has the functions themselves, on slices and counts.
 //!
 //! An [`Arena`] is well formed: only an accepted load or builder call, or the archive's own check, makes one, and while it lives
@@ -50,7 +51,7 @@ mod refusal;
 mod sys;
 mod value;
 
-pub use arena::{load, load_measured, load_prefix, Arena, Lists, Tables};
+pub use arena::{load, load_hashed, load_measured, load_prefix, Arena, Lists, Tables};
 pub use builder::Builder;
 #[cfg(feature = "alloc")]
 pub use owned::OwnedTables;

@@ -1,27 +1,34 @@
 //! Tables on the heap.
-use crate::{load, load_measured, Arena, Builder, Lists, Measures, Refusal, Slice, Tables, NODE_WORDS};
+use crate::{load_hashed, load_measured, Arena, Builder, Lists, Measures, Refusal, Slice, Tables, NODE_WORDS};
 use alloc::vec;
 use alloc::vec::Vec;
 use core::fmt;
 
-/// Tables and lists of their own, to be lent again and again.
+// Words of the bucket table for each node: it is never more than half full, and a search looks at one or two words.
+const BUCKETS: usize = 2;
+
+/// Tables, lists and a bucket table of their own, to be lent again and again.
 pub struct OwnedTables {
     nodes: Vec<u32>,
     references: Vec<u32>,
     bytes: Vec<u8>,
     symbols: Vec<u32>,
     objects: Vec<u32>,
+    buckets: Vec<u32>,
 }
 
 impl OwnedTables {
-    /// Tables for so many nodes (at least one), references and bytes, with an entry of each list for each node.
+    /// Tables for so many nodes (at least one), references and bytes, with an entry of each list and two words of the bucket
+    /// table for each node.
     pub fn new(nodes: usize, references: usize, bytes: usize) -> OwnedTables {
+        let nodes = nodes.max(1);
         OwnedTables {
-            nodes: vec![0; nodes.max(1) * NODE_WORDS],
+            nodes: vec![0; nodes * NODE_WORDS],
             references: vec![0; references],
             bytes: vec![0; bytes],
             symbols: vec![0; nodes],
             objects: vec![0; nodes],
+            buckets: vec![0; nodes * BUCKETS],
         }
     }
 
@@ -33,14 +40,25 @@ impl OwnedTables {
 
     /// The tables and the lists.
     pub fn lend(&mut self) -> (Tables<'_>, Lists<'_>) {
-        let OwnedTables { nodes, references, bytes, symbols, objects } = self;
-        (Tables { nodes, references, bytes }, Lists { symbols, objects })
+        let (tables, lists, _) = self.lend_all();
+        (tables, lists)
     }
 
-    /// [`load`] into these tables.
+    // The tables, the lists and the bucket table.
+    fn lend_all(&mut self) -> (Tables<'_>, Lists<'_>, &mut [u32]) {
+        let OwnedTables { nodes, references, bytes, symbols, objects, buckets } = self;
+        (Tables { nodes, references, bytes }, Lists { symbols, objects }, buckets)
+    }
+
+    /// Reads input into these tables, as [`load`](crate::load) does, with names searched for by the bucket table.
     pub fn load(&mut self, input: &[u8], limit: u32) -> Result<Arena<'_>, Refusal> {
-        let (tables, lists) = self.lend();
-        load(input, tables, lists, limit)
+        self.load_hashed(input, limit).map(|(arena, _)| arena)
+    }
+
+    /// [`OwnedTables::load`], with the number of the bucket table's words that were looked at: [`load_hashed`].
+    pub fn load_hashed(&mut self, input: &[u8], limit: u32) -> Result<(Arena<'_>, u64), Refusal> {
+        let (tables, lists, buckets) = self.lend_all();
+        load_hashed(input, tables, lists, buckets, limit)
     }
 
     /// [`load_measured`] into these tables.

@@ -25,6 +25,8 @@ pub enum Slice {
     List,
     /// Dump's scratch: at least one word for each node that the node table can hold.
     Scratch,
+    /// The bucket table: likewise.
+    Buckets,
     /// A number that this crate doesn't know: the archive is of another version.
     Other(u32),
 }
@@ -42,6 +44,7 @@ impl Slice {
             8 => Slice::Input,
             9 => Slice::List,
             10 => Slice::Scratch,
+            11 => Slice::Buckets,
             n => Slice::Other(n as u32),
         }
     }
@@ -59,6 +62,7 @@ impl Slice {
             Slice::Input => 8,
             Slice::List => 9,
             Slice::Scratch => 10,
+            Slice::Buckets => 11,
             Slice::Other(n) => n,
         }
     }
@@ -77,6 +81,7 @@ impl fmt::Display for Slice {
             Slice::Input => "input",
             Slice::List => "member or pair list",
             Slice::Scratch => "scratch",
+            Slice::Buckets => "bucket table",
             Slice::Other(n) => return write!(f, "slice {n}"),
         })
     }

@@ -34,6 +34,18 @@ mod archive {
             answer: *mut u64, answer_length: usize,
         ) -> u32;
 
+        pub fn ruby_marshal_load_hashed(
+            input: *const u8, input_length: usize,
+            nodes: *mut u32, nodes_length: usize,
+            references: *mut u32, references_length: usize,
+            bytes: *mut u8, bytes_length: usize,
+            symbols: *mut u32, symbols_length: usize,
+            objects: *mut u32, objects_length: usize,
+            buckets: *mut u32, buckets_length: usize,
+            limit: u32,
+            answer: *mut u64, answer_length: usize,
+        ) -> u32;
+
         pub fn ruby_marshal_dump(
             nodes: *const u32, nodes_length: usize,
             references: *const u32, references_length: usize,
@@ -300,6 +312,35 @@ pub fn load_measured(
             bytes.as_mut_ptr(), bytes.len(),
             symbols.as_mut_ptr(), symbols.len(),
             objects.as_mut_ptr(), objects.len(),
+            limit,
+            words.as_mut_ptr(), words.len(),
+        )
+    };
+    Told { number, words }
+}
+
+#[allow(clippy::too_many_arguments)]
+pub fn load_hashed(
+    input: &[u8],
+    nodes: &mut [u32],
+    references: &mut [u32],
+    bytes: &mut [u8],
+    symbols: &mut [u32],
+    objects: &mut [u32],
+    buckets: &mut [u32],
+    limit: u32,
+) -> Told<9> {
+    let mut words = [0; 9];
+    // SAFETY: each pointer and length are those of one live reference; `nodes`, `references`, `bytes`, `symbols`, `objects`, `buckets` are `&mut`, `words` is a local.
+    let number = unsafe {
+        archive::ruby_marshal_load_hashed(
+            input.as_ptr(), input.len(),
+            nodes.as_mut_ptr(), nodes.len(),
+            references.as_mut_ptr(), references.len(),
+            bytes.as_mut_ptr(), bytes.len(),
+            symbols.as_mut_ptr(), symbols.len(),
+            objects.as_mut_ptr(), objects.len(),
+            buckets.as_mut_ptr(), buckets.len(),
             limit,
             words.as_mut_ptr(), words.len(),
         )

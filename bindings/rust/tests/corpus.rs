@@ -6,8 +6,8 @@ mod common;
 
 use common::{corpus, junk, junk_bytes, numbers, padded, Case, Json, COSTS, LATER, WEIGHINGS};
 use ruby_marshal_tables::{
-    calls, load_measured, load_prefix, Arena, Builder, Counts, Handle, Lists, Measures, Node, OwnedTables, Reading, Refusal,
-    Slice, Tables, Value, Weighing, MAX_LIMIT, MAX_RECIPE_PAIRS,
+    calls, load_hashed, load_measured, load_prefix, Arena, Builder, Counts, Handle, Lists, Measures, Node, OwnedTables,
+    Reading, Refusal, Slice, Tables, Value, Weighing, MAX_LIMIT, MAX_RECIPE_PAIRS,
 };
 use std::collections::HashMap;
 
@@ -50,6 +50,7 @@ fn load_case(case: &Case) -> Option<bool> {
     };
     assert!(lent == after, "{}: tables", case.id());
     measured_agrees(case, sizes, &loaded, &after);
+    hashed_agrees(case, sizes, &loaded, &after);
 
     let mut again = lent_junk(sizes);
     let tables = Tables { nodes: &mut again.0, references: &mut again.1, bytes: &mut again.2 };
@@ -94,6 +95,53 @@ fn measured_agrees(case: &Case, sizes: [usize; 5], loaded: &calls::Loaded, after
             assert_eq!(arena.dump_form(), loaded.dump_form, "{}", case.id());
         }
         Err(refusal) => assert_eq!(Err(refusal), loaded.answer, "{}", case.id()),
+    }
+}
+
+// What load answers where its tables are refused.
+fn bad_tables(slice: Slice) -> calls::Loaded {
+    calls::Loaded { answer: Err(Refusal::BadTables(slice)), counts: Counts::default(), used: 0, dump_form: false }
+}
+
+// What load_hashed answers beside load: the same, unless the bucket table is refused.
+fn hashed_of(case: &Case, loaded: calls::Loaded) -> calls::Loaded {
+    if !case.has("hashed") {
+        return loaded;
+    }
+    assert_eq!(case.three("hashed"), (1, 11, 0), "{}", case.id());
+    bad_tables(Slice::Buckets)
+}
+
+// load_hashed answers and leaves what load does, unless the bucket table is refused, and the words looked at; the bucket table is
+// zero after any answer but 1. Where a case has none, it has a word a node.
+fn hashed_agrees(case: &Case, sizes: [usize; 5], loaded: &calls::Loaded, after: &Lent) {
+    let input = case.bytes("in");
+    let words = if case.has("buckets") { case.size("buckets") } else { sizes[0] / 7 };
+    let expected = hashed_of(case, *loaded);
+    let mut lent = lent_junk(sizes);
+    let mut buckets = junk(words);
+    let (n, r, b, s, o) = (&mut lent.0, &mut lent.1, &mut lent.2, &mut lent.3, &mut lent.4);
+    let hashed = calls::load_hashed(&input, n, r, b, s, o, &mut buckets, case.limit());
+    assert_eq!(hashed.load, expected, "{}: hashed", case.id());
+    if numbers(&expected.answer).0 == 1 {
+        assert!(lent == lent_junk(sizes) && buckets == junk(words), "{}: touched, hashed", case.id());
+    } else {
+        assert!(lent == *after && buckets.iter().all(|&word| word == 0), "{}: tables, hashed", case.id());
+    }
+    assert!(expected.answer.is_ok() || hashed.looked == 0, "{}: looked", case.id());
+    if case.has("looked") {
+        assert_eq!(hashed.looked, case.size("looked") as u64, "{}: looked", case.id());
+    }
+
+    let mut again = lent_junk(sizes);
+    let tables = Tables { nodes: &mut again.0, references: &mut again.1, bytes: &mut again.2 };
+    let lists = Lists { symbols: &mut again.3, objects: &mut again.4 };
+    match load_hashed(&input, tables, lists, &mut junk(words), case.limit()) {
+        Ok((arena, looked)) => {
+            assert_eq!((Ok(()), arena.counts(), looked), (expected.answer, expected.counts, hashed.looked), "{}", case.id());
+            assert_eq!(arena.dump_form(), expected.dump_form, "{}", case.id());
+        }
+        Err(refusal) => assert_eq!(Err(refusal), expected.answer, "{}", case.id()),
     }
 }
 
@@ -207,15 +255,27 @@ fn huge<T: Clone + Default>(n: usize) -> Option<Vec<T>> {
 // Slices past the greatest length: only their lengths are given.
 fn huge_case(case: &Case) -> Option<()> {
     let sizes: Vec<usize> = case.field("sizes").list().iter().map(|n| n.number() as usize).collect();
-    let input = huge::<u8>(case.size("in_len"))?;
+    let input = if case.has("in") { case.bytes("in") } else { huge::<u8>(case.size("in_len"))? };
     let (mut nodes, mut references, mut bytes) = (huge::<u32>(sizes[0])?, huge::<u32>(sizes[1])?, huge::<u8>(sizes[2])?);
     let (mut symbols, mut objects) = (huge::<u32>(sizes[3])?, huge::<u32>(sizes[4])?);
     let loaded = calls::load(&input, &mut nodes, &mut references, &mut bytes, &mut symbols, &mut objects, case.limit());
     assert_eq!(numbers(&loaded.answer), case.answer(), "{}", case.id());
-    assert_eq!((loaded.counts, loaded.used, loaded.dump_form), (Counts::default(), 0, false), "{}", case.id());
+    assert_eq!((loaded.counts, loaded.used), (case.counts("counts"), case.size("used")), "{}", case.id());
     let measured =
         calls::load_measured(&input, &mut nodes, &mut references, &mut bytes, &mut symbols, &mut objects, case.limit());
-    assert_eq!((measured.load, measured.measures), (loaded, Measures::default()), "{}", case.id());
+    assert_eq!(measured.load, loaded, "{}", case.id());
+    let mut buckets = huge::<u32>(if case.has("buckets") { case.size("buckets") } else { 0 })?;
+    let hashed = calls::load_hashed(
+        &input,
+        &mut nodes,
+        &mut references,
+        &mut bytes,
+        &mut symbols,
+        &mut objects,
+        &mut buckets,
+        case.limit(),
+    );
+    assert_eq!((hashed.load, hashed.looked), (hashed_of(case, loaded), 0), "{}", case.id());
     Some(())
 }
 

@@ -28,6 +28,32 @@ fn expected(nodes: usize, references: usize, bytes: usize, symbols: usize, objec
     items.iter().find(|(room, _)| !room).map_or(Ok(()), |&(_, slice)| Err(Refusal::NoSpace(slice)))
 }
 
+// The three tables and the two lists of a load.
+type Lent = (Vec<u32>, Vec<u32>, Vec<u8>, Vec<u32>, Vec<u32>);
+
+// load_hashed with a bucket table around the fewest words that are allowed: what load answers and leaves, and one word looked
+// at, or the bucket table is refused, after the node table.
+fn hashed_into_every_length(before: &Lent, loaded: &calls::Loaded, left: &Lent) {
+    let nodes = before.0.len() / 7;
+    for words in nodes.saturating_sub(2)..=nodes + 2 {
+        let (mut lent, mut buckets) = (before.clone(), junk(words));
+        let (n, r, b, s, o) = (&mut lent.0, &mut lent.1, &mut lent.2, &mut lent.3, &mut lent.4);
+        let hashed = calls::load_hashed(INPUT, n, r, b, s, o, &mut buckets, 2);
+        assert_eq!(hashed.looked, u64::from(hashed.load.answer.is_ok()));
+        if words < nodes && !wrong_nodes(before.0.len()) {
+            assert_eq!(hashed.load.answer, Err(Refusal::BadTables(Slice::Buckets)));
+            assert_eq!((hashed.load.counts, hashed.load.used), (Counts::default(), 0));
+        } else {
+            assert_eq!(hashed.load, *loaded);
+        }
+        if matches!(hashed.load.answer, Err(Refusal::BadTables(_))) {
+            assert!(lent == *before && buckets == junk(words));
+        } else {
+            assert!(lent == *left && buckets.iter().all(|&word| word == 0));
+        }
+    }
+}
+
 #[test]
 fn load_into_every_length() {
     let mut calls_made = 0;
@@ -45,6 +71,7 @@ fn load_into_every_length() {
                     let copied = if loaded.answer.is_ok() { 2 } else { 0 };
                     assert_eq!((measured.load, measured.measures), (loaded, Measures { copied, compared: 0 }));
                     assert!(other == lent);
+                    hashed_into_every_length(&before, &loaded, &lent);
                     calls_made += 1;
                     assert_eq!(loaded.dump_form, loaded.answer.is_ok());
                     if wrong_nodes(nodes) {
@@ -84,6 +111,13 @@ fn limits() {
         };
         let loaded = calls::load(INPUT, &mut n, &mut r, &mut b, &mut s, &mut o, limit);
         assert_eq!(loaded.answer, expected);
+        // The limit comes before the bucket table.
+        for (words, short) in [(4, false), (3, true)] {
+            let (mut n, mut r, mut b, mut buckets) = ([0; 28], [0; 2], [0; 2], vec![0; words]);
+            let hashed = calls::load_hashed(INPUT, &mut n, &mut r, &mut b, &mut s, &mut o, &mut buckets, limit);
+            let refused = short && expected != Err(Refusal::BadTables(Slice::Limit));
+            assert_eq!(hashed.load.answer, if refused { Err(Refusal::BadTables(Slice::Buckets)) } else { expected });
+        }
         let (mut n, mut r, mut b) = ([0; 28], [0; 2], [0; 2]);
         calls::load(INPUT, &mut n, &mut r, &mut b, &mut s, &mut o, 2).answer.unwrap();
         let (mut scratch, mut output) = ([0; 4], [0; 64]);

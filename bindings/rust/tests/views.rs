@@ -4,8 +4,8 @@ mod common;
 
 use common::numbers;
 use ruby_marshal_tables::{
-    calls, load, load_prefix, Arena, Builder, Counts, Fault, Handle, Kind, Lists, Measures, Node, OwnedTables, Reading,
-    Refusal, Slice, Tables, Value, Weighing, MAX_LIMIT, MAX_RECIPE_PAIRS, NODE_WORDS,
+    calls, load, load_hashed, load_prefix, Arena, Builder, Counts, Fault, Handle, Kind, Lists, Measures, Node, OwnedTables,
+    Reading, Refusal, Slice, Tables, Value, Weighing, MAX_LIMIT, MAX_RECIPE_PAIRS, NODE_WORDS,
 };
 use std::error::Error;
 
@@ -166,6 +166,50 @@ fn measures() {
     }
     let mut tables = OwnedTables::for_input(1);
     assert_eq!(tables.load_measured(b"\x04", MAX_LIMIT).map(|_| ()), Err(Refusal::ShortInput));
+}
+
+// The words that the hashed load looks at beside an arena that is load's; a refusal is load's, unless it is the bucket table's.
+#[test]
+fn words_looked_at() {
+    // Of 4 words, a and e start at the first, b and f at the next, d and h at the last, so that h goes round.
+    let cases: &[(&[u8], usize, u64)] = &[
+        (b"\x04\x080", 4, 0),
+        (b"\x04\x08:\x06a", 4, 1),
+        (b"\x04\x08[\x07:\x06a:\x06a", 4, 2),
+        (b"\x04\x08[\x07:\x06a:\x06d", 4, 2),
+        (b"\x04\x08[\x07:\x06a:\x06e", 4, 3),
+        (b"\x04\x08[\x07:\x06b:\x06f", 4, 3),
+        (b"\x04\x08[\x08:\x06d:\x06h:\x06h", 4, 5),
+        (b"\x04\x08[\x08:\x06d:\x06h;\x06", 4, 3),
+        (b"\x04\x08[\x07:\x06a:\x06e", 5, 2),
+        (b"\x04\x08[\x07:\x06c:\x06d", 5, 3),
+        (b"\x04\x08[\x07:\x00:\x00", 4, 2),
+        // names of objects and variables
+        (b"\x04\x08o:\x06a\x06:\x06af\x061", 4, 2),
+    ];
+    for &(input, words, expected) in cases {
+        let mut buckets = vec![7; words];
+        let (mut tables, mut plain) = (OwnedTables::new(4, 3, 4), OwnedTables::new(4, 3, 4));
+        let ((lent, lists), (plain, plain_lists)) = (tables.lend(), plain.lend());
+        let (arena, looked) = load_hashed(input, lent, lists, &mut buckets, MAX_LIMIT).unwrap();
+        assert_eq!((looked, buckets), (expected, vec![0; words]), "{input:02X?}");
+        let plain = load(input, plain, plain_lists, MAX_LIMIT).unwrap();
+        assert_eq!((arena.counts(), arena.dump_form()), (plain.counts(), plain.dump_form()), "{input:02X?}");
+        assert_eq!(arena.node_table(), plain.node_table(), "{input:02X?}");
+    }
+    let mut tables = OwnedTables::for_input(3);
+    assert_eq!(tables.load_hashed(b"\x04\x08", MAX_LIMIT).map(|_| ()), Err(Refusal::ShortInput));
+    let (lent, lists) = tables.lend();
+    let short = load_hashed(b"\x04\x080", lent, lists, &mut [0; 2], MAX_LIMIT);
+    assert_eq!(short.map(|_| ()), Err(Refusal::BadTables(Slice::Buckets)));
+
+    // By owned tables a name takes few words, however many there are, of one length and of one beginning.
+    let names: Vec<u8> = (0..8000).flat_map(|i| format!(":\x0dreg{i:05}").into_bytes()).collect();
+    let input = [b"\x04\x08[\x02\x40\x1f".as_slice(), &names].concat();
+    let (arena, looked) =
+        OwnedTables::new(8002, 8000, 64000).load_hashed(&input, MAX_LIMIT).map(|(a, n)| (a.counts(), n)).unwrap();
+    assert_eq!((arena.nodes, arena.bytes), (8002, 64000));
+    assert!((8000..24000).contains(&looked), "{looked}");
 }
 
 // A walk that guards itself by handle meets each node once, also where an array is its own member.

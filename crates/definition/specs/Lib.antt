@@ -6,6 +6,7 @@ pub mod Magnitude
 pub mod Kind
 pub mod Node
 pub mod Arena
+pub mod Buckets
 pub mod Load
 pub mod Reader
 pub mod Dump
@@ -18,6 +19,7 @@ pub mod Floats
 pub mod Bignums
 pub mod DumpForm
 pub mod Measured
+pub mod Hashed
 pub mod Weights
 pub mod Signs
 pub mod Costs

@@ -1,4 +1,4 @@
--- What load answers and what it leaves in the tables: a reader over growing lists (01, "load"; 02, 2.1 to 2.4 and 2.6).
+-- What load answers and what it leaves in the tables: a reader over growing lists (01, "load"; 02, 2.1 to 2.4, 2.6 and 2.8).
 use Prim.Native.Nat.{ℕ, zero, suc, _+_, _-_, _*_, _/_}
 use mathlib.Core.Bool.{Bool, true, false, _&&_, _||_}
 use mathlib.Core.List.{List, [], _∷_, _++_}
@@ -10,9 +10,11 @@ use Rattle.definition.specs.Integer.{Form, value as form-value, data-byt
 use Rattle.definition.specs.Kind.{NIL, TRUE, FALSE, FIXNUM, SYMBOL, SYMBOL-LINK, OBJECT-LINK, INSTANCE-VARIABLES, ARRAY, HASH, HASH-DEFAULT, OBJECT, STRING, USER-DEFINED, FLOAT, BIGNUM, PLUS, MINUS}
 use Rattle.definition.specs.Node.{Row, nil, bool, fixnum, symbol, array, hash, object, string, user, float, bignum, absent, present, width, flat, equal}
 use Rattle.definition.specs.Magnitude.{fits, sign, sign-byte, unit-bytes, bignum-row}
-use Rattle.definition.specs.Arena.{range, too-long, bad-nodes, lowest, padded, zeroed, find-symbol, compared-among}
+use Rattle.definition.specs.Arena.{range, name-of, too-long, bad-nodes, lowest, padded, zeroed, find-symbol, compared-among}
+use Rattle.definition.specs.Buckets.{fnv-1a, searches, empty}
 use Rattle.definition.specs.declared.Answer.the-variants.{Accepted, Refused}
 use Rattle.definition.specs.declared.Counts.{Counts}
+use Rattle.definition.specs.declared.Hashed.{Hashed}
 use Rattle.definition.specs.declared.Loaded.{Loaded}
 use Rattle.definition.specs.declared.Measured.{Measured}
 use Rattle.definition.specs.declared.Refusal.{Refusal}
@@ -362,9 +364,13 @@ lists n r b y o = record { nodes = n; references = r; bytes = b; symbols = y; ob
 unfoldable pub room-of : Lists → Room
 room-of T = record { nodes = length (T .nodes) / width; references = length (T .references); bytes = length (T .bytes); symbols = length (T .symbols); objects = length (T .objects) }
 
+-- what is wrong with each slice lent, by their numbers
+abbrev pub load-tests : List ℕ → Lists → ℕ → List (ℕ × Bool)
+load-tests input T limit = (1, bad-nodes (length (T .nodes))) ∷ (2, too-long (length (T .references))) ∷ (3, too-long (length (T .bytes))) ∷ (4, too-long (length (T .symbols))) ∷ (5, too-long (length (T .objects))) ∷ (7, ltb 128 limit) ∷ (8, too-long (length input)) ∷ []
+
 -- BAD-TABLES: the lowest wrong slice, or 0
 unfoldable pub load-wrong : List ℕ → Lists → ℕ → ℕ
-load-wrong input T limit = lowest ((1, bad-nodes (length (T .nodes))) ∷ (2, too-long (length (T .references))) ∷ (3, too-long (length (T .bytes))) ∷ (4, too-long (length (T .symbols))) ∷ (5, too-long (length (T .objects))) ∷ (7, ltb 128 limit) ∷ (8, too-long (length input)) ∷ [])
+load-wrong input T limit = lowest (load-tests input T limit)
 
 -- a call's answer, and everything lent as it then stands
 pub record LoadCall : Type 0 where
@@ -413,3 +419,45 @@ measured-if (suc slice) input T limit = adding 0 0 (load-if (suc slice) input T 
 -- the measuring load's whole call
 unfoldable pub measured-call : List ℕ → Lists → ℕ → MeasuredCall
 measured-call input T limit = measured-if (load-wrong input T limit) input T limit
+
+-- ---- the hashed load
+
+-- its answer, and everything lent as it then stands, the bucket table too
+pub record HashedCall : Type 0 where
+  pub answer : Hashed
+  pub lent : Lists
+  pub buckets : List ℕ
+
+-- "adds the number of words looked at" to load's answer
+abbrev pub looking : ℕ → List ℕ → LoadCall → HashedCall
+looking looked buckets c = record { answer = record { load = c .answer; looked = looked }; lent = c .lent; buckets = buckets }
+
+-- the hash of a symbol's name
+unfoldable pub hash-at : State → ℕ → ℕ
+hash-at s h = fnv-1a (name-of (s .bytes) (getD (s .nodes) h nil))
+
+-- the words of m looked at: each `:` name is searched for once, in the order of the symbol list, to which its node is then appended
+unfoldable pub words-looked : ℕ → State → ℕ
+words-looked m s = searches (hash-at s) (s .symbols) (empty m) .looked
+
+-- "one word or more for each node of the table", and 01's greatest length
+unfoldable pub bad-buckets : ℕ → ℕ → Bool
+bad-buckets nodes m = ltb m nodes || too-long m
+
+-- "a shorter one is BAD-TABLES, slice 11"
+unfoldable pub hashed-wrong : List ℕ → Lists → List ℕ → ℕ → ℕ
+hashed-wrong input T B limit = lowest (load-tests input T limit ++ ((11, bad-buckets (length (T .nodes) / width) (length B)) ∷ []))
+
+-- "After any answer but BAD-TABLES it is zero"; "0 when refused"
+unfoldable pub hashed-done : Lists → List ℕ → Outcome State ℕ → HashedCall
+hashed-done T B (refused r) = looking 0 (zeroed B) (load-done T (refused r))
+hashed-done T B (ok h s) = looking (words-looked (length B) s) (zeroed B) (load-done T (ok h s))
+
+-- after 1 nothing is touched
+unfoldable pub hashed-if : ℕ → List ℕ → Lists → List ℕ → ℕ → HashedCall
+hashed-if zero input T B limit = hashed-done T B (load input (room-of T) limit)
+hashed-if (suc slice) input T B limit = looking 0 B (load-if (suc slice) input T limit)
+
+-- the hashed load's whole call
+unfoldable pub hashed-call : List ℕ → Lists → List ℕ → ℕ → HashedCall
+hashed-call input T B limit = hashed-if (hashed-wrong input T B limit) input T B limit

@@ -7,11 +7,12 @@ use lib.Count.{leadingZeros}
 use lib.IntN.{ℤ, pos, negsuc}
 use lib.ListN.{take, replicate}
 use Rattle.definition.specs.Run.{Outcome, ok, refused, pure, refuse, next, _>>=_, look, pick}
-use Rattle.definition.specs.Refused.{signed, place, numbers}
+use Rattle.definition.specs.Refused.{signed, place, numbers, answer-numbers}
 use Rattle.definition.specs.Integer.{form, little, wrong-sign, low-bytes, fewest, integer-bytes}
 use Rattle.definition.specs.Node as N
 use Rattle.definition.specs.Magnitude.{fits, sign, magnitude, bignum-row, fewest-units, sign-byte, unit-bytes, bignum-bytes}
 use Rattle.definition.specs.Arena as A
+use Rattle.definition.specs.Buckets as B
 use Rattle.definition.specs.Load as L
 use Rattle.definition.specs.Dump as D
 use Rattle.definition.specs.declared.Answer.{Answer}
@@ -86,6 +87,14 @@ measures input = (measured input .answer .copied, measured input .answer .compar
   where
     measured : List ℕ → L.MeasuredCall
     measured input = L.measured-call input lent 64
+
+-- what the hashed load answers with room for so many nodes and so many bucket words, and the words looked at
+unfoldable pub looks : ℕ × ℕ × List ℕ → (ℕ × ℤ × ℤ) × ℕ
+unfolding call answer-numbers numbers signed place L.hashed-call L.hashed-if L.hashed-done L.hashed-wrong L.bad-buckets L.words-looked L.hash-at B.searches B.search B.distance B.passed B.ends B.word B.fnv-1a B.fnv-from B.exclusive-or
+looks (n, m, input) = (answer-numbers (hashed .answer .load .answer), hashed .answer .looked)
+  where
+    hashed : L.HashedCall
+    hashed = L.hashed-call input (L.lists (replicate (n * N.width) 9) (replicate 5 9) (replicate 5 9) (replicate 5 9) (replicate 5 9)) (replicate m 9) 64
 
 abbrev outcomes : List (List ℕ × Result)
 outcomes =

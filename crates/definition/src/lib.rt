@@ -207,6 +207,12 @@ pub struct Measured {
     pub compared: u64,
 }
 
+// load_hashed: what load answers, and the words of the bucket table looked at in searches for names.
+pub struct Hashed {
+    pub load: Loaded,
+    pub looked: u64,
+}
+
 // A reader's byte, header or integer: its value, for the header 0, the offset then, and whether dump writes these bytes.
 pub struct Taken {
     pub answer: Answer,

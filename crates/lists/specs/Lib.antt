@@ -1,4 +1,4 @@
--- Laws of lists, of tests, of work step by step, of ranges, of the words of rows, of integers and magnitudes, and of the tests of slices.
+-- Laws of lists, of tests, of work step by step, of ranges, of the words of rows, of integers and magnitudes, of bucket tables, and of the tests of slices.
 pub mod Lists
 pub mod Joined
 pub mod Runs
@@ -12,3 +12,4 @@ pub mod Slices
 pub mod Compared
 pub mod Same
 pub mod Latest
+pub mod Buckets

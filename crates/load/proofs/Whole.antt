@@ -1,28 +1,35 @@
 -- The whole load: what is held at the start, and what stands at the end.
-use Prim.Native.Nat.{ℕ, zero, suc, _+_, _-_, _*_, _≤_, _<_}
+use Prim.Native.Nat.{ℕ, zero, suc, _+_, _-_, _*_, _/_, _≤_, _<_}
 use native.Mathlib.Omega.{arith}
 use mathlib.Core.Path.{_≡_, refl, sym, ap, _∙_, subst}
 use mathlib.Core.Bool.{Bool, true, false}
 use mathlib.Core.List.{List, [], _∷_, _++_}
-use lib.Dec.{leb, eqb}
-use lib.ListN.{length, set, replicate, take, drop, length-drop, drop-of-length-le}
+use mathlib.Core.Logic.{_⊎_, inl, inr}
+use lib.Dec.{leb, ltb, eqb}
+use lib.ListN.{length, set, replicate, take, drop, length-drop, length-replicate, drop-of-length-le}
 use lib.Seq.{sets, take-all}
-use borrow.Author.Tests.{leb-true, leb-false}
+use borrow.Author.Tests.{leb-true, leb-false, ltb-false}
 use Rattle.definition.specs.Run.{pure, pick}
 use Rattle.definition.specs.Node.{nil, kind, words, flat}
-use Rattle.definition.specs.Arena.{named, find-symbol, zeroed}
+use Rattle.definition.specs.Arena.{named, find-symbol, zeroed, lowest, too-long}
 use Rattle.definition.specs.Arena as A
-use Rattle.definition.specs.Load.{Lists, lists, begin, load, room-of, load-wrong, load-done, load-if, load-call, measured-done, measured-if, measured-call}
+use Rattle.definition.specs.Load.{Lists, lists, begin, load, room-of, load-tests, load-wrong, load-done, load-if, load-call, measured-done, measured-if, measured-call, hash-at, words-looked, bad-buckets, hashed-wrong, hashed-done, hashed-if, hashed-call}
+use Rattle.definition.specs.Buckets.{Buckets, searches, empty}
+use Rattle.definition.specs.Hashed.{last-passes}
 use Rattle.definition.specs.declared.Refusal.the-variants.{BadTables}
 use Rattle.definition.specs.declared.Refusal.{Refusal}
 use Rattle.definition.specs.declared.Answer.the-variants.{Accepted, Refused}
+use Rattle.lists.specs.Joined.{or-none}
+use Rattle.lists.specs.Slices.{short}
 use Rattle.lists.specs.Words.{length-flat}
 use Rattle.store.specs.Laws.{cleared, cleared-whole}
 use Rattle.reader.specs.Answers.{refusal-at}
-use Rattle.loader.specs.Holds.{Begins, Holds, Held, Meets, AllFit, Allowed, Interned, find-listed, symbols-in, risen, wrong, at-of, nodes-of, references-of, bytes-of, form-of, compared-of}
+use Rattle.loader.specs.Holds.{lent, by-buckets, Begins, Holds, Held, Meets, AllFit, Allowed, Interned, Hashing, hashes, find-listed, symbols-in, risen, wrong, at-of, nodes-of, references-of, bytes-of, form-of, compared-of, looked-of}
+use Rattle.loader.proofs.Counts.{still-counting}
 use Rattle.loader.proofs.Stores.{none, push, padded}
 use Rattle.value_reader.specs.Root.{whole}
-use Rattle.load.specs.Call.{call, loaded-as, measured, measured-as}
+use Rattle.load.specs.Call.{call, loaded-as, measured, measured-as, hashed, hashed-as, counted-as}
+use Rattle.load.specs.declared.Counted.{Counted}
 
 -- ---- zeros
 
@@ -36,9 +43,9 @@ emptied t t₀ e l = e ∙ cleared-whole t ∙ ap (λ (n : ℕ). replicate n 0) 
 
 -- ---- the start
 
--- k is 1 where the bytes compared are counted
-abbrev pub first-counts : ℕ → List ℕ
-first-counts k = set (set (replicate 8 0) 1 1) 7 k
+-- k is 1 where the bytes compared are counted; there is room for n nodes
+abbrev pub first-counts : ℕ → ℕ → List ℕ
+first-counts k n = set (set (set (replicate 10 0) 1 1) 7 k) 9 n
 
 first-fit : AllFit 0 (nil ∷ [])
 first-fit zero l = tt
@@ -48,15 +55,46 @@ first-symbols : Interned [] (nil ∷ []) []
 unfolding find-symbol find-listed symbols-in risen named kind pick
 first-symbols = record { symbolic = λ i l. absurd (omega arith); names = λ name. refl; ascending = refl }
 
-abbrev pub Fine : List ℕ → Lists → Type 0
-Fine input T = Allowed (length (T .nodes)) (length (T .references)) (length (T .bytes)) (length (T .symbols)) (length (T .objects)) (length input)
+abbrev pub Fine : List ℕ → Lists → Bool → Type 0
+Fine input T t = Allowed (length (T .nodes)) (length (T .references)) (length (T .bytes)) (length (T .symbols)) (length (T .objects)) (length input) t
 
-module _ (input : List ℕ) (T : Lists) (F : Fine input T) (k : ℕ) (l : k ≤ 1) {no : List ℕ} (e : no ≡ sets (T .nodes) 0 (0 ∷ 0 ∷ 0 ∷ 0 ∷ 0 ∷ 0 ∷ 0 ∷ [])) where
+-- no bucket table, or one of which it is told whether it is wrong, and then nothing is counted
+abbrev pub Bucketed : Lists → List ℕ → ℕ → Bool → Type 0
+Bucketed T B k t = ((length B ≡ 0) × (t ≡ false)) ⊎ ((k ≡ 0) × (t ≡ bad-buckets (length (T .nodes) / 7) (length B)))
+
+-- a bucket table that is not wrong
+right-buckets : (n m : ℕ) → bad-buckets n m ≡ false → (n ≤ m) × (m ≤ 2147483647)
+unfolding bad-buckets
+right-buckets n m e = let (a, b) = or-none (ltb m n) (too-long m) e in (ltb-false m n a, short m b)
+
+module _ (input : List ℕ) (T : Lists) (B : List ℕ) (k : ℕ) (t : Bool) (F : Fine input T t) (l : k ≤ 1) (d : Bucketed T B k t) {no B₁ : List ℕ} (e : no ≡ sets (T .nodes) 0 (0 ∷ 0 ∷ 0 ∷ 0 ∷ 0 ∷ 0 ∷ 0 ∷ [])) (z : B₁ ≡ zeroed B) where
   first-node : Begins (length (T .nodes)) (flat (nil ∷ [])) no
   unfolding flat words
   first-node = rw e (push (0 ∷ 0 ∷ 0 ∷ 0 ∷ 0 ∷ 0 ∷ 0 ∷ []) (none (T .nodes) refl) (omega (arith, F .whole, F .one)))
 
-  begins : Holds input (room-of T) begin (lists no (T .references) (T .bytes) (T .symbols) (T .objects)) (first-counts k)
+  same-size : length B₁ ≡ length B
+  unfolding zeroed
+  same-size = ap length z ∙ length-replicate (length B) 0
+
+  first-buckets : (B₁ ≡ [] → ⊥) → Hashing (length (T .nodes) / 7) [] (nil ∷ []) [] B₁ (first-counts k (length (T .nodes) / 7))
+  unfolding searches zeroed
+  first-buckets b = go d
+    where
+      go : Bucketed T B k t → Hashing (length (T .nodes) / 7) [] (nil ∷ []) [] B₁ (first-counts k (length (T .nodes) / 7))
+      go (inl (u, _)) = absurd (b (z ∙ ap (λ (n : ℕ). replicate n 0) u))
+      go (inr (u, r)) =
+          let (g, h) = right-buckets (length (T .nodes) / 7) (length B) (sym r ∙ F .buckets-right) in
+          record {
+            enough = omega (arith, g, same-size);
+            short = omega (arith, h, same-size);
+            filled = ap (λ (ws : List ℕ). record { words = ws; looked = 0 }) (ap (λ (n : ℕ). replicate n 0) same-size ∙ sym z);
+            unique = λ i j a. absurd (omega arith);
+            nonzero = λ i a. absurd (omega arith);
+            one = omega arith;
+            uncounted = u;
+          }
+
+  begins : Holds input (room-of T) begin (lent no (T .references) (T .bytes) (by-buckets (T .symbols) B₁) (T .objects)) (first-counts k (length (T .nodes) / 7))
   unfolding room-of
   begins = record {
     small = record { nodes = omega (arith, F .nodes-small, F .whole); references = F .references-small; bytes = F .bytes-small; symbols = F .symbols-small; objects = F .objects-small };
@@ -71,6 +109,7 @@ module _ (input : List ℕ) (T : Lists) (F : Fine input T) (k : ℕ) (l : k ≤ 
     inside = omega arith;
     count-nodes = refl;
     room-nodes = F .one;
+    count-space = refl;
     count-references = refl;
     count-bytes = refl;
     count-symbols = refl;
@@ -81,56 +120,85 @@ module _ (input : List ℕ) (T : Lists) (F : Fine input T) (k : ℕ) (l : k ≤ 
     below = λ i l. absurd (omega arith);
     fit = first-fit;
     interned = first-symbols;
+    hashed = first-buckets;
   }
 
-  pub held-begin : Held input (lists no (T .references) (T .bytes) (T .symbols) (T .objects)) (first-counts k)
+  pub held-begin : Held input (lent no (T .references) (T .bytes) (by-buckets (T .symbols) B₁) (T .objects)) (first-counts k (length (T .nodes) / 7))
   held-begin = record { room = room-of T; state = begin; holds = begins }
 
 -- ---- the call
 
-module _ (input : List ℕ) (T : Lists) (limit : ℕ) where
+module _ (input : List ℕ) (T : Lists) (B : List ℕ) (limit k : ℕ) (t : Bool) where
   abbrev bad : ℕ
-  bad = wrong (length (T .nodes)) (length (T .references)) (length (T .bytes)) (length (T .symbols)) (length (T .objects)) limit (length input)
+  bad = wrong (length (T .nodes)) (length (T .references)) (length (T .bytes)) (length (T .symbols)) (length (T .objects)) limit (length input) t
 
-  pub not-taken : (w : ℕ) {r : _} → r ≡ measured-as (loaded-as (Refused (BadTables w)) 0 0 0 0 0 false) 0 0 → w ≡ bad → (w ≡ 0 → ⊥) → (call (r .load) T ≡ load-call input T limit) × (measured r T ≡ measured-call input T limit)
-  unfolding load-call measured-call load-wrong load-if measured-if
+  -- what an answer and all lent are to each of the three loads
+  abbrev pub Answers : Counted → Lists → List ℕ → Type 0
+  Answers r T' B' =
+      (t ≡ false → call (r .load) T' ≡ load-call input T limit)
+      × (t ≡ false → k ≡ 1 → measured (measured-as (r .load) (r .copied) (r .compared)) T' ≡ measured-call input T limit)
+      × (t ≡ bad-buckets (length (T .nodes) / 7) (length B) → hashed (hashed-as (r .load) (r .looked)) T' B' ≡ hashed-call input T B limit)
+
+  plain-wrong : t ≡ false → bad ≡ load-wrong input T limit
+  unfolding load-wrong
+  plain-wrong f = ap (λ (b : Bool). lowest (load-tests input T limit ++ ((11, b) ∷ []))) f ∙ last-passes (load-tests input T limit) 11
+
+  hash-wrong : t ≡ bad-buckets (length (T .nodes) / 7) (length B) → bad ≡ hashed-wrong input T B limit
+  unfolding hashed-wrong
+  hash-wrong f = ap (λ (b : Bool). lowest (load-tests input T limit ++ ((11, b) ∷ []))) f
+
+  pub not-taken : (w : ℕ) {r : Counted} → r ≡ counted-as (loaded-as (Refused (BadTables w)) 0 0 0 0 0 false) 0 0 0 → w ≡ bad → (w ≡ 0 → ⊥) → Answers r T B
+  unfolding load-call measured-call hashed-call load-if measured-if hashed-if
   not-taken zero q e n = absurd (n refl)
-  not-taken (suc w) q e n =
-      (ap (λ r. call (r .load) T) q ∙ ap (λ (k : ℕ). load-if k input T limit) e, ap (λ r. measured r T) q ∙ ap (λ (k : ℕ). measured-if k input T limit) e)
+  not-taken (suc w) q e n = (
+    λ f. ap (λ r. call (r .load) T) q ∙ ap (λ (i : ℕ). load-if i input T limit) (e ∙ plain-wrong f),
+    λ f _. ap (λ r. measured (measured-as (r .load) (r .copied) (r .compared)) T) q ∙ ap (λ (i : ℕ). measured-if i input T limit) (e ∙ plain-wrong f),
+    λ f. ap (λ r. hashed (hashed-as (r .load) (r .looked)) T B) q ∙ ap (λ (i : ℕ). hashed-if i input T B limit) (e ∙ hash-wrong f),
+  )
 
-  taken : (w : ℕ) → w ≡ bad → w ≡ 0 → (load-done T (load input (room-of T) limit) ≡ load-call input T limit) × (measured-done T (load input (room-of T) limit) ≡ measured-call input T limit)
-  unfolding load-call measured-call load-wrong load-if measured-if
-  taken w e z = (ap (λ (k : ℕ). load-if k input T limit) (sym z ∙ e), ap (λ (k : ℕ). measured-if k input T limit) (sym z ∙ e))
+  -- nothing is wrong: what the loads come to
+  taken : (w : ℕ) → w ≡ bad → w ≡ 0 → (t ≡ false → (load-done T (load input (room-of T) limit) ≡ load-call input T limit) × (measured-done T (load input (room-of T) limit) ≡ measured-call input T limit)) × (t ≡ bad-buckets (length (T .nodes) / 7) (length B) → hashed-done T B (load input (room-of T) limit) ≡ hashed-call input T B limit)
+  unfolding load-call measured-call hashed-call load-if measured-if hashed-if
+  taken w e z = (
+    λ f. (ap (λ (i : ℕ). load-if i input T limit) (sym z ∙ e ∙ plain-wrong f), ap (λ (i : ℕ). measured-if i input T limit) (sym z ∙ e ∙ plain-wrong f)),
+    λ f. ap (λ (i : ℕ). hashed-if i input T B limit) (sym z ∙ e ∙ hash-wrong f),
+  )
 
-  module _ (w : ℕ) (e : w ≡ bad) (z : w ≡ 0) (F : Fine input T) (k : ℕ) (b : k ≤ 1) {no₁ : List ℕ} (first : no₁ ≡ sets (T .nodes) 0 (0 ∷ 0 ∷ 0 ∷ 0 ∷ 0 ∷ 0 ∷ 0 ∷ [])) {no re by sy ob c : List ℕ} {h : ℕ} (m : Meets input (room-of T) limit (whole input (room-of T) limit) (lists no₁ (T .references) (T .bytes) (T .symbols) (T .objects)) (first-counts k) h (lists no re by sy ob) c) where
-    pub loaded : {no' re' by' sy' ob' : List ℕ} {x : ℕ} → x ≡ compared-of c - 1 → h < 4294967296 → no' ≡ cleared (nodes-of c * 7) no → re' ≡ cleared (references-of c) re → by' ≡ cleared (bytes-of c) by → sy' ≡ zeroed (T .symbols) → ob' ≡ zeroed (T .objects)
-        → (call (loaded-as Accepted (nodes-of c) (references-of c) (bytes-of c) h (at-of c) (eqb (form-of c) 0)) (lists no' re' by' sy' ob') ≡ load-call input T limit)
-        × (k ≡ 1 → measured (measured-as (loaded-as Accepted (nodes-of c) (references-of c) (bytes-of c) h (at-of c) (eqb (form-of c) 0)) (bytes-of c) x) (lists no' re' by' sy' ob') ≡ measured-call input T limit)
-    unfolding load load-done measured-done pure A.padded room-of
-    loaded d l p q r u v =
-        let G = m .goes l in
-        let g = G .goes begin (begins input T F k b first) in
-        let H = g .holds in
-        let s = g .state in
-        let a = padded (nodes-of c * 7) (H .nodes) (ap (λ (n : ℕ). n * 7) (H .count-nodes) ∙ sym (length-flat (s .nodes))) p ∙ ap (λ (n : ℕ). flat (s .nodes) ++ replicate (n - length (flat (s .nodes))) 0) (F .whole) in
-        let t = taken w e z in (
-          (λ i. call (loaded-as Accepted (H .count-nodes i) (H .count-references i) (H .count-bytes i) h (H .count-at i) (H .notes .form i)) (lists (a i) (padded (references-of c) (H .references) (H .count-references) q i) (padded (bytes-of c) (H .bytes) (H .count-bytes) r i) (u i) (v i)))
-              ∙ sym (ap (λ o. load-done T o) (g .same))
-              ∙ t .0,
-          λ one.
-              let y = H .notes .compared (G .counts (λ n. omega (arith, one, n))) in
-              let n : _ ≡ s .notes .compared = d ∙ omega (arith, y) in
-              (λ i. measured (measured-as (loaded-as Accepted (H .count-nodes i) (H .count-references i) (H .count-bytes i) h (H .count-at i) (H .notes .form i)) ((H .count-bytes ∙ sym (H .copied)) i) (n i)) (lists (a i) (padded (references-of c) (H .references) (H .count-references) q i) (padded (bytes-of c) (H .bytes) (H .count-bytes) r i) (u i) (v i)))
-              ∙ sym (ap (λ o. measured-done T o) (g .same))
-              ∙ t .1,
+  module _ (w : ℕ) (e : w ≡ bad) (z : w ≡ 0) (F : Fine input T t) (l : k ≤ 1) (d : Bucketed T B k t) {no₁ B₁ : List ℕ} (first : no₁ ≡ sets (T .nodes) 0 (0 ∷ 0 ∷ 0 ∷ 0 ∷ 0 ∷ 0 ∷ 0 ∷ [])) (zeros : B₁ ≡ zeroed B) {no re by sy B₂ ob c : List ℕ} {h : ℕ} (m : Meets input (room-of T) limit (whole input (room-of T) limit) (lent no₁ (T .references) (T .bytes) (by-buckets (T .symbols) B₁) (T .objects)) (first-counts k (length (T .nodes) / 7)) h (lent no re by (by-buckets sy B₂) ob) c) where
+    pub loaded : {no' re' by' sy' ob' B' : List ℕ} {x : ℕ} → x ≡ compared-of c - 1 → h < 4294967296 → no' ≡ cleared (nodes-of c * 7) no → re' ≡ cleared (references-of c) re → by' ≡ cleared (bytes-of c) by → sy' ≡ zeroed (T .symbols) → ob' ≡ zeroed (T .objects) → B' ≡ zeroed B → length B₂ ≡ length B
+        → Answers (counted-as (loaded-as Accepted (nodes-of c) (references-of c) (bytes-of c) h (at-of c) (eqb (form-of c) 0)) (bytes-of c) x (looked-of c)) (lists no' re' by' sy' ob') B'
+    unfolding load load-done measured-done hashed-done words-looked hash-at pure A.padded room-of
+    loaded n g p q r u v a b =
+        let G = m .goes g in
+        let y = G .goes begin (begins input T B k t F l d first zeros) in
+        let H = y .holds in
+        let s = y .state in
+        let nodes = padded (nodes-of c * 7) (H .nodes) (ap (λ (n : ℕ). n * 7) (H .count-nodes) ∙ sym (length-flat (s .nodes))) p ∙ ap (λ (n : ℕ). flat (s .nodes) ++ replicate (n - length (flat (s .nodes))) 0) (F .whole) in
+        let tables = lists-same nodes (padded (references-of c) (H .references) (H .count-references) q) (padded (bytes-of c) (H .bytes) (H .count-bytes) r) u v in
+        let done = taken w e z in
+        let answer : loaded-as Accepted (nodes-of c) (references-of c) (bytes-of c) h (at-of c) (eqb (form-of c) 0) ≡ loaded-as Accepted (length (s .nodes)) (length (s .references)) (length (s .bytes)) h (s .at) (s .notes .form) = (λ i. loaded-as Accepted (H .count-nodes i) (H .count-references i) (H .count-bytes i) h (H .count-at i) (H .notes .form i)) in (
+          λ f. (λ i. call (answer i) (tables i)) ∙ sym (ap (λ o. load-done T o) (y .same)) ∙ done .0 f .0,
+          λ f one.
+              let x = H .notes .compared (still-counting (first-counts k (length (T .nodes) / 7)) c (G .counts) (λ i. omega (arith, one, i))) in
+              let j : _ ≡ s .notes .compared = n ∙ omega (arith, x) in
+              (λ i. measured (measured-as (answer i) ((H .count-bytes ∙ sym (H .copied)) i) (j i)) (tables i)) ∙ sym (ap (λ o. measured-done T o) (y .same)) ∙ done .0 f .1,
+          λ f.
+              let (o, _) = right-buckets (length (T .nodes) / 7) (length B) (sym f ∙ F .buckets-right) in
+              let Z = H .hashed (λ i. omega (arith, ap length i, b, o, F .one)) in
+              let j : looked-of c ≡ searches (hashes (s .bytes) (s .nodes)) (s .symbols) (empty (length B)) .looked = sym (ap (λ (i : Buckets). i .looked) (Z .filled)) ∙ ap (λ (i : ℕ). searches (hashes (s .bytes) (s .nodes)) (s .symbols) (empty i) .looked) b in
+              (λ i. hashed (hashed-as (answer i) (j i)) (tables i) (a i)) ∙ sym (ap (λ o. hashed-done T B o) (y .same)) ∙ done .1 f,
         )
 
-    pub load-refused : {T' : Lists} {q : Refusal} {r : _} → 4294967296 ≤ h → q ≡ refusal-at limit h → r ≡ measured-as (loaded-as (Refused q) 1 0 0 0 0 false) 0 0 → T' ≡ lists (zeroed (T .nodes)) (zeroed (T .references)) (zeroed (T .bytes)) (zeroed (T .symbols)) (zeroed (T .objects)) → (call (r .load) T' ≡ load-call input T limit) × (measured r T' ≡ measured-call input T limit)
-    unfolding load load-done measured-done
-    load-refused {T'} {q} l k f t =
-        let y = m .stops l .refuses begin (begins input T F _ b first) in
-        let x = f ∙ ap (λ x. measured-as (loaded-as (Refused x) 1 0 0 0 0 false) 0 0) k in
-        ((λ i. call (x i .load) (t i)) ∙ sym (ap (λ o. load-done T o) y) ∙ taken w e z .0, (λ i. measured (x i) (t i)) ∙ sym (ap (λ o. measured-done T o) y) ∙ taken w e z .1)
+    pub load-refused : {T' : Lists} {B' : List ℕ} {q : Refusal} {r : Counted} → 4294967296 ≤ h → q ≡ refusal-at limit h → r ≡ counted-as (loaded-as (Refused q) 1 0 0 0 0 false) 0 0 0 → T' ≡ lists (zeroed (T .nodes)) (zeroed (T .references)) (zeroed (T .bytes)) (zeroed (T .symbols)) (zeroed (T .objects)) → B' ≡ zeroed B → Answers r T' B'
+    unfolding load load-done measured-done hashed-done
+    load-refused {T'} {B'} {q} g u f v a =
+        let y = m .stops g .refuses begin (begins input T B k t F l d first zeros) in
+        let x = f ∙ ap (λ x. counted-as (loaded-as (Refused x) 1 0 0 0 0 false) 0 0 0) u in
+        let done = taken w e z in (
+          λ n. (λ i. call (x i .load) (v i)) ∙ sym (ap (λ o. load-done T o) y) ∙ done .0 n .0,
+          λ n _. (λ i. measured (measured-as (x i .load) (x i .copied) (x i .compared)) (v i)) ∙ sym (ap (λ o. measured-done T o) y) ∙ done .0 n .1,
+          λ n. (λ i. hashed (hashed-as (x i .load) (x i .looked)) (v i) (a i)) ∙ sym (ap (λ o. hashed-done T B o) y) ∙ done .1 n,
+        )
 
 -- ---- at an offset
 

@@ -1,10 +1,13 @@
 -- A call's answer with everything lent.
 use Prim.Native.Nat.{ℕ}
+use mathlib.Core.List.{List}
 use mathlib.Core.Bool.{Bool}
-use Rattle.definition.specs.Load.{Lists, LoadCall, MeasuredCall, counts}
+use Rattle.definition.specs.Load.{Lists, LoadCall, MeasuredCall, HashedCall, counts}
 use Rattle.definition.specs.declared.Answer.{Answer}
+use Rattle.definition.specs.declared.Hashed.{Hashed}
 use Rattle.definition.specs.declared.Loaded.{Loaded}
 use Rattle.definition.specs.declared.Measured.{Measured}
+use Rattle.load.specs.declared.Counted.{Counted}
 
 abbrev pub call : Loaded → Lists → LoadCall
 call r T = record { answer = r; lent = T }
@@ -19,3 +22,14 @@ measured r T = record { answer = r; lent = T }
 
 abbrev pub measured-as : Loaded → ℕ → ℕ → Measured
 measured-as l copied compared = record { load = l; copied = copied; compared = compared }
+
+-- and of the hashed load, with the bucket table
+abbrev pub hashed : Hashed → Lists → List ℕ → HashedCall
+hashed r T B = record { answer = r; lent = T; buckets = B }
+
+abbrev pub hashed-as : Loaded → ℕ → Hashed
+hashed-as l looked = record { load = l; looked = looked }
+
+-- with all that the three loads tell
+abbrev pub counted-as : Loaded → ℕ → ℕ → ℕ → Counted
+counted-as l copied compared looked = record { load = l; copied = copied; compared = compared; looked = looked }

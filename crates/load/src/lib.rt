@@ -1,6 +1,7 @@
 // load: the calls, from the test of what is lent to the zeros behind what was read.
 use definition::Answer;
 use definition::Counts;
+use definition::Hashed;
 use definition::Loaded;
 use definition::Measured;
 use definition::Node;
@@ -9,8 +10,11 @@ use loader::AT;
 use loader::BYTES;
 use loader::COMPARED;
 use loader::FORM;
+use loader::LOOKED;
 use loader::NODES;
 use loader::REFERENCES;
+use loader::ROOM;
+use loader::wrong_buckets;
 use loader::wrong_slice;
 use reader::REFUSED;
 use reader::Reader;
@@ -22,17 +26,28 @@ use store::zero_words;
 use value_reader::read_root;
 ghost use mathlib.Core.Path.{_≡_};
 ghost use mathlib.Core.Bool.{false};
-ghost use Prim.Native.Nat.{_-_, _<_, _≤_};
-ghost use Rattle.definition.specs.Load.{lists, load-call, measured-call};
+ghost use mathlib.Core.Logic.{_⊎_};
+ghost use Prim.Native.Nat.{_-_, _/_, _<_, _≤_};
+ghost use lib.ListN.{length};
+ghost use Rattle.definition.specs.Node.{width};
+ghost use Rattle.definition.specs.Load.{lists, load-call, measured-call, bad-buckets, hashed-call};
 ghost use Rattle.definition.specs.Reader.{load-next};
 ghost use Rattle.definition.specs.declared.Answer.the-variants.{Refused};
-ghost use Rattle.load.specs.Call.{call, loaded-as, measured, measured-as};
+ghost use Rattle.load.specs.Call.{call, loaded-as, measured, measured-as, hashed, hashed-as, counted-as};
+
+// What load answers, and what the measuring and the hashed load add to it.
+struct Counted {
+    load: Loaded,
+    copied: u64,
+    compared: u64,
+    looked: u64,
+}
 
 // The answer of a refused load: this node count, zeros, and no.
-fn refused(q: Refusal, nodes: usize) -> Measured
-    ensures { λ r. ⌜ r ≡ measured-as (loaded-as (Refused q) nodes 0 0 0 0 false) 0 0 ⌝ }
+fn refused(q: Refusal, nodes: usize) -> Counted
+    ensures { λ r. ⌜ r ≡ counted-as (loaded-as (Refused q) nodes 0 0 0 0 false) 0 0 0 ⌝ }
 {
-    Measured {
+    Counted {
         load: Loaded {
             answer: Answer::Refused(q),
             counts: Counts {
@@ -46,6 +61,7 @@ fn refused(q: Refusal, nodes: usize) -> Measured
         },
         copied: 0,
         compared: 0,
+        looked: 0,
     }
 }
 
@@ -59,8 +75,9 @@ fn compared(counted: usize) -> u64
     (counted - 1) as u64
 }
 
-// Loads a whole input. The bytes compared are counted where `counted` is 1, not where it is 0. Nothing is zeroed that is
-// written over: of the tables what is left at the end, of the lists all at the end.
+// Loads a whole input. The bytes compared are counted where `counted` is 1, not where it is 0. Names are searched for by
+// the bucket table if it has words; `wrong` tells whether it is refused. Nothing is zeroed that is written over: of the tables
+// what is left at the end, of the lists all at the end; only the bucket table is zeroed before too.
 fn load_whole(
     input: &[u8],
     nodes: &mut [u32],
@@ -68,12 +85,15 @@ fn load_whole(
     bytes: &mut [u8],
     symbols: &mut [u32],
     objects: &mut [u32],
+    buckets: &mut [u32],
     limit: u32,
     counted: usize,
-) -> Measured
-    requires { ⌜ counted ≤ 1 ⌝ }
-    ensures { λ r. ⌜ call (r .load) (lists (now (nodes .exit)) (now (references .exit)) (now (bytes .exit)) (now (symbols .exit)) (now (objects .exit))) ≡ load-call (now (input .entry)) (lists (now (nodes .entry)) (now (references .entry)) (now (bytes .entry)) (now (symbols .entry)) (now (objects .entry))) limit ⌝ }
-    ensures { λ r. ⌜ (counted ≡ 1 → measured r (lists (now (nodes .exit)) (now (references .exit)) (now (bytes .exit)) (now (symbols .exit)) (now (objects .exit))) ≡ measured-call (now (input .entry)) (lists (now (nodes .entry)) (now (references .entry)) (now (bytes .entry)) (now (symbols .entry)) (now (objects .entry))) limit) ⌝ }
+    wrong: bool,
+) -> Counted
+    requires { ⌜ (counted ≤ 1) × (((length (now buckets) ≡ 0) × (wrong ≡ false)) ⊎ ((counted ≡ 0) × (wrong ≡ bad-buckets (length (now nodes) / width) (length (now buckets))))) ⌝ }
+    ensures { λ r. ⌜ (wrong ≡ false → call (r .load) (lists (now (nodes .exit)) (now (references .exit)) (now (bytes .exit)) (now (symbols .exit)) (now (objects .exit))) ≡ load-call (now (input .entry)) (lists (now (nodes .entry)) (now (references .entry)) (now (bytes .entry)) (now (symbols .entry)) (now (objects .entry))) limit) ⌝ }
+    ensures { λ r. ⌜ (wrong ≡ false → counted ≡ 1 → measured (measured-as (r .load) (r .copied) (r .compared)) (lists (now (nodes .exit)) (now (references .exit)) (now (bytes .exit)) (now (symbols .exit)) (now (objects .exit))) ≡ measured-call (now (input .entry)) (lists (now (nodes .entry)) (now (references .entry)) (now (bytes .entry)) (now (symbols .entry)) (now (objects .entry))) limit) ⌝ }
+    ensures { λ r. ⌜ (wrong ≡ bad-buckets (length (now (nodes .entry)) / width) (length (now (buckets .entry))) → hashed (hashed-as (r .load) (r .looked)) (lists (now (nodes .exit)) (now (references .exit)) (now (bytes .exit)) (now (symbols .exit)) (now (objects .exit))) (now (buckets .exit)) ≡ hashed-call (now (input .entry)) (lists (now (nodes .entry)) (now (references .entry)) (now (bytes .entry)) (now (symbols .entry)) (now (objects .entry))) (now (buckets .entry)) limit) ⌝ }
 {
     let w = wrong_slice(
         nodes.len(),
@@ -83,14 +103,17 @@ fn load_whole(
         objects.len(),
         limit,
         input.len(),
+        wrong,
     );
     if w != 0 {
         return refused(Refusal::BadTables(w), 0);
     }
-    let mut c = [0usize; 8];
+    let mut c = [0usize; 10];
     c[NODES] = 1;
     c[COMPARED] = counted;
+    c[ROOM] = nodes.len() / Node::WIDTH;
     put_node(nodes, 0, Node::NIL, 0, 0, 0, 0, 0, 0);
+    zero_words(buckets, 0);
     let h = read_root(
         &input[..],
         nodes,
@@ -98,11 +121,13 @@ fn load_whole(
         bytes,
         symbols,
         objects,
+        buckets,
         &mut c,
         limit,
     );
     zero_words(symbols, 0);
     zero_words(objects, 0);
+    zero_words(buckets, 0);
     if REFUSED <= h {
         zero_words(nodes, 0);
         zero_words(references, 0);
@@ -112,7 +137,7 @@ fn load_whole(
     zero_words(nodes, c[NODES] * Node::WIDTH);
     zero_words(references, c[REFERENCES]);
     zero_bytes(bytes, c[BYTES]);
-    Measured {
+    Counted {
         load: Loaded {
             answer: Answer::Accepted,
             counts: Counts {
@@ -126,6 +151,7 @@ fn load_whole(
         },
         copied: c[BYTES] as u64,
         compared: compared(c[COMPARED]),
+        looked: c[LOOKED] as u64,
     }
 }
 
@@ -153,17 +179,20 @@ pub fn load_at(
     ensures { λ r. ⌜ call r (lists (now (nodes .exit)) (now (references .exit)) (now (bytes .exit)) (now (symbols .exit)) (now (objects .exit))) ≡ load-next (now (input .entry)) at (lists (now (nodes .entry)) (now (references .entry)) (now (bytes .entry)) (now (symbols .entry)) (now (objects .entry))) limit ⌝ }
 {
     let from = inside(at, input.len());
-    let m = load_whole(
+    let mut none = [0u32; 1];
+    let w = load_whole(
         &input[from..],
         nodes,
         references,
         bytes,
         symbols,
         objects,
+        &mut none[..0],
         limit,
         0,
+        false,
     );
-    m.load
+    w.load
 }
 
 // Loads what stands at a reader's offset into the tables; the two lists are scratch. The next load begins at the offset with
@@ -226,14 +255,56 @@ pub fn load_measured(
 ) -> Measured
     ensures { λ r. ⌜ measured r (lists (now (nodes .exit)) (now (references .exit)) (now (bytes .exit)) (now (symbols .exit)) (now (objects .exit))) ≡ measured-call (now (input .entry)) (lists (now (nodes .entry)) (now (references .entry)) (now (bytes .entry)) (now (symbols .entry)) (now (objects .entry))) limit ⌝ }
 {
-    load_whole(
+    let mut none = [0u32; 1];
+    let w = load_whole(
         &input[..],
         nodes,
         references,
         bytes,
         symbols,
         objects,
+        &mut none[..0],
         limit,
         1,
-    )
+        false,
+    );
+    let load = w.load;
+    Measured {
+        load: load,
+        copied: w.copied,
+        compared: w.compared,
+    }
+}
+
+// load, with names searched for by the bucket table, and how many words of it were looked at.
+pub fn load_hashed(
+    input: &[u8],
+    nodes: &mut [u32],
+    references: &mut [u32],
+    bytes: &mut [u8],
+    symbols: &mut [u32],
+    objects: &mut [u32],
+    buckets: &mut [u32],
+    limit: u32,
+) -> Hashed
+    ensures { λ r. ⌜ hashed r (lists (now (nodes .exit)) (now (references .exit)) (now (bytes .exit)) (now (symbols .exit)) (now (objects .exit))) (now (buckets .exit)) ≡ hashed-call (now (input .entry)) (lists (now (nodes .entry)) (now (references .entry)) (now (bytes .entry)) (now (symbols .entry)) (now (objects .entry))) (now (buckets .entry)) limit ⌝ }
+{
+    let wrong = wrong_buckets(nodes.len(), buckets.len());
+    let w = load_whole(
+        &input[..],
+        nodes,
+        references,
+        bytes,
+        symbols,
+        objects,
+        buckets,
+        limit,
+        0,
+        wrong,
+    );
+    let load = w.load;
+    Hashed {
+        load: load,
+        looked: w.looked,
+    }
 }

@@ -12,3 +12,4 @@ pub mod Space
 pub mod Names
 pub mod Call
 pub mod Measured
+pub mod Hashed

@@ -1,13 +1,16 @@
-// Replays stored cases of load through load and load_measured, and prints those that disagree.
+// Replays stored cases of load through load, load_measured and load_hashed, and prints those that disagree.
 //
-// A case is words of 32 bits, low byte first: its length in words; the lengths of the five tables and lists; the limit;
-// the input's length; what is expected: the answer's number and two details, four counts, the bytes used, 1 where they are in
-// dump form and else 0, the bytes copied and the bytes compared, two words each, and how much of nodes, references and bytes
-// is laid out; then those node words and references. Bytes follow, padded to a word: those laid out, then the input.
+// A case is words of 32 bits, low byte first: its length in words; the lengths of the five tables and lists and of the bucket
+// table; the limit; the input's length; what is expected: the answer, which is its number and two details, four counts, the
+// bytes used, and 1 where they are in dump form and else 0; the hashed load's answer, likewise; the bytes copied, the bytes
+// compared and the bucket words looked at, two words each; and how much of nodes, references and bytes is laid out; then those
+// node words and references. Bytes follow, padded to a word: those laid out, then the input.
+use definition::Hashed;
 use definition::Loaded;
 use definition::Measured;
 use definition::Node;
 use load::load;
+use load::load_hashed;
 use load::load_measured;
 use replay::bytes_agree;
 use replay::fill_bytes;
@@ -25,35 +28,41 @@ use replay::word;
 use replay::words_agree;
 
 // Places in a case.
-const LIMIT: usize = 6;
+const LIMIT: usize = 7;
 
-const INPUT: usize = 7;
+const INPUT: usize = 8;
 
-const ANSWER: usize = 8;
+const ANSWER: usize = 9;
 
-const COUNTS: usize = 11;
+const HASHED: usize = 18;
 
-const USED: usize = 15;
+const COPIED: usize = 27;
 
-const FORM: usize = 16;
+const COMPARED: usize = 29;
 
-const COPIED: usize = 17;
+const LOOKED: usize = 31;
 
-const COMPARED: usize = 19;
+const LAID: usize = 33;
 
-const LAID: usize = 21;
+const TABLES: usize = 36;
 
-const TABLES: usize = 24;
+// The calls.
+const LOAD: u32 = 0;
 
-fn loaded_agrees(data: &[u8], r: Loaded) -> bool {
+const LOAD_MEASURED: u32 = 1;
+
+const LOAD_HASHED: u32 = 2;
+
+// The answer stands at `at`.
+fn loaded_agrees(data: &[u8], at: usize, r: Loaded) -> bool {
     let answer = r.answer;
     let counts = r.counts;
     let used = r.used;
     let form = r.form;
-    if same_answer(&data[..], ANSWER, answer) {
-        if same_counts(&data[..], COUNTS, counts) {
-            if word(&data[..], USED) as usize == used {
-                return (word(&data[..], FORM) == 1) == form;
+    if same_answer(&data[..], at, answer) {
+        if same_counts(&data[..], plus(at, 3), counts) {
+            if word(&data[..], plus(at, 7)) as usize == used {
+                return (word(&data[..], plus(at, 8)) == 1) == form;
             }
         }
     }
@@ -64,7 +73,7 @@ fn measured_agrees(data: &[u8], r: Measured) -> bool {
     let loaded = r.load;
     let copied = r.copied;
     let compared = r.compared;
-    if loaded_agrees(&data[..], loaded) {
+    if loaded_agrees(&data[..], ANSWER, loaded) {
         if long(&data[..], COPIED) == copied {
             return long(&data[..], COMPARED) == compared;
         }
@@ -72,15 +81,26 @@ fn measured_agrees(data: &[u8], r: Measured) -> bool {
     false
 }
 
+fn hashed_agrees(data: &[u8], r: Hashed) -> bool {
+    let loaded = r.load;
+    let looked = r.looked;
+    if loaded_agrees(&data[..], HASHED, loaded) {
+        return long(&data[..], LOOKED) == looked;
+    }
+    false
+}
+
+// The tables and lists as they are after the answer at `at`.
 fn tables_agree(
     data: &[u8],
+    at: usize,
     nodes: &[u32],
     references: &[u32],
     bytes: &[u8],
     symbols: &[u32],
     objects: &[u32],
 ) -> bool {
-    let touched = word(&data[..], ANSWER) != 1;
+    let touched = word(&data[..], at) != 1;
     let n = word(&data[..], LAID) as usize;
     let r = word(&data[..], LAID + 1) as usize;
     let b = word(&data[..], LAID + 2) as usize;
@@ -101,6 +121,12 @@ fn tables_agree(
     words_agree(&data[..], 0, 0, &objects[..], touched)
 }
 
+// The bucket table after the hashed load.
+fn buckets_agree(data: &[u8], buckets: &[u32]) -> bool {
+    let touched = word(&data[..], HASHED) != 1;
+    words_agree(&data[..], 0, 0, &buckets[..], touched)
+}
+
 // Junk everywhere.
 fn fill(
     nodes: &mut [u32],
@@ -108,12 +134,14 @@ fn fill(
     bytes: &mut [u8],
     symbols: &mut [u32],
     objects: &mut [u32],
+    buckets: &mut [u32],
 ) {
     fill_words(nodes);
     fill_words(references);
     fill_bytes(bytes);
     fill_words(symbols);
     fill_words(objects);
+    fill_words(buckets);
 }
 
 // The case through load.
@@ -136,8 +164,16 @@ fn load_agrees(
         objects,
         limit,
     );
-    if loaded_agrees(&data[..], r) {
-        return tables_agree(&data[..], nodes, references, bytes, symbols, objects);
+    if loaded_agrees(&data[..], ANSWER, r) {
+        return tables_agree(
+            &data[..],
+            ANSWER,
+            nodes,
+            references,
+            bytes,
+            symbols,
+            objects,
+        );
     }
     false
 }
@@ -163,12 +199,58 @@ fn load_measured_agrees(
         limit,
     );
     if measured_agrees(&data[..], r) {
-        return tables_agree(&data[..], nodes, references, bytes, symbols, objects);
+        return tables_agree(
+            &data[..],
+            ANSWER,
+            nodes,
+            references,
+            bytes,
+            symbols,
+            objects,
+        );
     }
     false
 }
 
-// The case through one of the two, over junk.
+// The case through load_hashed.
+fn load_hashed_agrees(
+    data: &[u8],
+    input: &[u8],
+    nodes: &mut [u32],
+    references: &mut [u32],
+    bytes: &mut [u8],
+    symbols: &mut [u32],
+    objects: &mut [u32],
+    buckets: &mut [u32],
+) -> bool {
+    let limit = word(&data[..], LIMIT);
+    let r = load_hashed(
+        &input[..],
+        nodes,
+        references,
+        bytes,
+        symbols,
+        objects,
+        buckets,
+        limit,
+    );
+    if hashed_agrees(&data[..], r) {
+        if buckets_agree(&data[..], buckets) {
+            return tables_agree(
+                &data[..],
+                HASHED,
+                nodes,
+                references,
+                bytes,
+                symbols,
+                objects,
+            );
+        }
+    }
+    false
+}
+
+// The case through one of the three, over junk.
 fn call_agrees(
     data: &[u8],
     input: &[u8],
@@ -177,10 +259,22 @@ fn call_agrees(
     bytes: &mut [u8],
     symbols: &mut [u32],
     objects: &mut [u32],
-    measured: bool,
+    buckets: &mut [u32],
+    call: u32,
 ) -> bool {
-    fill(nodes, references, bytes, symbols, objects);
-    if measured {
+    fill(nodes, references, bytes, symbols, objects, buckets);
+    if call == LOAD {
+        return load_agrees(
+            &data[..],
+            &input[..],
+            nodes,
+            references,
+            bytes,
+            symbols,
+            objects,
+        );
+    }
+    if call == LOAD_MEASURED {
         return load_measured_agrees(
             &data[..],
             &input[..],
@@ -191,7 +285,7 @@ fn call_agrees(
             objects,
         );
     }
-    load_agrees(
+    load_hashed_agrees(
         &data[..],
         &input[..],
         nodes,
@@ -199,11 +293,12 @@ fn call_agrees(
         bytes,
         symbols,
         objects,
+        buckets,
     )
 }
 
-// A case in tables and lists of just its lengths, through both.
-fn fitted_agrees(
+// The case through the two that search the symbol list.
+fn searching_agrees(
     data: &[u8],
     input: &[u8],
     nodes: &mut [u32],
@@ -211,6 +306,7 @@ fn fitted_agrees(
     bytes: &mut [u8],
     symbols: &mut [u32],
     objects: &mut [u32],
+    buckets: &mut [u32],
 ) -> bool {
     if call_agrees(
         &data[..],
@@ -220,7 +316,8 @@ fn fitted_agrees(
         bytes,
         symbols,
         objects,
-        false,
+        buckets,
+        LOAD,
     ) {
         return call_agrees(
             &data[..],
@@ -230,7 +327,44 @@ fn fitted_agrees(
             bytes,
             symbols,
             objects,
-            true,
+            buckets,
+            LOAD_MEASURED,
+        );
+    }
+    false
+}
+
+// A case in tables and lists of just its lengths, through all three.
+fn fitted_agrees(
+    data: &[u8],
+    input: &[u8],
+    nodes: &mut [u32],
+    references: &mut [u32],
+    bytes: &mut [u8],
+    symbols: &mut [u32],
+    objects: &mut [u32],
+    buckets: &mut [u32],
+) -> bool {
+    if searching_agrees(
+        &data[..],
+        &input[..],
+        nodes,
+        references,
+        bytes,
+        symbols,
+        objects,
+        buckets,
+    ) {
+        return call_agrees(
+            &data[..],
+            &input[..],
+            nodes,
+            references,
+            bytes,
+            symbols,
+            objects,
+            buckets,
+            LOAD_HASHED,
         );
     }
     false
@@ -251,12 +385,14 @@ fn case_agrees(
     bytes: &mut [u8],
     symbols: &mut [u32],
     objects: &mut [u32],
+    buckets: &mut [u32],
 ) -> bool {
     let n = word(&data[..], 1) as usize;
     let r = word(&data[..], 2) as usize;
     let b = word(&data[..], 3) as usize;
     let s = word(&data[..], 4) as usize;
     let o = word(&data[..], 5) as usize;
+    let k = word(&data[..], 6) as usize;
     let start = input_start(&data[..]);
     let end = plus(start, word(&data[..], INPUT) as usize);
     if n <= nodes.len() {
@@ -264,17 +400,20 @@ fn case_agrees(
             if b <= bytes.len() {
                 if s <= symbols.len() {
                     if o <= objects.len() {
-                        if end <= data.len() {
-                            if start <= end {
-                                return fitted_agrees(
-                                    &data[..],
-                                    &data[start..end],
-                                    &mut nodes[..n],
-                                    &mut references[..r],
-                                    &mut bytes[..b],
-                                    &mut symbols[..s],
-                                    &mut objects[..o],
-                                );
+                        if k <= buckets.len() {
+                            if end <= data.len() {
+                                if start <= end {
+                                    return fitted_agrees(
+                                        &data[..],
+                                        &data[start..end],
+                                        &mut nodes[..n],
+                                        &mut references[..r],
+                                        &mut bytes[..b],
+                                        &mut symbols[..s],
+                                        &mut objects[..o],
+                                        &mut buckets[..k],
+                                    );
+                                }
                             }
                         }
                     }
@@ -293,11 +432,12 @@ fn step(
     bytes: &mut [u8],
     symbols: &mut [u32],
     objects: &mut [u32],
+    buckets: &mut [u32],
 ) -> u32 {
     if read_case(data) == 0 {
         return 0;
     }
-    if case_agrees(data, nodes, references, bytes, symbols, objects) {
+    if case_agrees(data, nodes, references, bytes, symbols, objects, buckets) {
         return 1;
     }
     2
@@ -310,10 +450,11 @@ fn replay_all(
     bytes: &mut [u8],
     symbols: &mut [u32],
     objects: &mut [u32],
+    buckets: &mut [u32],
 ) {
     let mut wrong: u64 = 0;
     for i in 0..20000 {
-        let s = step(data, nodes, references, bytes, symbols, objects);
+        let s = step(data, nodes, references, bytes, symbols, objects, buckets);
         if s == 0 {
             print_counts(i, wrong);
             return;
@@ -332,6 +473,7 @@ fn main() {
     let mut bytes = [0u8; 16384];
     let mut symbols = [0u32; 1000];
     let mut objects = [0u32; 1000];
+    let mut buckets = [0u32; 1000];
     replay_all(
         &mut data,
         &mut nodes,
@@ -339,5 +481,6 @@ fn main() {
         &mut bytes,
         &mut symbols,
         &mut objects,
+        &mut buckets,
     );
 }

@@ -13,11 +13,11 @@ use Rattle.definition.specs.Kind.{PLUS, MINUS}
 use Rattle.definition.specs.Integer.{little, low-bytes}
 use Rattle.definition.specs.Node.{words, equal}
 use Rattle.definition.specs.Magnitude.{fits, sign, sign-byte, fewest-units, unit-bytes, bignum-row}
-use Rattle.definition.specs.Load.{Room, Reader, Lists, noted, note, read-count, read-sign, read-unit-count, read-magnitude, add-bignum, add-object-node}
+use Rattle.definition.specs.Load.{Room, Reader, noted, note, read-count, read-sign, read-unit-count, read-magnitude, add-bignum, add-object-node}
 use Rattle.definition.specs.declared.Refusal.the-variants.{BadSign, TooBig}
 use Rattle.lists.specs.Magnitudes.{as-written}
 use Rattle.reader.specs.Answers.{coded, at-sign, at-big}
-use Rattle.loader.specs.Holds.{Goes, Leads, Meets, read-number, span-of, at-of}
+use Rattle.loader.specs.Holds.{Lent, Goes, Leads, Meets, read-number, span-of, at-of}
 use Rattle.loader.proofs.Counts.{is}
 use Rattle.loader.proofs.Laws.{still, given, goes-to, goes-first, lead-part, lead-first, lead-after, lead-stop, lead-as, met-as, refuses}
 use Rattle.loader.proofs.Steps.{lost, byte-goes, byte-missing, span-read, span-missing}
@@ -39,7 +39,7 @@ is-sign b = go (eqb b PLUS) (eqb b MINUS) refl refl
     go false true e f = inl (inr (eqb-true b MINUS f))
     go false false e f = inr (neither (eqb-false b PLUS e) (eqb-false b MINUS f))
 
-module _ {input : List ℕ} {room : Room} {T : Lists} {c : List ℕ} (b : ℕ) (q : getD input (at-of c) 0 ≡ b) (l : at-of c < length input) where
+module _ {input : List ℕ} {room : Room} {T : Lent} {c : List ℕ} (b : ℕ) (q : getD input (at-of c) 0 ≡ b) (l : at-of c < length input) where
   signed : Goes input room (read-sign input) T c (pick (eqb b PLUS || eqb b MINUS) (pure b) (refuse (BadSign b))) T (set c 0 (at-of c + 1))
   unfolding read-sign
   signed = goes-first _ (goes-to (ap pure q) (byte-goes l))
@@ -49,7 +49,7 @@ module _ {input : List ℕ} {room : Room} {T : Lists} {c : List ℕ} (b : ℕ) (
   sign-read (inl e) = given (λ s H. omega (arith, e)) (goes-to (rw e refl) signed)
   sign-read (inr e) = given (λ s H. omega (arith, e)) (goes-to (rw e refl) signed)
 
-  sign-other : {limit : ℕ} {T' : Lists} {c' : List ℕ} {m' : Reader ℕ} → b ≤ 255 → (IsSign b → ⊥) → Leads input room limit (read-sign input) m' T c (coded 15 b) T' c'
+  sign-other : {limit : ℕ} {T' : Lent} {c' : List ℕ} {m' : Reader ℕ} → b ≤ 255 → (IsSign b → ⊥) → Leads input room limit (read-sign input) m' T c (coded 15 b) T' c'
   unfolding pick
   sign-other {limit} h f = lead-after (goes-to (simp (ne-eqb b PLUS (λ e. f (inl e)), ne-eqb b MINUS (λ e. f (inr e)))) signed) (refuses (BadSign b) (omega arith) (at-sign limit b h))
 
@@ -68,39 +68,39 @@ sign-said b r e f k = go (is-sign b)
     go (inl y) = rw (e y) y
     go (inr n) = absurd (omega (arith, f n, k))
 
-pub sign-missing : {input : List ℕ} {room : Room} {limit : ℕ} {T T' : Lists} {c c' : List ℕ} {m' : Reader ℕ} → length input ≤ at-of c → Leads input room limit (read-sign input) m' T c (coded 4 0) T' c'
+pub sign-missing : {input : List ℕ} {room : Room} {limit : ℕ} {T T' : Lent} {c c' : List ℕ} {m' : Reader ℕ} → length input ≤ at-of c → Leads input room limit (read-sign input) m' T c (coded 4 0) T' c'
 unfolding read-sign
 sign-missing {T = T} {c = c} l = lead-stop {T' = T} {c' = c} (omega arith) (lead-first {a = 0} _ (byte-missing l))
 
 -- ---- the count of units, by what reading a count answered
 
-module _ {input : List ℕ} {room : Room} {limit : ℕ} {T T' : Lists} {c c' : List ℕ} (b n : ℕ) (k : Meets input room limit (read-count input) T c n T' c') where
+module _ {input : List ℕ} {room : Room} {limit : ℕ} {T T' : Lent} {c c' : List ℕ} (b n : ℕ) (k : Meets input room limit (read-count input) T c n T' c') where
   -- the count is tested, and the rest is left
   counted : Leads input room limit (read-number input room b) (pick (leb n 4) (pure n) (refuse (TooBig n)) >>= read-magnitude input room b) T c n T' c'
   unfolding read-unit-count
   counted = lead-part _ (lead-first _ k)
 
-  pub units-refused : {T'' : Lists} {c'' : List ℕ} {m' : Reader ℕ} → 4294967296 ≤ n → Leads input room limit (read-number input room b) m' T c n T'' c''
+  pub units-refused : {T'' : Lent} {c'' : List ℕ} {m' : Reader ℕ} → 4294967296 ≤ n → Leads input room limit (read-number input room b) m' T c n T'' c''
   units-refused h = lead-stop h counted
 
   pub units-read : n ≤ 4 → Leads input room limit (read-number input room b) (read-magnitude input room b n) T c n T' c'
   unfolding pick pure _>>=_ Rattle.definition.specs.Run.next
   units-read h = rw (le-leb n 4 h) at counted
 
-  pub units-over : {T'' : Lists} {c'' : List ℕ} {m' : Reader ℕ} → 4 < n → n < 4294967296 → Leads input room limit (read-number input room b) m' T c (coded 16 n) T'' c''
+  pub units-over : {T'' : Lent} {c'' : List ℕ} {m' : Reader ℕ} → 4 < n → n < 4294967296 → Leads input room limit (read-number input room b) m' T c (coded 16 n) T'' c''
   unfolding pick
   units-over h l =
       lead-after (counted .goes l) (lead-stop {T' = T'} {c' = c'} (omega arith)
       (lead-part (read-magnitude input room b) (lead-as (rw (lt-leb n 4 h) refl) (refuses {m' = refuse (TooBig n)} (TooBig n) (omega arith) (at-big limit n l)))))
 
-  pub units-missing : {T'' : Lists} {c'' : List ℕ} {m' : Reader ℕ} → n ≤ 4 → length input - at-of c' < n * 2 → Leads input room limit (read-number input room b) m' T c (coded 4 0) T'' c''
+  pub units-missing : {T'' : Lent} {c'' : List ℕ} {m' : Reader ℕ} → n ≤ 4 → length input - at-of c' < n * 2 → Leads input room limit (read-number input room b) m' T c (coded 4 0) T'' c''
   unfolding read-magnitude
   units-missing h l =
       lead-after (units-read h .goes (omega arith)) (lead-stop {T' = T'} {c' = c'} (omega arith) (lead-first {a = []} _ (span-missing (n * 2) l)))
 
 -- ---- the magnitude
 
-module _ {input : List ℕ} {room : Room} {T : Lists} {c : List ℕ} (b n m : ℕ) (h : at-of c + n * 2 ≤ length input) (f : n ≤ 4) (z : length c ≡ 8) (v : m ≡ little (take (n * 2) (drop (at-of c) input)) 0) (w : take (n * 2) (drop (at-of c) input) ≡ low-bytes (n * 2) m) where
+module _ {input : List ℕ} {room : Room} {T : Lent} {c : List ℕ} (b n m : ℕ) (h : at-of c + n * 2 ≤ length input) (f : n ≤ 4) (z : length c ≡ 10) (v : m ≡ little (take (n * 2) (drop (at-of c) input)) 0) (w : take (n * 2) (drop (at-of c) input) ≡ low-bytes (n * 2) m) where
   -- the units are passed, and say m
   said : Goes input room (read-magnitude input room b n) T c (pick (fits m) (add-bignum room b (low-bytes (n * 2) m) m) (refuse (TooBig n))) T (set c 0 (at-of c + n * 2))
   unfolding read-magnitude
@@ -114,7 +114,7 @@ module _ {input : List ℕ} {room : Room} {T : Lists} {c : List ℕ} (b n m : �
   unfolding fits pick
   magnitude-read l = goes-to (rw (lt-ltb m 9223372036854775808 l) refl) said
 
-  pub magnitude-over : {limit : ℕ} {T' : Lists} {c' : List ℕ} {m' : Reader ℕ} → 9223372036854775808 ≤ m → Leads input room limit (read-magnitude input room b n) m' T c (coded 16 n) T' c'
+  pub magnitude-over : {limit : ℕ} {T' : Lent} {c' : List ℕ} {m' : Reader ℕ} → 9223372036854775808 ≤ m → Leads input room limit (read-magnitude input room b n) m' T c (coded 16 n) T' c'
   unfolding fits pick
   magnitude-over {limit} l = lead-after (goes-to (rw (le-ltb m 9223372036854775808 l) refl) said) (refuses (TooBig n) (omega arith) (at-big limit n (omega arith)))
 
@@ -142,7 +142,7 @@ module _ (b m : ℕ) where
   pub kept-as : {x w : ℕ} {k t : Bool} (n : ℕ) → k ≡ eqb b (sign-byte (sign (eqb b MINUS) m)) → w ≡ x → x ≡ fewest-units m → k && eqb n w ≡ t → kept n ≡ t
   kept-as n e f g q = rw (← e, as-written n m, ← g, ← f) q
 
-module _ {input : List ℕ} {room : Room} {T : Lists} {c : List ℕ} (b n m : ℕ) where
+module _ {input : List ℕ} {room : Room} {T : Lent} {c : List ℕ} (b n m : ℕ) where
   pub bignum-kept : kept b m n ≡ true → Goes input room (add-bignum room b (low-bytes (n * 2) m) m) T c (add-object-node room (bignum-row (eqb b MINUS) m)) T c
   unfolding add-bignum note _>>=_ Rattle.definition.specs.Run.next
   bignum-kept e = still (λ s H. ap (λ (t : Bool). add-object-node room (bignum-row (eqb b MINUS) m) (noted t s)) e)

@@ -1,11 +1,13 @@
--- One of the eight counts changed.
+-- One of the ten counts changed.
 use Prim.Native.Nat.{ℕ, _<_}
 use native.Mathlib.Omega.{arith}
-use mathlib.Core.Path.{_≡_, refl, sym, _∙_}
+use mathlib.Core.Path.{_≡_, refl, sym, ap, _∙_}
 use mathlib.Core.List.{List}
 use lib.ListN.{length, set, getD, length-set}
+use lib.Dec.{eqb}
+use borrow.Author.Tests.{eq-eqb, eqb-true}
 use lib.Seq.{getD-set-same, getD-set-other}
-use Rattle.loader.specs.Holds.{Counting}
+use Rattle.loader.specs.Holds.{Counting, compared-of}
 
 -- at most count i differs
 pub record Only (i : ℕ) (c c' : List ℕ) : Type 0 where
@@ -18,9 +20,15 @@ put i n c = record { sized = length-set c i n; others = λ j h. getD-set-other c
 pub none : (i : ℕ) (c : List ℕ) → Only i c c
 none i c = record { sized = refl; others = λ j h. refl }
 
-pub is : (i n : ℕ) (c : List ℕ) → length c ≡ 8 → i < 8 → getD (set c i n) i 0 ≡ n
+pub is : (i n : ℕ) (c : List ℕ) → length c ≡ 10 → i < 10 → getD (set c i n) i 0 ≡ n
 is i n c z l = getD-set-same c i n 0 (omega arith)
 
--- bytes compared are counted on
-pub counting : {i : ℕ} {c c' : List ℕ} → Only i c c' → (7 ≡ i → ⊥) → Counting c → Counting c'
-counting o n k e = k (sym (o .others 7 n) ∙ e)
+-- bytes compared are counted if they were
+pub counting : {i : ℕ} {c c' : List ℕ} → Only i c c' → (7 ≡ i → ⊥) → eqb (compared-of c') 0 ≡ eqb (compared-of c) 0
+counting o n = ap (λ (x : ℕ). eqb x 0) (o .others 7 n)
+
+pub still-counting : (c c' : List ℕ) → eqb (compared-of c') 0 ≡ eqb (compared-of c) 0 → Counting c → Counting c'
+still-counting c c' e k z = k (eqb-true _ 0 (sym e ∙ eq-eqb _ 0 z))
+
+pub still-idle : (c c' : List ℕ) → eqb (compared-of c') 0 ≡ eqb (compared-of c) 0 → compared-of c ≡ 0 → compared-of c' ≡ 0
+still-idle c c' e z = eqb-true _ 0 (e ∙ eq-eqb _ 0 z)

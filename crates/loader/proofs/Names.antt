@@ -4,7 +4,7 @@ use native.Mathlib.Omega.{arith}
 use native.Mathlib.Numerals.{add-one}
 use native.Mathlib.Nat.{add-zero, zero-add}
 use mathlib.Core.Path.{_≡_, refl, sym, ap, _∙_, subst}
-use mathlib.Core.Bool.{Bool, true, false}
+use mathlib.Core.Bool.{Bool, true, false, _&&_}
 use mathlib.Core.List.{List, [], _∷_, _++_}
 use mathlib.Core.Option.{Option, none, some}
 use lib.ListN.{length, take, drop, getD, set, length-take, length-drop, drop-of-length-le, List·getD-append}
@@ -79,21 +79,26 @@ range-more b bs s l h =
     let y : l ≤ length (drop s b) = simp length-drop (omega arith) in
     ap (λ (x : List ℕ). take l x) (drop-append-le s b bs x) ∙ take-append-le l (drop s b) bs y
 
-named-more : (b bs name : List ℕ) (r : Row) → Fit (length b) r → named (b ++ bs) name r ≡ named b name r
-unfolding named kind name-of range
-named-more b bs name nil f = refl
-named-more b bs name (bool x) f = refl
-named-more b bs name (fixnum w) f = refl
-named-more b bs name (symbol s l) f = ap (λ (x : List ℕ). equal name x) (range-more b bs s l f)
-named-more b bs name (array s n) f = refl
-named-more b bs name (hash s n d) f = refl
-named-more b bs name (object s n c) f = refl
-named-more b bs name (string s l v) f = refl
-named-more b bs name (user s l c v) f = refl
-named-more b bs name (float s l) f = refl
-named-more b bs name (bignum low high m) f = refl
+-- a name is the same among more bytes
+pub name-more : (b bs : List ℕ) (r : Row) → Fit (length b) r → name-of (b ++ bs) r ≡ name-of b r
+unfolding name-of range
+name-more b bs nil f = refl
+name-more b bs (bool x) f = refl
+name-more b bs (fixnum w) f = refl
+name-more b bs (symbol s l) f = range-more b bs s l f
+name-more b bs (array s n) f = refl
+name-more b bs (hash s n d) f = refl
+name-more b bs (object s n c) f = refl
+name-more b bs (string s l v) f = refl
+name-more b bs (user s l c v) f = refl
+name-more b bs (float s l) f = refl
+name-more b bs (bignum low high m) f = refl
 
-fit-any : (n : ℕ) (rows : List Row) (i : ℕ) → AllFit n rows → Fit n (getD rows i nil)
+named-more : (b bs name : List ℕ) (r : Row) → Fit (length b) r → named (b ++ bs) name r ≡ named b name r
+unfolding named
+named-more b bs name r f = ap (λ (x : List ℕ). eqb (kind r) 3 && equal name x) (name-more b bs r f)
+
+pub fit-any : (n : ℕ) (rows : List Row) (i : ℕ) → AllFit n rows → Fit n (getD rows i nil)
 fit-any n [] i f = tt
 fit-any n (r ∷ rows) zero f = f 0 (omega arith)
 fit-any n (r ∷ rows) (suc i) f = fit-any n rows i (λ j l. f (suc j) (omega arith))

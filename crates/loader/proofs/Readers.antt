@@ -16,13 +16,14 @@ use Rattle.definition.specs.Run.{ok, pure, refuse, pick, look, _>>=_}
 use Rattle.definition.specs.Kind.{NIL, TRUE, FALSE, FIXNUM, SYMBOL, SYMBOL-LINK, OBJECT-LINK, INSTANCE-VARIABLES, ARRAY, HASH, HASH-DEFAULT, OBJECT, STRING, USER-DEFINED, FLOAT, BIGNUM}
 use Rattle.definition.specs.Node.{Row, nil, symbol, string, float, absent, words, equal}
 use Rattle.definition.specs.Arena.{range, find-symbol, named, bytes-compared, compared-with, compared-among}
-use Rattle.definition.specs.Load.{Room, State, Reader, Lists, at-set, noted, note, compared-more, compare, takes-variables, Head, String, Float, Unknown, head, value-of, read-text, read-string, read-float, read-header, read-value, read-symbol, read-symbol-link, read-symbol-like, read-bytes, intern, intern-as, add-symbol, add-bytes, add-node}
+use Rattle.definition.specs.Load.{Room, State, Reader, at-set, noted, note, compared-more, compare, takes-variables, Head, String, Float, Unknown, head, value-of, read-text, read-string, read-float, read-header, read-value, read-symbol, read-symbol-link, read-symbol-like, read-bytes, intern, intern-as, add-symbol, add-bytes, add-node}
 use Rattle.definition.specs.declared.Refusal.the-variants.{NotASymbol, TooDeep}
-use Rattle.loader.specs.Holds.{Holds, Held, Goes, Leads, Does, Leaf, Plain, Found, Alike, Compared, answered, Counting, risen, new-symbol, read-name, add-name, after-i, find-listed, span, span-of, at-of, nodes-of, symbols-of, compared-of}
+use Rattle.loader.specs.Holds.{Lent, Holds, Held, Goes, Leads, Does, Leaf, Plain, Found, Alike, Compared, answered, Counting, risen, new-symbol, read-name, add-name, after-i, find-listed, span, span-of, at-of, nodes-of, symbols-of, compared-of, space-of}
 use Rattle.lists.specs.Compared.{among-most, symbol-count-most}
 use Rattle.reader.specs.Answers.{Reads, coded, at-name, at-level}
 use Rattle.loader.proofs.Counts as K
 use Rattle.loader.proofs.Stores.{at-held}
+use Rattle.loader.proofs.Hashing.{hashing-only}
 use Rattle.loader.proofs.Names.{listed-here, listed-on, listed-none}
 use Rattle.loader.proofs.Interned.{seek, searched, searched-list, risen-met, risen-next, risen-end}
 use Rattle.loader.proofs.Laws.{still, given, goes-to, goes-first, lead-first, lead-after, lead-stop, lead-as, refuses, bind-assoc}
@@ -30,7 +31,7 @@ use Rattle.loader.proofs.Steps.{grown-rows, length-span, name-passed, m
 
 -- ---- a value after its kind byte
 
-module _ {input : List ℕ} {room : Room} {T : Lists} {c : List ℕ} (limit levels : ℕ) where
+module _ {input : List ℕ} {room : Room} {T : Lent} {c : List ℕ} (limit levels : ℕ) where
   -- the kind byte is read, and the rest is left
   pub kind-read : (levels ≡ 0 → ⊥) → at-of c < length input → Goes input room (read-value input room limit levels) T c (value-of input room (read-value input room limit (levels - 1)) (getD input (at-of c) 0) (head (getD input (at-of c) 0))) T (set c 0 (at-of c + 1))
   unfolding read-value
@@ -39,23 +40,23 @@ module _ {input : List ℕ} {room : Room} {T : Lists} {c : List ℕ} (limit leve
       let rest = read-value input room limit (levels - 1) in
       subst (λ x. Goes input room (read-value input room limit x) T c (value-of input room rest (getD input (at-of c) 0) (head (getD input (at-of c) 0))) T (set c 0 (at-of c + 1))) (sym a) (goes-first (λ k. value-of input room rest k (head k)) (byte-goes l))
 
-  pub kind-missing : {T' : Lists} {c' : List ℕ} {m' : Reader ℕ} → (levels ≡ 0 → ⊥) → length input ≤ at-of c → Leads input room limit (read-value input room limit levels) m' T c (coded 4 0) T' c'
+  pub kind-missing : {T' : Lent} {c' : List ℕ} {m' : Reader ℕ} → (levels ≡ 0 → ⊥) → length input ≤ at-of c → Leads input room limit (read-value input room limit levels) m' T c (coded 4 0) T' c'
   unfolding read-value
   kind-missing {T'} {c'} {m'} n l =
       let a : levels ≡ suc (levels - 1) = omega arith in
       subst (λ x. Leads input room limit (read-value input room limit x) m' T c (coded 4 0) T' c') (sym a)
       (lead-stop {T' = T} {c' = c} (omega arith) (lead-first {a = 0} (λ k. value-of input room (read-value input room limit (levels - 1)) k (head k)) (byte-missing l)))
 
-  pub level-missing : {T' : Lists} {c' : List ℕ} {m' : Reader ℕ} → levels ≡ 0 → Leads input room limit (read-value input room limit levels) m' T c (coded 11 0) T' c'
+  pub level-missing : {T' : Lent} {c' : List ℕ} {m' : Reader ℕ} → levels ≡ 0 → Leads input room limit (read-value input room limit levels) m' T c (coded 11 0) T' c'
   unfolding read-value
   level-missing {T'} {c'} {m'} e = rw e (refuses (TooDeep limit) (omega arith) (at-level limit))
 
 -- the rest of a value by its head
-pub headed : {input : List ℕ} {room : Room} {limit : ℕ} {T T' : Lists} {c c' : List ℕ} {r : ℕ} {m' : Reader ℕ} (inner : Reader ℕ) (k : ℕ) (hd : Head) → head k ≡ hd → Leads input room limit (value-of input room inner k hd) m' T c r T' c' → Leads input room limit (value-of input room inner k (head k)) m' T c r T' c'
+pub headed : {input : List ℕ} {room : Room} {limit : ℕ} {T T' : Lent} {c c' : List ℕ} {r : ℕ} {m' : Reader ℕ} (inner : Reader ℕ) (k : ℕ) (hd : Head) → head k ≡ hd → Leads input room limit (value-of input room inner k hd) m' T c r T' c' → Leads input room limit (value-of input room inner k (head k)) m' T c r T' c'
 headed {input} {room} inner k hd e m = lead-as (ap (λ h. value-of input room inner k h) e) m
 
 -- a byte string alone, of one of two kinds
-pub text-headed : {input : List ℕ} {room : Room} {limit : ℕ} {T T' : Lists} {c c' : List ℕ} {r k kind : ℕ} {m' : Reader ℕ} (inner : Reader ℕ) → (k ≡ STRING) ⊎ (k ≡ FLOAT) → (k ≡ STRING → kind ≡ 7) → ((k ≡ STRING → ⊥) → kind ≡ 9)
+pub text-headed : {input : List ℕ} {room : Room} {limit : ℕ} {T T' : Lent} {c c' : List ℕ} {r k kind : ℕ} {m' : Reader ℕ} (inner : Reader ℕ) → (k ≡ STRING) ⊎ (k ≡ FLOAT) → (k ≡ STRING → kind ≡ 7) → ((k ≡ STRING → ⊥) → kind ≡ 9)
     → ((row : ℕ → ℕ → Row) → ((start n : ℕ) → words (row start n) ≡ kind ∷ start ∷ n ∷ 0 ∷ 0 ∷ 0 ∷ 0 ∷ []) → ((start n : ℕ) → Plain (row start n)) → Leads input room limit (read-text input room row) m' T c r T' c')
     → Leads input room limit (value-of input room inner k (head k)) m' T c r T' c'
 unfolding head pick value-of read-string read-float words
@@ -71,7 +72,7 @@ other k l a b c d e f g h i j = simp (ne-eqb k FIXNUM a, ne-eqb k SYMBOL-LINK b,
 
 -- ---- the header
 
-module _ {input : List ℕ} {room : Room} {limit : ℕ} {T : Lists} {c : List ℕ} {r : ℕ} where
+module _ {input : List ℕ} {room : Room} {limit : ℕ} {T : Lent} {c : List ℕ} {r : ℕ} where
   pub header-read : r ≡ 0 → at-of c + 2 ≤ length input → Reads (read-header input) (at-of c) r (at-of c + 2) → Does input room limit (read-header input) T c r T (set c 0 (at-of c + 2))
   header-read z h k = let l : r < 4294967296 = omega arith in given (λ s H. l) (moved (at-of c + 2) (omega arith) h (λ s H. k .reads l s (sym (H .count-at)) ∙ ap (λ t. ok tt (noted t (at-set (at-of c + 2) s))) (eq-eqb r 0 z)))
 
@@ -79,12 +80,12 @@ module _ {input : List ℕ} {room : Room} {limit : ℕ} {T : Lists} {c : List �
   pub header-older : (r ≡ 0 → ⊥) → r < 4294967296 → at-of c + 2 ≤ length input → Reads (read-header input) (at-of c) r (at-of c + 2) → Does input room limit (read-header input) T c r T (set (set c 0 (at-of c + 2)) 6 1)
   header-older z l h k = given (λ s H. l) (moved-lost (at-of c + 2) (omega arith) h (λ s H. k .reads l s (sym (H .count-at)) ∙ ap (λ t. ok tt (noted t (at-set (at-of c + 2) s))) (ne-eqb r 0 z)))
 
-  pub header-stop : {T' : Lists} {c' : List ℕ} → 4294967296 ≤ r → Reads (read-header input) (at-of c) r (at-of c + 2) → Does input room limit (read-header input) T c r T' c'
+  pub header-stop : {T' : Lent} {c' : List ℕ} → 4294967296 ≤ r → Reads (read-header input) (at-of c) r (at-of c + 2) → Does input room limit (read-header input) T c r T' c'
   header-stop l k = record { goes = λ h. absurd (omega (arith, l, h)); stops = λ h. record { refuses = λ s H. k .stops h limit s (sym (H .count-at)) } }
 
 -- ---- a name
 
-module _ {input : List ℕ} {room : Room} {T : Lists} {c : List ℕ} (l : at-of c < length input) where
+module _ {input : List ℕ} {room : Room} {T : Lent} {c : List ℕ} (l : at-of c < length input) where
   like : Goes input room (read-symbol-like input room) T c (pick (eqb (getD input (at-of c) 0) SYMBOL) (read-symbol input room) (pick (eqb (getD input (at-of c) 0) SYMBOL-LINK) (read-symbol-link input) (refuse (NotASymbol (getD input (at-of c) 0))))) T (set c 0 (at-of c + 1))
   unfolding read-symbol-like
   like = goes-first _ (byte-goes l)
@@ -97,11 +98,11 @@ module _ {input : List ℕ} {room : Room} {T : Lists} {c : List ℕ} (l : at-of 
   unfolding pick
   like-link e = goes-to (rw e refl) like
 
-  pub like-neither : {limit : ℕ} {T' : Lists} {c' : List ℕ} {m' : Reader ℕ} → getD input (at-of c) 0 ≤ 255 → (getD input (at-of c) 0 ≡ SYMBOL → ⊥) → (getD input (at-of c) 0 ≡ SYMBOL-LINK → ⊥) → Leads input room limit (read-symbol-like input room) m' T c (coded 9 (getD input (at-of c) 0)) T' c'
+  pub like-neither : {limit : ℕ} {T' : Lent} {c' : List ℕ} {m' : Reader ℕ} → getD input (at-of c) 0 ≤ 255 → (getD input (at-of c) 0 ≡ SYMBOL → ⊥) → (getD input (at-of c) 0 ≡ SYMBOL-LINK → ⊥) → Leads input room limit (read-symbol-like input room) m' T c (coded 9 (getD input (at-of c) 0)) T' c'
   unfolding pick
   like-neither {limit} h a b = lead-after (goes-to (simp (ne-eqb _ _ a, ne-eqb _ _ b)) like) (refuses (NotASymbol (getD input (at-of c) 0)) (omega arith) (at-name limit (getD input (at-of c) 0) h))
 
-pub like-missing : {input : List ℕ} {room : Room} {limit : ℕ} {T T' : Lists} {c c' : List ℕ} {m' : Reader ℕ} → length input ≤ at-of c → Leads input room limit (read-symbol-like input room) m' T c (coded 4 0) T' c'
+pub like-missing : {input : List ℕ} {room : Room} {limit : ℕ} {T T' : Lent} {c c' : List ℕ} {m' : Reader ℕ} → length input ≤ at-of c → Leads input room limit (read-symbol-like input room) m' T c (coded 4 0) T' c'
 unfolding read-symbol-like
 like-missing {T = T} {c = c} l = lead-stop {T' = T} {c' = c} (omega arith) (lead-first {a = 0} _ (byte-missing l))
 
@@ -120,7 +121,7 @@ found-as {s} {name} {r} F = go (ltb r 4294967296) refl
     go true e = F .there (ltb-true r 4294967296 e)
     go false e = F .none (ltb-false r 4294967296 e)
 
-module _ {input : List ℕ} {room : Room} {T : Lists} {c : List ℕ} (n r : ℕ) (h : at-of c + n ≤ length input) (f : (s : State) → Holds input room s T c → Found s (span input (at-of c + n) n) r) where
+module _ {input : List ℕ} {room : Room} {T : Lent} {c : List ℕ} (n r : ℕ) (h : at-of c + n ≤ length input) (f : (s : State) → Holds input room s T c → Found s (span input (at-of c + n) n) r) where
   -- the bytes that a search for the name compares
   abbrev costs : State → ℕ
   costs s = compared-among (s .bytes) (span input (at-of c + n) n) (s .nodes)
@@ -129,7 +130,7 @@ module _ {input : List ℕ} {room : Room} {T : Lists} {c : List ℕ} (n r : ℕ)
   costs-most s = let z = length-span input (at-of c + n) n (omega arith) h in rw z at (rows-most (s .bytes) (span input (at-of c + n) n) (s .nodes))
 
   -- a name was passed and searched for
-  sought : {c' : List ℕ} → at-of c' ≡ at-of c + n → ((s : State) → Holds input room s T c → Holds input room (compared-more (costs s) (at-set (at-of c + n) s)) T c') → (Counting c → Counting c') → Goes input room (read-name input room n) T c (add-name room (span-of input c' n) r) T c'
+  sought : {c' : List ℕ} → at-of c' ≡ at-of c + n → ((s : State) → Holds input room s T c → Holds input room (compared-more (costs s) (at-set (at-of c + n) s)) T c') → eqb (compared-of c') 0 ≡ eqb (compared-of c) 0 → Goes input room (read-name input room n) T c (add-name room (span-of input c' n) r) T c'
   unfolding read-bytes range intern look compare pick _>>=_ Rattle.definition.specs.Run.next
   sought {c'} a g k = record {
     goes = λ s H.
@@ -151,24 +152,24 @@ module _ {input : List ℕ} {room : Room} {T : Lists} {c : List ℕ} (n r : ℕ)
   }
 
   -- where nothing is counted
-  pub searched-plainly : length c ≡ 8 → compared-of c ≡ 0 → Goes input room (read-name input room n) T c (add-name room (span-of input (set c 0 (at-of c + n)) n) r) T (set c 0 (at-of c + n))
+  pub searched-plainly : length c ≡ 10 → compared-of c ≡ 0 → Goes input room (read-name input room n) T c (add-name room (span-of input (set c 0 (at-of c + n)) n) r) T (set c 0 (at-of c + n))
   searched-plainly z e =
       let o = K.put 0 (at-of c + n) c in
       let a = K.is 0 (at-of c + n) c z (omega arith) in
-      sought a (λ s H. name-passed n H (o .sized) (λ j p q. o .others j p) a (λ k. absurd (k (o .others 7 (omega arith) ∙ e))) h (costs-most s)) (λ k. absurd (k e))
+      sought a (λ s H. name-passed n H (o .sized) (λ j p q. o .others j p) a (λ k. absurd (k (o .others 7 (omega arith) ∙ e))) h (costs-most s) (λ b. hashing-only o (omega arith) (omega arith) (H .hashed b))) (K.counting o (omega arith))
 
   -- where it is
-  pub searched-counting : {c₁ : List ℕ} (y : ℕ) → length c ≡ 8 → Counting c → c₁ ≡ set c 7 (compared-of c + y) → ((s : State) → Holds input room s T c → c₁ ≡ set c 7 (compared-of c + costs s)) → Goes input room (read-name input room n) T c (add-name room (span-of input (set c₁ 0 (at-of c + n)) n) r) T (set c₁ 0 (at-of c + n))
+  pub searched-counting : {c₁ : List ℕ} (y : ℕ) → length c ≡ 10 → Counting c → c₁ ≡ set c 7 (compared-of c + y) → ((s : State) → Holds input room s T c → c₁ ≡ set c 7 (compared-of c + costs s)) → Goes input room (read-name input room n) T c (add-name room (span-of input (set c₁ 0 (at-of c + n)) n) r) T (set c₁ 0 (at-of c + n))
   searched-counting {c₁} y z k d e =
       let q = subst (K.Only 7 c) (sym d) (K.put 7 (compared-of c + y) c) in
       let o = K.put 0 (at-of c + n) c₁ in
       let a = K.is 0 (at-of c + n) c₁ (q .sized ∙ z) (omega arith) in
       let t : (v : ℕ) → c₁ ≡ set c 7 (compared-of c + v) → compared-of (set c₁ 0 (at-of c + n)) ≡ compared-of c + v = λ v g. o .others 7 (omega arith) ∙ ap (λ (l : List ℕ). getD l 7 0) g ∙ K.is 7 (compared-of c + v) c z (omega arith) in
       sought a
-      (λ s H. name-passed n H (o .sized ∙ q .sized) (λ j u v. o .others j u ∙ q .others j v) a (λ _. omega (arith, t (costs s) (e s H), H .notes .compared k)) h (costs-most s))
-      (λ _ g. k (omega (arith, t y d, g)))
+      (λ s H. name-passed n H (o .sized ∙ q .sized) (λ j u v. o .others j u ∙ q .others j v) a (λ _. omega (arith, t (costs s) (e s H), H .notes .compared k)) h (costs-most s) (λ b. absurd (k (H .hashed b .uncounted))))
+      (ne-eqb (compared-of (set c₁ 0 (at-of c + n))) 0 (λ g. k (omega (arith, t y d, g))) ∙ sym (ne-eqb (compared-of c) 0 k))
 
-module _ {input : List ℕ} {room : Room} {T : Lists} {c : List ℕ} (name : List ℕ) {r : ℕ} where
+module _ {input : List ℕ} {room : Room} {T : Lent} {c : List ℕ} (name : List ℕ) {r : ℕ} where
   pub known : r < 4294967296 → Goes input room (add-name room name r) T c (add-symbol room r) T (set c 6 1)
   unfolding intern-as note pure pick _>>=_ Rattle.definition.specs.Run.next
   known l = lost (λ s H. ap (λ (f : Option ℕ). (intern-as room name f >>= add-symbol room) s) (ap (λ (t : Bool). pick t (some r) none) (lt-ltb r 4294967296 l)))
@@ -179,7 +180,7 @@ module _ {input : List ℕ} {room : Room} {T : Lists} {c : List ℕ} (name : Lis
 
 -- ---- what stands directly after `I`
 
-module _ {input : List ℕ} {room : Room} {T : Lists} {c : List ℕ} (inner : Reader ℕ) where
+module _ {input : List ℕ} {room : Room} {T : Lent} {c : List ℕ} (inner : Reader ℕ) where
   -- a kind that dump writes there
   pub after-takes : takes-variables (getD input (at-of c) 0) ≡ true → Goes input room (after-i input inner) T c inner T c
   unfolding look note _>>=_ Rattle.definition.specs.Run.next
@@ -204,15 +205,18 @@ takes-past input at l = ap takes-variables (List·getD-eq-default input 0 l)
 
 -- ---- what is held, for the code's needs
 
-module _ {input : List ℕ} {T : Lists} {c : List ℕ} (H : Held input T c) where
+module _ {input : List ℕ} {T : Lent} {c : List ℕ} (H : Held input T c) where
   pub at-inside : at-of c ≤ length input
   at-inside = omega arith
 
   pub nodes-small : length (T .nodes) ≤ 2147483647
   nodes-small = omega arith
 
-  pub eight : length c ≡ 8
-  eight = H .holds .counts
+  pub space-fits : space-of c * 7 ≤ length (T .nodes)
+  space-fits = omega arith
+
+  pub ten : length c ≡ 10
+  ten = H .holds .counts
 
   pub slot-room : {h : ℕ} → h < nodes-of c → h * 7 + 7 ≤ length (T .nodes)
   slot-room l = omega arith
@@ -242,17 +246,17 @@ compared-by {s} {name} {Y} {row} {n} {a} {r} A l p q (e, f) = go (ltb a n) refl
 
 -- ---- one turn of the search for a symbol
 
-module _ {input : List ℕ} {room : Room} {s : State} {T : Lists} {c : List ℕ} (H : Holds input room s T c) (i : ℕ) where
-  same-entry : i < symbols-of c → getD (T .symbols) i 0 ≡ getD (s .symbols) i 0
+module _ {input : List ℕ} {room : Room} {s : State} {T : Lent} {c : List ℕ} (H : Holds input room s T c) (i : ℕ) where
+  same-entry : i < symbols-of c → getD (T .symbols .list) i 0 ≡ getD (s .symbols) i 0
   same-entry l = at-held i (H .symbols) (omega (arith, H .count-symbols))
 
-  named-there : {t : Bool} (name : List ℕ) → i < symbols-of c → t ≡ named (s .bytes) name (getD (s .nodes) (getD (T .symbols) i 0) nil) → t ≡ named (s .bytes) name (getD (s .nodes) (getD (s .symbols) i 0) nil)
+  named-there : {t : Bool} (name : List ℕ) → i < symbols-of c → t ≡ named (s .bytes) name (getD (s .nodes) (getD (T .symbols .list) i 0) nil) → t ≡ named (s .bytes) name (getD (s .nodes) (getD (s .symbols) i 0) nil)
   named-there name l f = f ∙ ap (λ (h : ℕ). named (s .bytes) name (getD (s .nodes) h nil)) (same-entry l)
 
-  pub found-at : {t : Bool} → i < symbols-of c → (name : List ℕ) → t ≡ true → t ≡ named (s .bytes) name (getD (s .nodes) (getD (T .symbols) i 0) nil) → find-listed (s .bytes) name (s .nodes) (drop i (s .symbols)) ≡ some (getD (T .symbols) i 0)
+  pub found-at : {t : Bool} → i < symbols-of c → (name : List ℕ) → t ≡ true → t ≡ named (s .bytes) name (getD (s .nodes) (getD (T .symbols .list) i 0) nil) → find-listed (s .bytes) name (s .nodes) (drop i (s .symbols)) ≡ some (getD (T .symbols .list) i 0)
   found-at l name e f = listed-here (s .bytes) name (s .nodes) (s .symbols) i (omega (arith, H .count-symbols)) e (named-there name l f) ∙ ap (λ (h : ℕ). some h) (sym (same-entry l))
 
-  pub found-on : {t : Bool} → i < symbols-of c → (name : List ℕ) → t ≡ false → t ≡ named (s .bytes) name (getD (s .nodes) (getD (T .symbols) i 0) nil) → find-listed (s .bytes) name (s .nodes) (drop i (s .symbols)) ≡ find-listed (s .bytes) name (s .nodes) (drop (i + 1) (s .symbols))
+  pub found-on : {t : Bool} → i < symbols-of c → (name : List ℕ) → t ≡ false → t ≡ named (s .bytes) name (getD (s .nodes) (getD (T .symbols .list) i 0) nil) → find-listed (s .bytes) name (s .nodes) (drop i (s .symbols)) ≡ find-listed (s .bytes) name (s .nodes) (drop (i + 1) (s .symbols))
   found-on l name e f = listed-on (s .bytes) name (s .nodes) (s .symbols) i (omega (arith, H .count-symbols)) e (named-there name l f)
 
   pub found-none : (name : List ℕ) → symbols-of c ≤ i → find-listed (s .bytes) name (s .nodes) (drop i (s .symbols)) ≡ none
@@ -261,7 +265,7 @@ module _ {input : List ℕ} {room : Room} {s : State} {T : Lists} {c : List ℕ}
 -- ---- one turn of the search that counts
 
 -- the count fits 64 bits, with one name more
-count-fits : {input : List ℕ} {room : Room} {s : State} {T : Lists} {c : List ℕ} (name : List ℕ) → Holds input room s T c → length name ≤ length input → suc (s .notes .compared) + compared-among (s .bytes) name (s .nodes) < 18446744073709551616
+count-fits : {input : List ℕ} {room : Room} {s : State} {T : Lent} {c : List ℕ} (name : List ℕ) → Holds input room s T c → length name ≤ length input → suc (s .notes .compared) + compared-among (s .bytes) name (s .nodes) < 18446744073709551616
 count-fits {input} {room} {s} name H l =
     let x : s .at ≤ 2147483647 = omega (arith, H .inside, H .short) in
     let y : length name ≤ 2147483647 = omega (arith, l, H .short) in
@@ -279,7 +283,7 @@ pub record Turned (s : State) (name : List ℕ) (first total next i : ℕ) : Typ
   pub found : find-symbol (s .bytes) name (s .nodes) 0 ≡ left s name next i .0
   pub counted : first + compared-among (s .bytes) name (s .nodes) ≡ total + left s name next i .1
 
-module _ {input : List ℕ} {room : Room} {s : State} {T : Lists} {c : List ℕ} (H : Holds input room s T c) (name : List ℕ) where
+module _ {input : List ℕ} {room : Room} {s : State} {T : Lent} {c : List ℕ} (H : Holds input room s T c) (name : List ℕ) where
   pub turned-start : (first : ℕ) → Turned s name first first 0 0
   turned-start first =
       let e = searched-list name (H .interned) in
@@ -296,7 +300,7 @@ module _ {input : List ℕ} {room : Room} {s : State} {T : Lists} {c : List ℕ}
 
     module _ (l : i < symbols-of c) where
       abbrev entry : ℕ
-      entry = getD (T .symbols) i 0
+      entry = getD (T .symbols .list) i 0
 
       is-entry : entry ≡ getD (s .symbols) i 0
       is-entry = same-entry H i l

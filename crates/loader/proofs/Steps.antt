@@ -1,5 +1,5 @@
 -- One law for each primitive of the definition: what the code did to its table and its count is what the definition does.
-use Prim.Native.Nat.{ℕ, zero, suc, _+_, _-_, _*_, _/_, _≤_, _<_}
+use Prim.Native.Nat.{ℕ, zero, suc, _+_, _-_, _*_, _≤_, _<_}
 use native.Mathlib.Omega.{arith}
 use native.Mathlib.Nat.{le-trans, mul-le-mul, add-mul}
 use mathlib.Core.Path.{_≡_, refl, sym, ap, _∙_, subst}
@@ -13,16 +13,17 @@ use Rattle.definition.specs.Run.{Outcome, ok, pure, refuse, next, look, pick, _
 use Rattle.definition.specs.Integer.{form, value, wrong-sign, integer-bytes}
 use Rattle.definition.specs.Node.{Row, nil, bool, fixnum, symbol, array, hash, object, string, user, float, bignum, absent, present, words, flat, equal}
 use Rattle.definition.specs.Arena.{range, name-of, named, bytes-compared, compared-with}
-use Rattle.definition.specs.Load.{Room, Notes, State, Reader, Lists, lists, at-set, nodes-set, references-set, bytes-set, symbols-set, objects-set, noted, copied-more, compared-more, read-byte, read-bytes, read-integer, add-node, reserve, add-bytes, add-symbol, add-object, fill, put-reference, entry, set-variables}
+use Rattle.definition.specs.Load.{Room, Notes, State, Reader, at-set, nodes-set, references-set, bytes-set, symbols-set, objects-set, noted, copied-more, compared-more, read-byte, read-bytes, read-integer, add-node, reserve, add-bytes, add-symbol, add-object, fill, put-reference, entry, set-variables}
 use Rattle.definition.specs.declared.Refusal.{Refusal}
 use Rattle.definition.specs.declared.Refusal.the-variants.{ShortInput, NotAnObject, NoSpace, WrongSign}
 use Rattle.reader.specs.Answers.{coded, refusal-at, at-short, at-variables, at-space, at-wrong-sign}
 use Rattle.reader.specs.Integers.{form-at, size-at, word-at, wrong-at, dumped-at, dumped-agrees, sign-checked, integer-read, integer-wrong, integer-short, integer-none, integer-small}
-use Rattle.loader.specs.Holds.{Begins, Holds, Held, Grown, Went, Goes, Leads, Meets, Spans, AllBelow, Plain, Symbolic, Entry, Fit, AllFit, Interned, Noted, Free, span, span-of, new-symbol, settle, at-of, nodes-of, references-of, bytes-of, symbols-of, objects-of, compared-of, Counting}
+use Rattle.loader.specs.Holds.{Symbols, Lent, lent, by-list, Begins, Hashing, Holds, Held, Grown, Went, Goes, Leads, Meets, Spans, AllBelow, Plain, Symbolic, Entry, Fit, AllFit, Interned, Noted, Free, span, span-of, new-symbol, settle, at-of, nodes-of, references-of, bytes-of, symbols-of, objects-of, compared-of, space-of, Counting}
 use Rattle.loader.proofs.Counts.{Only, is, none, counting}
 use Rattle.loader.proofs.Counts as K
 use Rattle.loader.proofs.Stores.{push, put, put-row, push-row, at-held, sets-first, split}
 use Rattle.loader.proofs.Interned.{interned-bytes, interned-more, interned-set, interned-known, interned-new}
+use Rattle.loader.proofs.Hashing.{hashing-only, hashing-bytes, hashing-more, hashing-set}
 use Rattle.loader.proofs.Names.{symbolic-kind, symbolic-below, plain-set, symbol-name, range-more}
 use Rattle.lists.specs.Same.{same-length}
 use Rattle.loader.proofs.Laws.{word, word-0, there, free-plain, denied, given, still, met-as, lead-first, lead-after, lead-stop}
@@ -76,7 +77,7 @@ below-snoc {n} {h} (x ∷ l) b g (suc i) lt = below-snoc l (λ j k. b (suc j) (o
 
 -- ---- a state is held with one part changed
 
-noted-same : {i : ℕ} {c c' : List ℕ} {n : Notes} → Only i c c' → (6 ≡ i → ⊥) → (7 ≡ i → ⊥) → Noted n c → Noted n c'
+pub noted-same : {i : ℕ} {c c' : List ℕ} {n : Notes} → Only i c c' → (6 ≡ i → ⊥) → (7 ≡ i → ⊥) → Noted n c → Noted n c'
 noted-same o a b N = record { form = ap (λ (x : ℕ). eqb x 0) (o .others 6 a) ∙ N .form; compared = λ k. o .others 7 b ∙ N .compared (λ e. k (o .others 7 b ∙ e)) }
 
 -- the bound of the bytes compared, where more was read and there are more nodes
@@ -84,62 +85,63 @@ bound-more : {x a b m n : ℕ} → x ≤ a * m → a ≤ b → m ≤ n → x ≤
 bound-more h p q = le-trans h (mul-le-mul p q)
 
 -- what was read is noted as not in dump form
-form-lost : {input : List ℕ} {room : Room} {s : State} {c : List ℕ} {T : Lists} → Holds input room s T c → Holds input room (noted false s) T (set c 6 1)
+form-lost : {input : List ℕ} {room : Room} {s : State} {c : List ℕ} {T : Lent} → Holds input room s T c → Holds input room (noted false s) T (set c 6 1)
 form-lost {c = c} H =
     let o = K.put 6 1 c in
-    record { small = H .small; short = H .short; counts = o .sized ∙ H .counts; nodes = H .nodes; references = H .references; bytes = H .bytes; symbols = H .symbols; objects = H .objects; count-at = o .others 0 (omega arith) ∙ H .count-at; inside = H .inside; count-nodes = o .others 1 (omega arith) ∙ H .count-nodes; room-nodes = H .room-nodes; count-references = o .others 2 (omega arith) ∙ H .count-references; count-bytes = o .others 3 (omega arith) ∙ H .count-bytes; count-symbols = o .others 4 (omega arith) ∙ H .count-symbols; count-objects = o .others 5 (omega arith) ∙ H .count-objects; notes = record { form = ap (λ (x : ℕ). eqb x 0) (is 6 1 c (H .counts) (omega arith)); compared = λ k. o .others 7 (omega arith) ∙ H .notes .compared (λ e. k (o .others 7 (omega arith) ∙ e)) }; copied = H .copied; compared = H .compared; below = H .below; fit = H .fit; interned = H .interned }
+    record { small = H .small; short = H .short; counts = o .sized ∙ H .counts; nodes = H .nodes; references = H .references; bytes = H .bytes; symbols = H .symbols; objects = H .objects; count-at = o .others 0 (omega arith) ∙ H .count-at; inside = H .inside; count-nodes = o .others 1 (omega arith) ∙ H .count-nodes; room-nodes = H .room-nodes; count-space = o .others 9 (omega arith) ∙ H .count-space; count-references = o .others 2 (omega arith) ∙ H .count-references; count-bytes = o .others 3 (omega arith) ∙ H .count-bytes; count-symbols = o .others 4 (omega arith) ∙ H .count-symbols; count-objects = o .others 5 (omega arith) ∙ H .count-objects; notes = record { form = ap (λ (x : ℕ). eqb x 0) (is 6 1 c (H .counts) (omega arith)); compared = λ k. o .others 7 (omega arith) ∙ H .notes .compared (λ e. k (o .others 7 (omega arith) ∙ e)) }; copied = H .copied; compared = H .compared; below = H .below; fit = H .fit; interned = H .interned; hashed = λ b. hashing-only o (omega arith) (omega arith) (H .hashed b) }
 
-at-changed : {input : List ℕ} {room : Room} {s : State} {c c' : List ℕ} {T : Lists} {n : ℕ} → Holds input room s T c → Only 0 c c' → at-of c' ≡ n → s .at ≤ n → n ≤ length input → Holds input room (at-set n s) T c'
-at-changed H o e g h = record { small = H .small; short = H .short; counts = o .sized ∙ H .counts; nodes = H .nodes; references = H .references; bytes = H .bytes; symbols = H .symbols; objects = H .objects; count-at = e; inside = h; count-nodes = o .others 1 (omega arith) ∙ H .count-nodes; room-nodes = H .room-nodes; count-references = o .others 2 (omega arith) ∙ H .count-references; count-bytes = o .others 3 (omega arith) ∙ H .count-bytes; count-symbols = o .others 4 (omega arith) ∙ H .count-symbols; count-objects = o .others 5 (omega arith) ∙ H .count-objects; notes = noted-same o (omega arith) (omega arith) (H .notes); copied = H .copied; compared = bound-more (H .compared) g (omega arith); below = H .below; fit = H .fit; interned = H .interned }
+at-changed : {input : List ℕ} {room : Room} {s : State} {c c' : List ℕ} {T : Lent} {n : ℕ} → Holds input room s T c → Only 0 c c' → at-of c' ≡ n → s .at ≤ n → n ≤ length input → Holds input room (at-set n s) T c'
+at-changed H o e g h = record { small = H .small; short = H .short; counts = o .sized ∙ H .counts; nodes = H .nodes; references = H .references; bytes = H .bytes; symbols = H .symbols; objects = H .objects; count-at = e; inside = h; count-nodes = o .others 1 (omega arith) ∙ H .count-nodes; room-nodes = H .room-nodes; count-space = o .others 9 (omega arith) ∙ H .count-space; count-references = o .others 2 (omega arith) ∙ H .count-references; count-bytes = o .others 3 (omega arith) ∙ H .count-bytes; count-symbols = o .others 4 (omega arith) ∙ H .count-symbols; count-objects = o .others 5 (omega arith) ∙ H .count-objects; notes = noted-same o (omega arith) (omega arith) (H .notes); copied = H .copied; compared = bound-more (H .compared) g (omega arith); below = H .below; fit = H .fit; interned = H .interned; hashed = λ b. hashing-only o (omega arith) (omega arith) (H .hashed b) }
 
 -- a name of n bytes was passed and x bytes compared, which are counted where they are
-pub name-passed : {input : List ℕ} {room : Room} {s : State} {c c' : List ℕ} {T : Lists} {x : ℕ} (n : ℕ) → Holds input room s T c → length c' ≡ length c → ((j : ℕ) → (j ≡ 0 → ⊥) → (j ≡ 7 → ⊥) → getD c' j 0 ≡ getD c j 0) → at-of c' ≡ at-of c + n → (Counting c' → compared-of c' ≡ suc (s .notes .compared + x)) → at-of c + n ≤ length input → x ≤ n * length (s .nodes) → Holds input room (compared-more x (at-set (at-of c + n) s)) T c'
-name-passed {s = s} {c} n H z o e k h l =
+pub name-passed : {input : List ℕ} {room : Room} {s : State} {c c' : List ℕ} {T : Lent} {x : ℕ} (n : ℕ) → Holds input room s T c → length c' ≡ length c → ((j : ℕ) → (j ≡ 0 → ⊥) → (j ≡ 7 → ⊥) → getD c' j 0 ≡ getD c j 0) → at-of c' ≡ at-of c + n → (Counting c' → compared-of c' ≡ suc (s .notes .compared + x)) → at-of c + n ≤ length input → x ≤ n * length (s .nodes) → ((T .symbols .buckets ≡ [] → ⊥) → Hashing (room .nodes) (s .bytes) (s .nodes) (s .symbols) (T .symbols .buckets) c') → Holds input room (compared-more x (at-set (at-of c + n) s)) T c'
+name-passed {s = s} {c} n H z o e k h l y =
     let g : s .at * length (s .nodes) + n * length (s .nodes) ≡ (at-of c + n) * length (s .nodes) = sym (add-mul (s .at) n (length (s .nodes))) ∙ ap (λ (a : ℕ). (a + n) * length (s .nodes)) (sym (H .count-at)) in
-    record { small = H .small; short = H .short; counts = z ∙ H .counts; nodes = H .nodes; references = H .references; bytes = H .bytes; symbols = H .symbols; objects = H .objects; count-at = e; inside = h; count-nodes = o 1 (omega arith) (omega arith) ∙ H .count-nodes; room-nodes = H .room-nodes; count-references = o 2 (omega arith) (omega arith) ∙ H .count-references; count-bytes = o 3 (omega arith) (omega arith) ∙ H .count-bytes; count-symbols = o 4 (omega arith) (omega arith) ∙ H .count-symbols; count-objects = o 5 (omega arith) (omega arith) ∙ H .count-objects; notes = record { form = ap (λ (v : ℕ). eqb v 0) (o 6 (omega arith) (omega arith)) ∙ H .notes .form; compared = k }; copied = H .copied; compared = omega (arith, H .compared, l, g); below = H .below; fit = H .fit; interned = H .interned }
+    record { small = H .small; short = H .short; counts = z ∙ H .counts; nodes = H .nodes; references = H .references; bytes = H .bytes; symbols = H .symbols; objects = H .objects; count-at = e; inside = h; count-nodes = o 1 (omega arith) (omega arith) ∙ H .count-nodes; room-nodes = H .room-nodes; count-space = o 9 (omega arith) (omega arith) ∙ H .count-space; count-references = o 2 (omega arith) (omega arith) ∙ H .count-references; count-bytes = o 3 (omega arith) (omega arith) ∙ H .count-bytes; count-symbols = o 4 (omega arith) (omega arith) ∙ H .count-symbols; count-objects = o 5 (omega arith) (omega arith) ∙ H .count-objects; notes = record { form = ap (λ (v : ℕ). eqb v 0) (o 6 (omega arith) (omega arith)) ∙ H .notes .form; compared = k }; copied = H .copied; compared = omega (arith, H .compared, l, g); below = H .below; fit = H .fit; interned = H .interned; hashed = y }
 
-module _ {input : List ℕ} {room : Room} {s : State} {c c' : List ℕ} {no re by sy ob : List ℕ} (H : Holds input room s (lists no re by sy ob) c) where
-  nodes-changed : {rows : List Row} {no' : List ℕ} → Only 1 c c' → Begins (room .nodes * 7) (flat rows) no' → nodes-of c' ≡ length rows → length (s .nodes) ≤ length rows → length rows ≤ room .nodes → AllFit (length (s .bytes)) rows → Interned (s .bytes) rows (s .symbols) → Holds input room (nodes-set rows s) (lists no' re by sy ob) c'
-  nodes-changed o p e g h f y = record { small = H .small; short = H .short; counts = o .sized ∙ H .counts; nodes = p; references = H .references; bytes = H .bytes; symbols = H .symbols; objects = H .objects; count-at = o .others 0 (omega arith) ∙ H .count-at; inside = H .inside; count-nodes = e; room-nodes = h; count-references = o .others 2 (omega arith) ∙ H .count-references; count-bytes = o .others 3 (omega arith) ∙ H .count-bytes; count-symbols = o .others 4 (omega arith) ∙ H .count-symbols; count-objects = o .others 5 (omega arith) ∙ H .count-objects; notes = noted-same o (omega arith) (omega arith) (H .notes); copied = H .copied; compared = bound-more (H .compared) (omega arith) g; below = λ i l. omega (arith, H .below i l); fit = f; interned = y }
+module _ {input : List ℕ} {room : Room} {s : State} {c c' : List ℕ} {no re by : List ℕ} {sy : Symbols} {ob : List ℕ} (H : Holds input room s (lent no re by sy ob) c) where
+  nodes-changed : {rows : List Row} {no' : List ℕ} → Only 1 c c' → Begins (room .nodes * 7) (flat rows) no' → nodes-of c' ≡ length rows → length (s .nodes) ≤ length rows → length rows ≤ room .nodes → AllFit (length (s .bytes)) rows → Interned (s .bytes) rows (s .symbols) → ((sy .buckets ≡ [] → ⊥) → Hashing (room .nodes) (s .bytes) rows (s .symbols) (sy .buckets) c) → Holds input room (nodes-set rows s) (lent no' re by sy ob) c'
+  nodes-changed o p e g h f y z = record { small = H .small; short = H .short; counts = o .sized ∙ H .counts; nodes = p; references = H .references; bytes = H .bytes; symbols = H .symbols; objects = H .objects; count-at = o .others 0 (omega arith) ∙ H .count-at; inside = H .inside; count-nodes = e; room-nodes = h; count-space = o .others 9 (omega arith) ∙ H .count-space; count-references = o .others 2 (omega arith) ∙ H .count-references; count-bytes = o .others 3 (omega arith) ∙ H .count-bytes; count-symbols = o .others 4 (omega arith) ∙ H .count-symbols; count-objects = o .others 5 (omega arith) ∙ H .count-objects; notes = noted-same o (omega arith) (omega arith) (H .notes); copied = H .copied; compared = bound-more (H .compared) (omega arith) g; below = λ i l. omega (arith, H .below i l); fit = f; interned = y; hashed = λ b. hashing-only o (omega arith) (omega arith) (z b) }
 
-  references-changed : {l re' : List ℕ} → Only 2 c c' → Begins (room .references) l re' → references-of c' ≡ length l → Holds input room (references-set l s) (lists no re' by sy ob) c'
-  references-changed o p e = record { small = H .small; short = H .short; counts = o .sized ∙ H .counts; nodes = H .nodes; references = p; bytes = H .bytes; symbols = H .symbols; objects = H .objects; count-at = o .others 0 (omega arith) ∙ H .count-at; inside = H .inside; count-nodes = o .others 1 (omega arith) ∙ H .count-nodes; room-nodes = H .room-nodes; count-references = e; count-bytes = o .others 3 (omega arith) ∙ H .count-bytes; count-symbols = o .others 4 (omega arith) ∙ H .count-symbols; count-objects = o .others 5 (omega arith) ∙ H .count-objects; notes = noted-same o (omega arith) (omega arith) (H .notes); copied = H .copied; compared = H .compared; below = H .below; fit = H .fit; interned = H .interned }
+  references-changed : {l re' : List ℕ} → Only 2 c c' → Begins (room .references) l re' → references-of c' ≡ length l → Holds input room (references-set l s) (lent no re' by sy ob) c'
+  references-changed o p e = record { small = H .small; short = H .short; counts = o .sized ∙ H .counts; nodes = H .nodes; references = p; bytes = H .bytes; symbols = H .symbols; objects = H .objects; count-at = o .others 0 (omega arith) ∙ H .count-at; inside = H .inside; count-nodes = o .others 1 (omega arith) ∙ H .count-nodes; room-nodes = H .room-nodes; count-space = o .others 9 (omega arith) ∙ H .count-space; count-references = e; count-bytes = o .others 3 (omega arith) ∙ H .count-bytes; count-symbols = o .others 4 (omega arith) ∙ H .count-symbols; count-objects = o .others 5 (omega arith) ∙ H .count-objects; notes = noted-same o (omega arith) (omega arith) (H .notes); copied = H .copied; compared = H .compared; below = H .below; fit = H .fit; interned = H .interned; hashed = λ b. hashing-only o (omega arith) (omega arith) (H .hashed b) }
 
-  bytes-changed : {by' : List ℕ} (bs : List ℕ) → Only 3 c c' → Begins (room .bytes) (s .bytes ++ bs) by' → bytes-of c' ≡ length (s .bytes ++ bs) → length (s .bytes) ≤ length (s .bytes ++ bs) → Holds input room (copied-more (length bs) (bytes-set (s .bytes ++ bs) s)) (lists no re by' sy ob) c'
-  bytes-changed bs o p e g = record { small = H .small; short = H .short; counts = o .sized ∙ H .counts; nodes = H .nodes; references = H .references; bytes = p; symbols = H .symbols; objects = H .objects; count-at = o .others 0 (omega arith) ∙ H .count-at; inside = H .inside; count-nodes = o .others 1 (omega arith) ∙ H .count-nodes; room-nodes = H .room-nodes; count-references = o .others 2 (omega arith) ∙ H .count-references; count-bytes = e; count-symbols = o .others 4 (omega arith) ∙ H .count-symbols; count-objects = o .others 5 (omega arith) ∙ H .count-objects; notes = (let N = noted-same o (omega arith) (omega arith) (H .notes) in record { form = N .form; compared = N .compared }); copied = ap (λ (n : ℕ). n + length bs) (H .copied) ∙ sym (length-append (s .bytes) bs); compared = H .compared; below = H .below; fit = λ i l. fit-more (getD (s .nodes) i nil) g (H .fit i l); interned = interned-bytes (s .bytes) bs (s .nodes) (s .symbols) (H .fit) (H .interned) }
+  bytes-changed : {by' : List ℕ} (bs : List ℕ) → Only 3 c c' → Begins (room .bytes) (s .bytes ++ bs) by' → bytes-of c' ≡ length (s .bytes ++ bs) → length (s .bytes) ≤ length (s .bytes ++ bs) → Holds input room (copied-more (length bs) (bytes-set (s .bytes ++ bs) s)) (lent no re by' sy ob) c'
+  bytes-changed bs o p e g = record { small = H .small; short = H .short; counts = o .sized ∙ H .counts; nodes = H .nodes; references = H .references; bytes = p; symbols = H .symbols; objects = H .objects; count-at = o .others 0 (omega arith) ∙ H .count-at; inside = H .inside; count-nodes = o .others 1 (omega arith) ∙ H .count-nodes; room-nodes = H .room-nodes; count-space = o .others 9 (omega arith) ∙ H .count-space; count-references = o .others 2 (omega arith) ∙ H .count-references; count-bytes = e; count-symbols = o .others 4 (omega arith) ∙ H .count-symbols; count-objects = o .others 5 (omega arith) ∙ H .count-objects; notes = (let N = noted-same o (omega arith) (omega arith) (H .notes) in record { form = N .form; compared = N .compared }); copied = ap (λ (n : ℕ). n + length bs) (H .copied) ∙ sym (length-append (s .bytes) bs); compared = H .compared; below = H .below; fit = λ i l. fit-more (getD (s .nodes) i nil) g (H .fit i l); interned = interned-bytes (s .bytes) bs (s .nodes) (s .symbols) (H .fit) (H .interned); hashed = λ b. hashing-only o (omega arith) (omega arith) (hashing-bytes (s .bytes) bs (s .nodes) (s .symbols) _ c (H .fit) (H .hashed b)) }
 
-  symbols-changed : {l sy' : List ℕ} → Only 4 c c' → Begins (room .symbols) l sy' → symbols-of c' ≡ length l → Interned (s .bytes) (s .nodes) l → Holds input room (symbols-set l s) (lists no re by sy' ob) c'
-  symbols-changed o p e y = record { small = H .small; short = H .short; counts = o .sized ∙ H .counts; nodes = H .nodes; references = H .references; bytes = H .bytes; symbols = p; objects = H .objects; count-at = o .others 0 (omega arith) ∙ H .count-at; inside = H .inside; count-nodes = o .others 1 (omega arith) ∙ H .count-nodes; room-nodes = H .room-nodes; count-references = o .others 2 (omega arith) ∙ H .count-references; count-bytes = o .others 3 (omega arith) ∙ H .count-bytes; count-symbols = e; count-objects = o .others 5 (omega arith) ∙ H .count-objects; notes = noted-same o (omega arith) (omega arith) (H .notes); copied = H .copied; compared = H .compared; below = H .below; fit = H .fit; interned = y }
+  objects-changed : {l ob' : List ℕ} → Only 5 c c' → Begins (room .objects) l ob' → objects-of c' ≡ length l → AllBelow (length (s .nodes)) l → Holds input room (objects-set l s) (lent no re by sy ob') c'
+  objects-changed o p e b = record { small = H .small; short = H .short; counts = o .sized ∙ H .counts; nodes = H .nodes; references = H .references; bytes = H .bytes; symbols = H .symbols; objects = p; count-at = o .others 0 (omega arith) ∙ H .count-at; inside = H .inside; count-nodes = o .others 1 (omega arith) ∙ H .count-nodes; room-nodes = H .room-nodes; count-space = o .others 9 (omega arith) ∙ H .count-space; count-references = o .others 2 (omega arith) ∙ H .count-references; count-bytes = o .others 3 (omega arith) ∙ H .count-bytes; count-symbols = o .others 4 (omega arith) ∙ H .count-symbols; count-objects = e; notes = noted-same o (omega arith) (omega arith) (H .notes); copied = H .copied; compared = H .compared; below = b; fit = H .fit; interned = H .interned; hashed = λ b. hashing-only o (omega arith) (omega arith) (H .hashed b) }
 
-  objects-changed : {l ob' : List ℕ} → Only 5 c c' → Begins (room .objects) l ob' → objects-of c' ≡ length l → AllBelow (length (s .nodes)) l → Holds input room (objects-set l s) (lists no re by sy ob') c'
-  objects-changed o p e b = record { small = H .small; short = H .short; counts = o .sized ∙ H .counts; nodes = H .nodes; references = H .references; bytes = H .bytes; symbols = H .symbols; objects = p; count-at = o .others 0 (omega arith) ∙ H .count-at; inside = H .inside; count-nodes = o .others 1 (omega arith) ∙ H .count-nodes; room-nodes = H .room-nodes; count-references = o .others 2 (omega arith) ∙ H .count-references; count-bytes = o .others 3 (omega arith) ∙ H .count-bytes; count-symbols = o .others 4 (omega arith) ∙ H .count-symbols; count-objects = e; notes = noted-same o (omega arith) (omega arith) (H .notes); copied = H .copied; compared = H .compared; below = b; fit = H .fit; interned = H .interned }
+module _ {input : List ℕ} {room : Room} {s : State} {c c' : List ℕ} {no re by sy ob : List ℕ} (H : Holds input room s (lent no re by (by-list sy) ob) c) where
+  symbols-changed : {l sy' : List ℕ} → Only 4 c c' → Begins (room .symbols) l sy' → symbols-of c' ≡ length l → Interned (s .bytes) (s .nodes) l → Holds input room (symbols-set l s) (lent no re by (by-list sy') ob) c'
+  symbols-changed o p e y = record { small = H .small; short = H .short; counts = o .sized ∙ H .counts; nodes = H .nodes; references = H .references; bytes = H .bytes; symbols = p; objects = H .objects; count-at = o .others 0 (omega arith) ∙ H .count-at; inside = H .inside; count-nodes = o .others 1 (omega arith) ∙ H .count-nodes; room-nodes = H .room-nodes; count-space = o .others 9 (omega arith) ∙ H .count-space; count-references = o .others 2 (omega arith) ∙ H .count-references; count-bytes = o .others 3 (omega arith) ∙ H .count-bytes; count-symbols = e; count-objects = o .others 5 (omega arith) ∙ H .count-objects; notes = noted-same o (omega arith) (omega arith) (H .notes); copied = H .copied; compared = H .compared; below = H .below; fit = H .fit; interned = y; hashed = λ b. absurd (b refl) }
 
   -- a symbol's node and its entry
-  symbol-changed : {no' sy' c₁ : List ℕ} (r : Row) → Only 1 c c₁ → Only 4 c₁ c' → Begins (room .nodes * 7) (flat (s .nodes ++ (r ∷ []))) no' → Begins (room .symbols) (s .symbols ++ (length (s .nodes) ∷ [])) sy' → nodes-of c₁ ≡ length (s .nodes ++ (r ∷ [])) → symbols-of c' ≡ length (s .symbols ++ (length (s .nodes) ∷ [])) → length (s .nodes) ≤ length (s .nodes ++ (r ∷ [])) → length (s .nodes ++ (r ∷ [])) ≤ room .nodes → Fit (length (s .bytes)) r → Symbolic r → Holds input room (symbols-set (s .symbols ++ (length (s .nodes) ∷ [])) (nodes-set (s .nodes ++ (r ∷ [])) s)) (lists no' re by sy' ob) c'
-  symbol-changed r a o p q e d g h f y = record { small = H .small; short = H .short; counts = o .sized ∙ a .sized ∙ H .counts; nodes = p; references = H .references; bytes = H .bytes; symbols = q; objects = H .objects; count-at = o .others 0 (omega arith) ∙ a .others 0 (omega arith) ∙ H .count-at; inside = H .inside; count-nodes = o .others 1 (omega arith) ∙ e; room-nodes = h; count-references = o .others 2 (omega arith) ∙ a .others 2 (omega arith) ∙ H .count-references; count-bytes = o .others 3 (omega arith) ∙ a .others 3 (omega arith) ∙ H .count-bytes; count-symbols = d; count-objects = o .others 5 (omega arith) ∙ a .others 5 (omega arith) ∙ H .count-objects; notes = noted-same o (omega arith) (omega arith) (noted-same a (omega arith) (omega arith) (H .notes)); copied = H .copied; compared = bound-more (H .compared) (omega arith) g; below = λ i l. omega (arith, H .below i l); fit = fit-snoc _ r (s .nodes) (H .fit) f; interned = interned-new (s .bytes) (s .nodes) r (s .symbols) y (H .interned) }
+  symbol-changed : {no' sy' c₁ : List ℕ} (r : Row) → Only 1 c c₁ → Only 4 c₁ c' → Begins (room .nodes * 7) (flat (s .nodes ++ (r ∷ []))) no' → Begins (room .symbols) (s .symbols ++ (length (s .nodes) ∷ [])) sy' → nodes-of c₁ ≡ length (s .nodes ++ (r ∷ [])) → symbols-of c' ≡ length (s .symbols ++ (length (s .nodes) ∷ [])) → length (s .nodes) ≤ length (s .nodes ++ (r ∷ [])) → length (s .nodes ++ (r ∷ [])) ≤ room .nodes → Fit (length (s .bytes)) r → Symbolic r → Holds input room (symbols-set (s .symbols ++ (length (s .nodes) ∷ [])) (nodes-set (s .nodes ++ (r ∷ [])) s)) (lent no' re by (by-list sy') ob) c'
+  symbol-changed r a o p q e d g h f y = record { small = H .small; short = H .short; counts = o .sized ∙ a .sized ∙ H .counts; nodes = p; references = H .references; bytes = H .bytes; symbols = q; objects = H .objects; count-at = o .others 0 (omega arith) ∙ a .others 0 (omega arith) ∙ H .count-at; inside = H .inside; count-nodes = o .others 1 (omega arith) ∙ e; room-nodes = h; count-space = o .others 9 (omega arith) ∙ a .others 9 (omega arith) ∙ H .count-space; count-references = o .others 2 (omega arith) ∙ a .others 2 (omega arith) ∙ H .count-references; count-bytes = o .others 3 (omega arith) ∙ a .others 3 (omega arith) ∙ H .count-bytes; count-symbols = d; count-objects = o .others 5 (omega arith) ∙ a .others 5 (omega arith) ∙ H .count-objects; notes = noted-same o (omega arith) (omega arith) (noted-same a (omega arith) (omega arith) (H .notes)); copied = H .copied; compared = bound-more (H .compared) (omega arith) g; below = λ i l. omega (arith, H .below i l); fit = fit-snoc _ r (s .nodes) (H .fit) f; interned = interned-new (s .bytes) (s .nodes) r (s .symbols) y (H .interned); hashed = λ b. absurd (b refl) }
 
-pub object-below : {input : List ℕ} {T : Lists} {c : List ℕ} {i : ℕ} → Held input T c → i < objects-of c → getD (T .objects) i 0 < nodes-of c
+pub object-below : {input : List ℕ} {T : Lent} {c : List ℕ} {i : ℕ} → Held input T c → i < objects-of c → getD (T .objects) i 0 < nodes-of c
 object-below {i = i} H l =
     let lt : i < length (H .state .objects) = omega arith in
     omega (arith, at-held i (H .holds .objects) lt, H .holds .below i lt)
 
 -- the symbol that an entry of the list is
-pub entry-symbolic : {input : List ℕ} {room : Room} {s : State} {T : Lists} {c : List ℕ} (i : ℕ) → Holds input room s T c → i < symbols-of c → Symbolic (getD (s .nodes) (getD (T .symbols) i 0) nil)
+pub entry-symbolic : {input : List ℕ} {room : Room} {s : State} {T : Lent} {c : List ℕ} (i : ℕ) → Holds input room s T c → i < symbols-of c → Symbolic (getD (s .nodes) (getD (T .symbols .list) i 0) nil)
 entry-symbolic {s = s} i H l =
     let lt : i < length (s .symbols) = omega (arith, H .count-symbols) in
     subst (λ (h : ℕ). Symbolic (getD (s .nodes) h nil)) (sym (at-held i (H .symbols) lt)) (H .interned .symbolic i lt)
 
-pub symbol-below : {input : List ℕ} {T : Lists} {c : List ℕ} {i : ℕ} → Held input T c → i < symbols-of c → getD (T .symbols) i 0 < nodes-of c
+pub symbol-below : {input : List ℕ} {T : Lent} {c : List ℕ} {i : ℕ} → Held input T c → i < symbols-of c → getD (T .symbols .list) i 0 < nodes-of c
 symbol-below {i = i} H l = omega (arith, symbolic-below (H .state .nodes) _ (entry-symbolic i (H .holds) l), H .holds .count-nodes)
 
 -- a list lent of which the first `known` are the state's list
 abbrev pub Listed : List ℕ → ℕ → List ℕ → Type 0
 Listed t known l = (known ≡ length l) × ((i : ℕ) → i < length l → getD t i 0 ≡ getD l i 0)
 
-pub objects-listed : {input : List ℕ} {room : Room} {T : Lists} {c : List ℕ} (s : State) → Holds input room s T c → Listed (T .objects) (objects-of c) (s .objects)
+pub objects-listed : {input : List ℕ} {room : Room} {T : Lent} {c : List ℕ} (s : State) → Holds input room s T c → Listed (T .objects) (objects-of c) (s .objects)
 objects-listed s H = (H .count-objects, λ i l. at-held i (H .objects) l)
 
-pub symbols-listed : {input : List ℕ} {room : Room} {T : Lists} {c : List ℕ} (s : State) → Holds input room s T c → Listed (T .symbols) (symbols-of c) (s .symbols)
+pub symbols-listed : {input : List ℕ} {room : Room} {T : Lent} {c : List ℕ} (s : State) → Holds input room s T c → Listed (T .symbols .list) (symbols-of c) (s .symbols)
 symbols-listed s H = (H .count-symbols, λ i l. at-held i (H .symbols) l)
 
 -- ---- an entry of a list
@@ -159,7 +161,7 @@ module _ {t : List ℕ} {known n missing r : ℕ} (e : Entry t known n missing r
   entry-inside l = by-number (λ a q. absurd (omega (arith, a, q, l))) (λ a b q. absurd (omega (arith, q, h, l))) (λ a b q m. (a, b, q))
 
 -- an index is read, and the entry that it names
-pub linked : {input : List ℕ} {room : Room} {limit : ℕ} {T : Lists} {c c' : List ℕ} {m : Reader ℕ} {t : List ℕ} {known n missing r : ℕ} (l : State → List ℕ) (q : ℕ → Refusal) → Meets input room limit m T c n T c' → Entry t known n missing r → 4294967296 ≤ missing → ((i : ℕ) → i < 4294967296 → refusal-at limit (missing + i) ≡ q i) → ((s : State) → Holds input room s T c' → Listed t known (l s)) → Meets input room limit (m >>= λ i. look λ s. entry (l s) i (q i)) T c r T c'
+pub linked : {input : List ℕ} {room : Room} {limit : ℕ} {T : Lent} {c c' : List ℕ} {m : Reader ℕ} {t : List ℕ} {known n missing r : ℕ} (l : State → List ℕ) (q : ℕ → Refusal) → Meets input room limit m T c n T c' → Entry t known n missing r → 4294967296 ≤ missing → ((i : ℕ) → i < 4294967296 → refusal-at limit (missing + i) ≡ q i) → ((s : State) → Holds input room s T c' → Listed t known (l s)) → Meets input room limit (m >>= λ i. look λ s. entry (l s) i (q i)) T c r T c'
 unfolding look entry pick pure
 linked {n = n} {r = r} l q m e h f y =
     by-number e h
@@ -170,7 +172,7 @@ linked {n = n} {r = r} l q m e h f y =
 -- ---- the primitives
 
 -- a reader that gives h and the state s' there
-went : {A : Type 0} {input : List ℕ} {room : Room} {s s' : State} {o : Outcome State A} {c' : List ℕ} {T' : Lists} {h : A} → Holds input room s' T' c' → o ≡ ok h s' → Grown s s' → Went input room s o (pure h) T' c'
+went : {A : Type 0} {input : List ℕ} {room : Room} {s s' : State} {o : Outcome State A} {c' : List ℕ} {T' : Lent} {h : A} → Holds input room s' T' c' → o ≡ ok h s' → Grown s s' → Went input room s o (pure h) T' c'
 unfolding pure
 went {s' = s'} H e g = record { state = s'; holds = H; same = e; grown = g }
 
@@ -193,20 +195,20 @@ grown-set s k r l p =
     record { nodes = omega (arith, e); references = omega arith; plain = λ i u q. plain-set (s .nodes) k r i l p q }
 
 -- some state is held where this one is
-held-at : {input : List ℕ} {room : Room} {s : State} {T : Lists} {c : List ℕ} → Holds input room s T c → Held input T c
+held-at : {input : List ℕ} {room : Room} {s : State} {T : Lent} {c : List ℕ} → Holds input room s T c → Held input T c
 held-at {room = room} {s} H = record { room = room; state = s; holds = H }
 
-module _ {input : List ℕ} {room : Room} {c : List ℕ} {no re by sy ob : List ℕ} where
-  row-went : {no' : List ℕ} (i : ℕ) (row : Row) (ws : List ℕ) → words row ≡ ws → Plain row → i < nodes-of c → no' ≡ sets no (i * 7) ws → (s : State) → Holds input room s (lists no re by sy ob) c → Plain (getD (s .nodes) i nil) → Went input room s (fill i row s) (pure i) (lists no' re by sy ob) c
+module _ {input : List ℕ} {room : Room} {c : List ℕ} {no re by : List ℕ} {sy : Symbols} {ob : List ℕ} where
+  row-went : {no' : List ℕ} (i : ℕ) (row : Row) (ws : List ℕ) → words row ≡ ws → Plain row → i < nodes-of c → no' ≡ sets no (i * 7) ws → (s : State) → Holds input room s (lent no re by sy ob) c → Plain (getD (s .nodes) i nil) → Went input room s (fill i row s) (pure i) (lent no' re by sy ob) c
   unfolding fill
   row-went {no'} i row ws e pl h f s H q =
       let n : nodes-of c ≡ length (set (s .nodes) i row) = H .count-nodes ∙ sym (length-set (s .nodes) i row) in
       let le : length (set (s .nodes) i row) ≤ room .nodes = simp length-set (H .room-nodes) in
       let p : Begins (room .nodes * 7) (flat (set (s .nodes) i row)) no' = rw (f, ← e) (put-row (s .nodes) i row (H .nodes) (omega arith)) in
-      went (nodes-changed H (none 1 c) p n (simp length-set (omega arith)) le (fit-set _ row (s .nodes) i (H .fit) (plain-fit _ row pl)) (interned-set (s .bytes) (s .nodes) i row (s .symbols) pl q (H .interned)))
+      went (nodes-changed H (none 1 c) p n (simp length-set (omega arith)) le (fit-set _ row (s .nodes) i (H .fit) (plain-fit _ row pl)) (interned-set (s .bytes) (s .nodes) i row (s .symbols) pl q (H .interned)) (λ b. hashing-set (s .bytes) (s .nodes) i row (s .symbols) _ c q (H .interned .symbolic) (H .hashed b)))
       refl (grown-set s i row (omega (arith, H .count-nodes)) pl)
 
-  pub words-reserved : {re' : List ℕ} (n : ℕ) → n ≤ length re - references-of c → re' ≡ sets re (references-of c) (replicate n 0) → Goes input room (reserve room n) (lists no re by sy ob) c (pure (references-of c)) (lists no re' by sy ob) (set c 2 (references-of c + n))
+  pub words-reserved : {re' : List ℕ} (n : ℕ) → n ≤ length re - references-of c → re' ≡ sets re (references-of c) (replicate n 0) → Goes input room (reserve room n) (lent no re by sy ob) c (pure (references-of c)) (lent no re' by sy ob) (set c 2 (references-of c + n))
   unfolding reserve pick
   words-reserved {re'} n l f = record {
     goes = λ s H.
@@ -221,16 +223,16 @@ module _ {input : List ℕ} {room : Room} {c : List ℕ} {no re by sy ob : List 
     counts = counting (K.put 2 (references-of c + n) c) (omega arith);
   }
 
-  pub reference-put : (i v : ℕ) → i < references-of c → Goes input room (put-reference i v) (lists no re by sy ob) c (pure tt) (lists no (set re i v) by sy ob) c
+  pub reference-put : (i v : ℕ) → i < references-of c → Goes input room (put-reference i v) (lent no re by sy ob) c (pure tt) (lent no (set re i v) by sy ob) c
   unfolding put-reference
   reference-put i v l = record {
     goes = λ s H.
         let e : references-of c ≡ length (set (s .references) i v) = H .count-references ∙ sym (length-set (s .references) i v) in
         went (references-changed H (none 2 c) (put i v (H .references) (omega arith)) e) refl (grown-rows refl (omega (arith, length-set (s .references) i v)));
-    counts = λ n. n;
+    counts = refl;
   }
 
-  pub row-goes : {no' : List ℕ} (row : Row) (ws : List ℕ) → words row ≡ ws → Plain row → nodes-of c < length no / 7 → no' ≡ sets no (nodes-of c * 7) ws → Goes input room (add-node room row) (lists no re by sy ob) c (pure (nodes-of c)) (lists no' re by sy ob) (set c 1 (nodes-of c + 1))
+  pub row-goes : {no' : List ℕ} (row : Row) (ws : List ℕ) → words row ≡ ws → Plain row → nodes-of c < space-of c → no' ≡ sets no (nodes-of c * 7) ws → Goes input room (add-node room row) (lent no re by sy ob) c (pure (nodes-of c)) (lent no' re by sy ob) (set c 1 (nodes-of c + 1))
   unfolding add-node pick
   row-goes {no'} row ws e pl h f = record {
     goes = λ s H.
@@ -240,32 +242,32 @@ module _ {input : List ℕ} {room : Room} {c : List ℕ} {no re by sy ob : List 
         let j = is 1 (nodes-of c + 1) c (H .counts) (omega arith) in
         let n : nodes-of c + 1 ≡ length (s .nodes ++ (row ∷ [])) = simp length-append (omega arith) in
         let p : Begins (room .nodes * 7) (flat (s .nodes ++ (row ∷ []))) no' = rw (f, ← e, k) (push-row (room .nodes) (s .nodes) row (H .nodes) lt) in
-        went (nodes-changed H o p (j ∙ n) (simp length-append (omega arith)) (omega arith) (fit-snoc _ row (s .nodes) (H .fit) (plain-fit _ row pl)) (interned-more (s .bytes) (s .nodes) row (s .symbols) pl (H .interned)))
+        went (nodes-changed H o p (j ∙ n) (simp length-append (omega arith)) (omega arith) (fit-snoc _ row (s .nodes) (H .fit) (plain-fit _ row pl)) (interned-more (s .bytes) (s .nodes) row (s .symbols) pl (H .interned)) (λ b. hashing-more (s .bytes) (s .nodes) row (s .symbols) _ c (H .interned .symbolic) (H .hashed b)))
         (simp (lt-ltb _ _ lt, k)) (grown-snoc s row _ refl refl);
     counts = counting (K.put 1 (nodes-of c + 1) c) (omega arith);
   }
 
-  pub symbol-listed : (i : ℕ) (q : Refusal) → i < symbols-of c → Goes input room (look λ s. entry (s .symbols) i q) (lists no re by sy ob) c (pure (getD sy i 0)) (lists no re by sy ob) c
+  pub symbol-listed : (i : ℕ) (q : Refusal) → i < symbols-of c → Goes input room (look λ s. entry (s .symbols) i q) (lent no re by sy ob) c (pure (getD (sy .list) i 0)) (lent no re by sy ob) c
   unfolding look entry pick
   symbol-listed i q l = record {
     goes = λ s H.
         let lt : i < length (s .symbols) = omega arith in
         went H (simp (lt-ltb _ _ lt, at-held i (H .symbols) lt)) (grown-rows refl (omega arith));
-    counts = λ n. n;
+    counts = refl;
   }
 
-module _ {input : List ℕ} {room : Room} {limit : ℕ} {c : List ℕ} {no re by sy ob : List ℕ} where
-  pub row-added : {no' : List ℕ} (row : Row) (ws : List ℕ) → words row ≡ ws → Plain row → nodes-of c < length no / 7 → no' ≡ sets no (nodes-of c * 7) ws → Meets input room limit (add-node room row) (lists no re by sy ob) c (nodes-of c) (lists no' re by sy ob) (set c 1 (nodes-of c + 1))
+module _ {input : List ℕ} {room : Room} {limit : ℕ} {c : List ℕ} {no re by : List ℕ} {sy : Symbols} {ob : List ℕ} where
+  pub row-added : {no' : List ℕ} (row : Row) (ws : List ℕ) → words row ≡ ws → Plain row → nodes-of c < space-of c → no' ≡ sets no (nodes-of c * 7) ws → Meets input room limit (add-node room row) (lent no re by sy ob) c (nodes-of c) (lent no' re by sy ob) (set c 1 (nodes-of c + 1))
   row-added row ws e pl h f = given (λ s H. omega arith) (row-goes row ws e pl h f)
 
-  pub row-full : (row : Row) {T' : Lists} {c' : List ℕ} → length no / 7 ≤ nodes-of c → Meets input room limit (add-node room row) (lists no re by sy ob) c (coded 12 1) T' c'
+  pub row-full : (row : Row) {T' : Lent} {c' : List ℕ} → space-of c ≤ nodes-of c → Meets input room limit (add-node room row) (lent no re by sy ob) c (coded 12 1) T' c'
   unfolding add-node pick
   row-full row h = denied (NoSpace 1) (omega arith) (at-space limit 1 (omega arith)) (record { refuses = λ s H. let le : room .nodes ≤ length (s .nodes) = omega arith in simp (le-ltb _ _ le) })
 
-  pub row-filled : {no' : List ℕ} (i : ℕ) (row : Row) (ws : List ℕ) → words row ≡ ws → Plain row → i < nodes-of c → Free no i → no' ≡ sets no (i * 7) ws → Meets input room limit (fill i row) (lists no re by sy ob) c i (lists no' re by sy ob) c
-  row-filled i row ws e pl h q f = given (λ s H. omega arith) (record { goes = λ s H. row-went i row ws e pl h f s H (free-plain H i h q); counts = λ n. n })
+  pub row-filled : {no' : List ℕ} (i : ℕ) (row : Row) (ws : List ℕ) → words row ≡ ws → Plain row → i < nodes-of c → Free no i → no' ≡ sets no (i * 7) ws → Meets input room limit (fill i row) (lent no re by sy ob) c i (lent no' re by sy ob) c
+  row-filled i row ws e pl h q f = given (λ s H. omega arith) (record { goes = λ s H. row-went i row ws e pl h f s H (free-plain H i h q); counts = refl })
 
-  pub object-added : (h : ℕ) → h < nodes-of c → objects-of c < length ob → Meets input room limit (add-object room h) (lists no re by sy ob) c h (lists no re by sy (set ob (objects-of c) h)) (set c 5 (objects-of c + 1))
+  pub object-added : (h : ℕ) → h < nodes-of c → objects-of c < length ob → Meets input room limit (add-object room h) (lent no re by sy ob) c h (lent no re by sy (set ob (objects-of c) h)) (set c 5 (objects-of c + 1))
   unfolding add-object pick
   object-added h b l = given (λ s H. omega arith) (record {
     goes = λ s H.
@@ -279,11 +281,33 @@ module _ {input : List ℕ} {room : Room} {limit : ℕ} {c : List ℕ} {no re by
     counts = counting (K.put 5 (objects-of c + 1) c) (omega arith);
   })
 
-  pub object-full : (h : ℕ) {T' : Lists} {c' : List ℕ} → length ob ≤ objects-of c → Meets input room limit (add-object room h) (lists no re by sy ob) c (coded 12 5) T' c'
+  pub object-full : (h : ℕ) {T' : Lent} {c' : List ℕ} → length ob ≤ objects-of c → Meets input room limit (add-object room h) (lent no re by sy ob) c (coded 12 5) T' c'
   unfolding add-object pick
   object-full h l = denied (NoSpace 5) (omega arith) (at-space limit 5 (omega arith)) (record { refuses = λ s H. let le : room .objects ≤ length (s .objects) = omega arith in simp (le-ltb _ _ le) })
 
-  pub symbol-added : (h : ℕ) → ((s : State) → Holds input room s (lists no re by sy ob) c → Symbolic (getD (s .nodes) h nil)) → symbols-of c < length sy → Meets input room limit (add-symbol room h) (lists no re by sy ob) c h (lists no re by (set sy (symbols-of c) h) ob) (set c 4 (symbols-of c + 1))
+  pub words-short : (n : ℕ) {T' : Lent} {c' : List ℕ} → length re - references-of c < n → Meets input room limit (reserve room n) (lent no re by sy ob) c (coded 12 2) T' c'
+  unfolding reserve pick
+  words-short n l = denied (NoSpace 2) (omega arith) (at-space limit 2 (omega arith)) (record { refuses = λ s H. let lt : room .references - length (s .references) < n = omega arith in simp (lt-leb _ _ lt) })
+
+  pub bytes-added : {by' : List ℕ} (bs : List ℕ) (n : ℕ) → length bs ≡ n → bytes-of c ≤ length by → n ≤ length by - bytes-of c → by' ≡ sets by (bytes-of c) bs → Meets input room limit (add-bytes room bs) (lent no re by sy ob) c (bytes-of c) (lent no re by' sy ob) (set c 3 (bytes-of c + n))
+  unfolding add-bytes pick
+  bytes-added {by'} bs n z i l f = given (λ s H. omega arith) (record {
+    goes = λ s H.
+        let k : bytes-of c ≡ length (s .bytes) = H .count-bytes in
+        let le : length bs ≤ room .bytes - length (s .bytes) = omega arith in
+        let o = K.put 3 (bytes-of c + n) c in
+        let e : bytes-of c + n ≡ length (s .bytes ++ bs) = simp length-append (omega arith) in
+        let p : Begins (room .bytes) (s .bytes ++ bs) by' = rw (f, k) (push bs (H .bytes) (omega arith)) in
+        went (bytes-changed H bs o p (is 3 _ c (H .counts) (omega arith) ∙ e) (simp length-append (omega arith))) (simp (le-leb _ _ le, k)) (grown-rows refl (omega arith));
+    counts = counting (K.put 3 (bytes-of c + n) c) (omega arith);
+  })
+
+  pub bytes-full : (bs : List ℕ) (n : ℕ) {T' : Lent} {c' : List ℕ} → length bs ≡ n → length by - bytes-of c < n → Meets input room limit (add-bytes room bs) (lent no re by sy ob) c (coded 12 3) T' c'
+  unfolding add-bytes pick
+  bytes-full bs n z l = denied (NoSpace 3) (omega arith) (at-space limit 3 (omega arith)) (record { refuses = λ s H. let lt : room .bytes - length (s .bytes) < length bs = omega arith in simp (lt-leb _ _ lt) })
+
+module _ {input : List ℕ} {room : Room} {limit : ℕ} {c : List ℕ} {no re by sy ob : List ℕ} where
+  pub symbol-added : (h : ℕ) → ((s : State) → Holds input room s (lent no re by (by-list sy) ob) c → Symbolic (getD (s .nodes) h nil)) → symbols-of c < length sy → Meets input room limit (add-symbol room h) (lent no re by (by-list sy) ob) c h (lent no re by (by-list (set sy (symbols-of c) h)) ob) (set c 4 (symbols-of c + 1))
   unfolding add-symbol pick
   symbol-added h y l = given (λ s H. omega (arith, symbolic-below (s .nodes) h (y s H))) (record {
     goes = λ s H.
@@ -297,12 +321,12 @@ module _ {input : List ℕ} {room : Room} {limit : ℕ} {c : List ℕ} {no re by
     counts = counting (K.put 4 (symbols-of c + 1) c) (omega arith);
   })
 
-  pub symbol-full : (h : ℕ) {T' : Lists} {c' : List ℕ} → length sy ≤ symbols-of c → Meets input room limit (add-symbol room h) (lists no re by sy ob) c (coded 12 4) T' c'
+  pub symbol-full : (h : ℕ) {T' : Lent} {c' : List ℕ} → length sy ≤ symbols-of c → Meets input room limit (add-symbol room h) (lent no re by (by-list sy) ob) c (coded 12 4) T' c'
   unfolding add-symbol pick
   symbol-full h l = denied (NoSpace 4) (omega arith) (at-space limit 4 (omega arith)) (record { refuses = λ s H. let le : room .symbols ≤ length (s .symbols) = omega arith in simp (le-ltb _ _ le) })
 
   -- a symbol's node, put on the symbol list
-  pub symbol-new : {no' : List ℕ} (start n l : ℕ) → l ≡ n → start + n ≤ bytes-of c → nodes-of c < length no / 7 → symbols-of c < length sy → no' ≡ sets no (nodes-of c * 7) (3 ∷ start ∷ n ∷ 0 ∷ 0 ∷ 0 ∷ 0 ∷ []) → Meets input room limit (new-symbol room start l) (lists no re by sy ob) c (nodes-of c) (lists no' re by (set sy (symbols-of c) (nodes-of c)) ob) (set (set c 1 (nodes-of c + 1)) 4 (symbols-of c + 1))
+  pub symbol-new : {no' : List ℕ} (start n l : ℕ) → l ≡ n → start + n ≤ bytes-of c → nodes-of c < space-of c → symbols-of c < length sy → no' ≡ sets no (nodes-of c * 7) (3 ∷ start ∷ n ∷ 0 ∷ 0 ∷ 0 ∷ 0 ∷ []) → Meets input room limit (new-symbol room start l) (lent no re by (by-list sy) ob) c (nodes-of c) (lent no' re by (by-list (set sy (symbols-of c) (nodes-of c))) ob) (set (set c 1 (nodes-of c + 1)) 4 (symbols-of c + 1))
   unfolding add-node add-symbol pick _>>=_ next words
   symbol-new {no'} start n l z b h u f = given (λ s H. omega arith) (record {
     goes = λ s H.
@@ -323,14 +347,14 @@ module _ {input : List ℕ} {room : Room} {limit : ℕ} {c : List ℕ} {no re by
         let q : Begins (room .symbols) (s .symbols ++ (length (s .nodes) ∷ [])) (set sy (symbols-of c) (nodes-of c)) = rw (ky, k) (push (length (s .nodes) ∷ []) (H .symbols) (omega arith)) in
         went (symbol-changed H row a o p q (j ∙ m) (jy ∙ my) (simp length-append (omega arith)) (omega arith) (omega (arith, H .count-bytes)) tt)
         (simp (lt-ltb _ _ lt, lt-ltb _ _ ly, k)) (grown-snoc s row _ refl refl);
-    counts = λ k. counting (K.put 4 (symbols-of c + 1) (set c 1 (nodes-of c + 1))) (omega arith) (counting (K.put 1 (nodes-of c + 1) c) (omega arith) k);
+    counts = counting (K.put 4 (symbols-of c + 1) (set c 1 (nodes-of c + 1))) (omega arith) ∙ counting (K.put 1 (nodes-of c + 1) c) (omega arith);
   })
 
-  pub symbol-no-node : (start l : ℕ) {T' : Lists} {c' : List ℕ} → length no / 7 ≤ nodes-of c → Meets input room limit (new-symbol room start l) (lists no re by sy ob) c (coded 12 1) T' c'
+  pub symbol-no-node : (start l : ℕ) {T' : Lent} {c' : List ℕ} → space-of c ≤ nodes-of c → Meets input room limit (new-symbol room start l) (lent no re by (by-list sy) ob) c (coded 12 1) T' c'
   unfolding add-node pick _>>=_ next
   symbol-no-node start l h = denied (NoSpace 1) (omega arith) (at-space limit 1 (omega arith)) (record { refuses = λ s H. let le : room .nodes ≤ length (s .nodes) = omega arith in simp (le-ltb _ _ le) })
 
-  pub symbol-no-entry : (start l : ℕ) {T' : Lists} {c' : List ℕ} → nodes-of c < length no / 7 → length sy ≤ symbols-of c → Meets input room limit (new-symbol room start l) (lists no re by sy ob) c (coded 12 4) T' c'
+  pub symbol-no-entry : (start l : ℕ) {T' : Lent} {c' : List ℕ} → nodes-of c < space-of c → length sy ≤ symbols-of c → Meets input room limit (new-symbol room start l) (lent no re by (by-list sy) ob) c (coded 12 4) T' c'
   unfolding add-node add-symbol pick _>>=_ next
   symbol-no-entry start l h u = denied (NoSpace 4) (omega arith) (at-space limit 4 (omega arith)) (record {
     refuses = λ s H.
@@ -339,28 +363,7 @@ module _ {input : List ℕ} {room : Room} {limit : ℕ} {c : List ℕ} {no re by
         simp (lt-ltb _ _ lt, le-ltb _ _ le);
   })
 
-  pub words-short : (n : ℕ) {T' : Lists} {c' : List ℕ} → length re - references-of c < n → Meets input room limit (reserve room n) (lists no re by sy ob) c (coded 12 2) T' c'
-  unfolding reserve pick
-  words-short n l = denied (NoSpace 2) (omega arith) (at-space limit 2 (omega arith)) (record { refuses = λ s H. let lt : room .references - length (s .references) < n = omega arith in simp (lt-leb _ _ lt) })
-
-  pub bytes-added : {by' : List ℕ} (bs : List ℕ) (n : ℕ) → length bs ≡ n → bytes-of c ≤ length by → n ≤ length by - bytes-of c → by' ≡ sets by (bytes-of c) bs → Meets input room limit (add-bytes room bs) (lists no re by sy ob) c (bytes-of c) (lists no re by' sy ob) (set c 3 (bytes-of c + n))
-  unfolding add-bytes pick
-  bytes-added {by'} bs n z i l f = given (λ s H. omega arith) (record {
-    goes = λ s H.
-        let k : bytes-of c ≡ length (s .bytes) = H .count-bytes in
-        let le : length bs ≤ room .bytes - length (s .bytes) = omega arith in
-        let o = K.put 3 (bytes-of c + n) c in
-        let e : bytes-of c + n ≡ length (s .bytes ++ bs) = simp length-append (omega arith) in
-        let p : Begins (room .bytes) (s .bytes ++ bs) by' = rw (f, k) (push bs (H .bytes) (omega arith)) in
-        went (bytes-changed H bs o p (is 3 _ c (H .counts) (omega arith) ∙ e) (simp length-append (omega arith))) (simp (le-leb _ _ le, k)) (grown-rows refl (omega arith));
-    counts = counting (K.put 3 (bytes-of c + n) c) (omega arith);
-  })
-
-  pub bytes-full : (bs : List ℕ) (n : ℕ) {T' : Lists} {c' : List ℕ} → length bs ≡ n → length by - bytes-of c < n → Meets input room limit (add-bytes room bs) (lists no re by sy ob) c (coded 12 3) T' c'
-  unfolding add-bytes pick
-  bytes-full bs n z l = denied (NoSpace 3) (omega arith) (at-space limit 3 (omega arith)) (record { refuses = λ s H. let lt : room .bytes - length (s .bytes) < length bs = omega arith in simp (lt-leb _ _ lt) })
-
-module _ {input : List ℕ} {room : Room} {c : List ℕ} {T : Lists} where
+module _ {input : List ℕ} {room : Room} {c : List ℕ} {T : Lent} where
   -- only the offset is moved
   pub moved : {A : Type 0} {m : Reader A} {a : A} (n : ℕ) → at-of c ≤ n → n ≤ length input → ((s : State) → Holds input room s T c → m s ≡ ok a (at-set n s)) → Goes input room m T c (pure a) T (set c 0 n)
   moved n g h e = record { goes = λ s H. went (at-changed H (K.put 0 n c) (is 0 n c (H .counts) (omega arith)) (omega (arith, H .count-at)) h) (e s H) (grown-rows refl (omega arith)); counts = counting (K.put 0 n c) (omega arith) }
@@ -370,7 +373,7 @@ module _ {input : List ℕ} {room : Room} {c : List ℕ} {T : Lists} where
   lost e = record { goes = λ s H. record { state = noted false s; holds = form-lost H; same = e s H; grown = grown-rows refl (omega arith) }; counts = counting (K.put 6 1 c) (omega arith) }
 
   pub moved-lost : {A : Type 0} {m : Reader A} {a : A} (n : ℕ) → at-of c ≤ n → n ≤ length input → ((s : State) → Holds input room s T c → m s ≡ ok a (noted false (at-set n s))) → Goes input room m T c (pure a) T (set (set c 0 n) 6 1)
-  moved-lost n g h e = record { goes = λ s H. went (form-lost (at-changed H (K.put 0 n c) (is 0 n c (H .counts) (omega arith)) (omega (arith, H .count-at)) h)) (e s H) (grown-rows refl (omega arith)); counts = λ k. counting (K.put 6 1 (set c 0 n)) (omega arith) (counting (K.put 0 n c) (omega arith) k) }
+  moved-lost n g h e = record { goes = λ s H. went (form-lost (at-changed H (K.put 0 n c) (is 0 n c (H .counts) (omega arith)) (omega (arith, H .count-at)) h)) (e s H) (grown-rows refl (omega arith)); counts = counting (K.put 6 1 (set c 0 n)) (omega arith) ∙ counting (K.put 0 n c) (omega arith) }
 
   pub byte-goes : at-of c < length input → Goes input room (read-byte input) T c (pure (getD input (at-of c) 0)) T (set c 0 (at-of c + 1))
   unfolding read-byte pick
@@ -382,12 +385,12 @@ module _ {input : List ℕ} {room : Room} {c : List ℕ} {T : Lists} where
       let k = H .count-at in
       rw (q, e, k) (integer-read input s (rw k at h) (rw k at a))
 
-module _ {input : List ℕ} {room : Room} {limit : ℕ} {c : List ℕ} {T : Lists} where
-  pub byte-missing : {T' : Lists} {c' : List ℕ} {m' : Reader ℕ} → length input ≤ at-of c → Leads input room limit (read-byte input) m' T c (coded 4 0) T' c'
+module _ {input : List ℕ} {room : Room} {limit : ℕ} {c : List ℕ} {T : Lent} where
+  pub byte-missing : {T' : Lent} {c' : List ℕ} {m' : Reader ℕ} → length input ≤ at-of c → Leads input room limit (read-byte input) m' T c (coded 4 0) T' c'
   unfolding read-byte pick
   byte-missing l = denied ShortInput (omega arith) (at-short limit) (record { refuses = λ s H. let le : length input ≤ s .at = omega arith in simp (le-ltb _ _ le) })
 
-  pub span-read : (n : ℕ) → at-of c ≤ length input → n ≤ length input - at-of c → n < 4294967296 → length c ≡ 8 → Spans input room limit (read-bytes input n) T c n T (set c 0 (at-of c + n))
+  pub span-read : (n : ℕ) → at-of c ≤ length input → n ≤ length input - at-of c → n < 4294967296 → length c ≡ 10 → Spans input room limit (read-bytes input n) T c n T (set c 0 (at-of c + n))
   unfolding read-bytes range pick
   span-read n i l f z =
       given (λ s H. f)
@@ -397,7 +400,7 @@ module _ {input : List ℕ} {room : Room} {limit : ℕ} {c : List ℕ} {T : List
       let b : at-of (set c 0 (at-of c + n)) - n ≡ s .at = omega (arith, is 0 (at-of c + n) c z (omega arith), k) in
       simp (le-leb _ _ le, b) (rw k refl)))
 
-  pub span-missing : (n : ℕ) {T' : Lists} {c' : List ℕ} {m' : Reader (List ℕ)} → length input - at-of c < n → Leads input room limit (read-bytes input n) m' T c (coded 4 0) T' c'
+  pub span-missing : (n : ℕ) {T' : Lent} {c' : List ℕ} {m' : Reader (List ℕ)} → length input - at-of c < n → Leads input room limit (read-bytes input n) m' T c (coded 4 0) T' c'
   unfolding read-bytes pick
   span-missing n l = denied ShortInput (omega arith) (at-short limit) (record { refuses = λ s H. let lt : length input - s .at < n = omega arith in simp (lt-leb _ _ lt) })
 
@@ -420,10 +423,10 @@ module _ {input : List ℕ} {room : Room} {limit : ℕ} {c : List ℕ} {T : List
       given (λ s H. f)
       (moved (at-of c + 1) (omega arith) (omega arith) (λ s H. let k = H .count-at in rw k (integer-small input s v (rw k at e) f (rw k at b) (omega arith))))
 
-  pub integer-cut : {T' : Lists} {c' : List ℕ} {m' : Reader ℕ} → at-of c < length input → length input - at-of c < size-at input (at-of c) → Leads input room limit (read-integer input) m' T c (coded 4 0) T' c'
+  pub integer-cut : {T' : Lent} {c' : List ℕ} {m' : Reader ℕ} → at-of c < length input → length input - at-of c < size-at input (at-of c) → Leads input room limit (read-integer input) m' T c (coded 4 0) T' c'
   integer-cut h l = denied ShortInput (omega arith) (at-short limit) (record { refuses = λ s H. let k = H .count-at in let g : length input < at-of c + size-at input (at-of c) = omega arith in integer-short input s (rw k at g) (omega arith) })
 
-  pub integer-gone : {T' : Lists} {c' : List ℕ} {m' : Reader ℕ} → length input ≤ at-of c → Leads input room limit (read-integer input) m' T c (coded 4 0) T' c'
+  pub integer-gone : {T' : Lent} {c' : List ℕ} {m' : Reader ℕ} → length input ≤ at-of c → Leads input room limit (read-integer input) m' T c (coded 4 0) T' c'
   integer-gone l = denied ShortInput (omega arith) (at-short limit) (record { refuses = λ s H. integer-none input s (omega arith) })
 
 pub span-length : (input : List ℕ) (c : List ℕ) (n : ℕ) → n ≤ at-of c → at-of c ≤ length input → length (span-of input c n) ≡ n
@@ -434,7 +437,7 @@ length-span input at n l h = simp (length-take, length-drop) (omega arith)
 
 -- ---- a symbol looked at
 
-module _ {input : List ℕ} {room : Room} {s : State} {c : List ℕ} {no re by sy ob : List ℕ} (H : Holds input room s (lists no re by sy ob) c) (i : ℕ) (y : Symbolic (getD (s .nodes) i nil)) where
+module _ {input : List ℕ} {room : Room} {s : State} {c : List ℕ} {no re by : List ℕ} {sy : Symbols} {ob : List ℕ} (H : Holds input room s (lent no re by sy ob) c) (i : ℕ) (y : Symbolic (getD (s .nodes) i nil)) where
   pub is-there : i < nodes-of c
   is-there = omega (arith, symbolic-below (s .nodes) i y, H .count-nodes)
 
@@ -549,8 +552,8 @@ not-varied h start n (bignum low high m) a b = refl
 words-same : {a b d e a' b' d' e' : ℕ} (start n : ℕ) → a ≡ a' → b ≡ b' → d ≡ d' → e ≡ e' → _≡_ {A = List ℕ} (a ∷ b ∷ d ∷ start ∷ n ∷ e ∷ 1 ∷ []) (a' ∷ b' ∷ d' ∷ start ∷ n ∷ e' ∷ 1 ∷ [])
 words-same start n p q r t = λ i. p i ∷ q i ∷ r i ∷ start ∷ n ∷ t i ∷ 1 ∷ []
 
-module _ {input : List ℕ} {room : Room} {limit : ℕ} {c : List ℕ} {no re by sy ob : List ℕ} (h start n : ℕ) (l : h < nodes-of c) where
-  pub variables-set : {no' : List ℕ} → 7 ≤ getD no (h * 7) 0 → getD no (h * 7) 0 ≤ 8 → no' ≡ sets no (h * 7) (getD no (h * 7) 0 ∷ getD no (h * 7 + 1) 0 ∷ getD no (h * 7 + 2) 0 ∷ start ∷ n ∷ getD no (h * 7 + 5) 0 ∷ 1 ∷ []) → Meets input room limit (settle h start n) (lists no re by sy ob) c h (lists no' re by sy ob) c
+module _ {input : List ℕ} {room : Room} {limit : ℕ} {c : List ℕ} {no re by : List ℕ} {sy : Symbols} {ob : List ℕ} (h start n : ℕ) (l : h < nodes-of c) where
+  pub variables-set : {no' : List ℕ} → 7 ≤ getD no (h * 7) 0 → getD no (h * 7) 0 ≤ 8 → no' ≡ sets no (h * 7) (getD no (h * 7) 0 ∷ getD no (h * 7 + 1) 0 ∷ getD no (h * 7 + 2) 0 ∷ start ∷ n ∷ getD no (h * 7 + 5) 0 ∷ 1 ∷ []) → Meets input room limit (settle h start n) (lent no re by sy ob) c h (lent no' re by sy ob) c
   unfolding look
   variables-set g g' f = given (λ s H. omega arith) (record {
     goes = λ s H.
@@ -560,10 +563,10 @@ module _ {input : List ℕ} {room : Room} {limit : ℕ} {c : List ℕ} {no re by
         let e = words-same start n w0 (word H h l 1 (omega arith)) (word H h l 2 (omega arith)) (word H h l 5 (omega arith)) in
         let x = row-went h (varied start n r) _ (v .0 ∙ sym e) (varied-plain start n r) l f s H (v .2) in
         record { state = x .state; holds = x .holds; same = ap (λ (m : Reader ℕ). m s) (v .1) ∙ x .same; grown = x .grown };
-    counts = λ n. n;
+    counts = refl;
   })
 
-  pub variables-refused : {T' : Lists} {c' : List ℕ} → (getD no (h * 7) 0 ≡ 7 → ⊥) → (getD no (h * 7) 0 ≡ 8 → ⊥) → Meets input room limit (settle h start n) (lists no re by sy ob) c (coded 10 0) T' c'
+  pub variables-refused : {T' : Lent} {c' : List ℕ} → (getD no (h * 7) 0 ≡ 7 → ⊥) → (getD no (h * 7) 0 ≡ 8 → ⊥) → Meets input room limit (settle h start n) (lent no re by sy ob) c (coded 10 0) T' c'
   unfolding look refuse
   variables-refused a b = denied NotAnObject (omega arith) (at-variables limit) (record {
     refuses = λ s H.

@@ -1,7 +1,7 @@
 -- When lists lent and counts hold a state of the definition, and what the number that a reader in code answers has to mean.
 use Prim.Native.Nat.{ℕ, zero, suc, _+_, _-_, _*_, _/_, _%_, _≤_, _<_}
 use mathlib.Core.Path.{_≡_}
-use mathlib.Core.Bool.{true, false}
+use mathlib.Core.Bool.{Bool, true, false}
 use mathlib.Core.List.{List, [], _∷_}
 use mathlib.Core.Option.{Option, none, some}
 use mathlib.Core.Logic.{_⊎_}
@@ -11,15 +11,16 @@ use Rattle.definition.specs.Run.{Outcome, refused, pure, pick, look, _>>=_}
 use Rattle.definition.specs.Integer.{form, value, integer-bytes}
 use Rattle.definition.specs.Kind.{FIXNUM, SYMBOL-LINK, INSTANCE-VARIABLES, ARRAY, HASH, HASH-DEFAULT, OBJECT}
 use Rattle.definition.specs.Node.{Row, nil, bool, fixnum, symbol, array, hash, object, string, user, float, bignum, kind, equal, flat}
-use Rattle.definition.specs.Arena.{named, find-symbol, bytes-compared, compared-with, lowest, bad-nodes, too-long}
-use Rattle.definition.specs.Load.{Room, Notes, State, Reader, Lists, note, takes-variables, read-bytes, read-unit-count, read-magnitude, intern, intern-as, add-node, add-symbol, put-reference, set-variables}
+use Rattle.definition.specs.Arena.{name-of, named, find-symbol, bytes-compared, compared-with, lowest, bad-nodes, too-long}
+use Rattle.definition.specs.Buckets.{fnv-1a, word, searches, empty}
+use Rattle.definition.specs.Load.{Room, Notes, State, Reader, note, takes-variables, read-bytes, read-unit-count, read-magnitude, intern, intern-as, add-node, add-symbol, put-reference, set-variables}
 use Rattle.definition.specs.declared.Refusal.{Refusal}
 use Rattle.reader.specs.Answers.{refusal-at}
 use Rattle.reader.specs.Integers.{dumped-at}
 
 -- ---- what is held
 
--- the eight counts, in the order of the code's named places
+-- the ten counts, in the order of the code's named places
 abbrev pub at-of : List ℕ → ℕ
 at-of c = getD c 0 0
 
@@ -46,8 +47,39 @@ form-of c = getD c 6 0
 abbrev pub compared-of : List ℕ → ℕ
 compared-of c = getD c 7 0
 
+-- the words of the bucket table looked at
+abbrev pub looked-of : List ℕ → ℕ
+looked-of c = getD c 8 0
+
+-- how many nodes there is room for
+abbrev pub space-of : List ℕ → ℕ
+space-of c = getD c 9 0
+
 abbrev pub Counting : List ℕ → Type 0
 Counting c = compared-of c ≡ 0 → ⊥
+
+-- the symbol list and the bucket table lent
+pub record Symbols : Type 0 where
+  pub list : List ℕ
+  pub buckets : List ℕ
+
+-- names are searched for on the list, or by the bucket table
+abbrev pub by-list : List ℕ → Symbols
+by-list l = record { list = l; buckets = [] }
+
+abbrev pub by-buckets : List ℕ → List ℕ → Symbols
+by-buckets l b = record { list = l; buckets = b }
+
+-- what is lent besides the input
+pub record Lent : Type 0 where
+  pub nodes : List ℕ
+  pub references : List ℕ
+  pub bytes : List ℕ
+  pub symbols : Symbols
+  pub objects : List ℕ
+
+abbrev pub lent : List ℕ → List ℕ → List ℕ → Symbols → List ℕ → Lent
+lent n r b y o = record { nodes = n; references = r; bytes = b; symbols = y; objects = o }
 
 -- the table t of the size given begins with the list l
 pub record Begins (size : ℕ) (l t : List ℕ) : Type 0 where
@@ -140,24 +172,42 @@ pub record Interned (bytes : List ℕ) (rows : List Row) (l : List ℕ) : Type 0
   pub names : Names bytes rows l
   pub ascending : risen 0 l ≡ symbols-in 0 rows
 
+-- a symbol's name, and its hash
+abbrev pub name-at : List ℕ → List Row → ℕ → List ℕ
+name-at bytes rows h = name-of bytes (getD rows h nil)
+
+abbrev pub hashes : List ℕ → List Row → ℕ → ℕ
+hashes bytes rows h = fnv-1a (name-at bytes rows h)
+
+-- the bucket table and the words looked at are what the searches for the symbols on the list leave; nodes with one name are one node, and node 0 is none of them; bytes compared are not counted
+pub record Hashing (n : ℕ) (bytes : List ℕ) (rows : List Row) (l B c : List ℕ) : Type 0 where
+  pub enough : n ≤ length B
+  pub short : length B ≤ 2147483647
+  pub filled : searches (hashes bytes rows) l (empty (length B)) ≡ record { words = B; looked = looked-of c }
+  pub unique : (i j : ℕ) → i < length l → j < length l → name-at bytes rows (getD l i 0) ≡ name-at bytes rows (getD l j 0) → getD l i 0 ≡ getD l j 0
+  pub nonzero : (i : ℕ) → i < length l → getD l i 0 ≡ 0 → ⊥
+  pub one : 1 ≤ length rows
+  pub uncounted : compared-of c ≡ 0
+
 -- the counts of what is noted
 pub record Noted (n : Notes) (c : List ℕ) : Type 0 where
   pub form : eqb (form-of c) 0 ≡ n .form
   pub compared : Counting c → compared-of c ≡ suc (n .compared)
 
-pub record Holds (input : List ℕ) (room : Room) (s : State) (T : Lists) (c : List ℕ) : Type 0 where
+pub record Holds (input : List ℕ) (room : Room) (s : State) (T : Lent) (c : List ℕ) : Type 0 where
   pub small : Small room
   pub short : length input ≤ 2147483647
-  pub counts : length c ≡ 8
+  pub counts : length c ≡ 10
   pub nodes : Begins (room .nodes * 7) (flat (s .nodes)) (T .nodes)
   pub references : Begins (room .references) (s .references) (T .references)
   pub bytes : Begins (room .bytes) (s .bytes) (T .bytes)
-  pub symbols : Begins (room .symbols) (s .symbols) (T .symbols)
+  pub symbols : Begins (room .symbols) (s .symbols) (T .symbols .list)
   pub objects : Begins (room .objects) (s .objects) (T .objects)
   pub count-at : at-of c ≡ s .at
   pub inside : s .at ≤ length input
   pub count-nodes : nodes-of c ≡ length (s .nodes)
   pub room-nodes : length (s .nodes) ≤ room .nodes
+  pub count-space : space-of c ≡ room .nodes
   pub count-references : references-of c ≡ length (s .references)
   pub count-bytes : bytes-of c ≡ length (s .bytes)
   pub count-symbols : symbols-of c ≡ length (s .symbols)
@@ -168,16 +218,17 @@ pub record Holds (input : List ℕ) (room : Room) (s : State) (T : Lists) (c : L
   pub below : AllBelow (length (s .nodes)) (s .objects)
   pub fit : AllFit (length (s .bytes)) (s .nodes)
   pub interned : Interned (s .bytes) (s .nodes) (s .symbols)
+  pub hashed : (T .symbols .buckets ≡ [] → ⊥) → Hashing (room .nodes) (s .bytes) (s .nodes) (s .symbols) (T .symbols .buckets) c
 
 -- some state is held
-pub record Held (input : List ℕ) (T : Lists) (c : List ℕ) : Type 0 where
+pub record Held (input : List ℕ) (T : Lent) (c : List ℕ) : Type 0 where
   pub room : Room
   pub state : State
   pub holds : Holds input room state T c
 
 -- some state is held with some tables
 pub record Somewhere (input : List ℕ) (c : List ℕ) : Type 0 where
-  pub tables : Lists
+  pub tables : Lent
   pub held : Held input tables c
 
 -- ---- what a reader meets
@@ -189,31 +240,31 @@ pub record Grown (s s' : State) : Type 0 where
   pub plain : (i : ℕ) → i < length (s .nodes) → Plain (getD (s .nodes) i nil) → Plain (getD (s' .nodes) i nil)
 
 -- the outcome o at the state s is that of m' at a state that is held after
-pub record Went {A : Type 0} (input : List ℕ) (room : Room) (s : State) (o : Outcome State A) (m' : Reader A) (T' : Lists) (c' : List ℕ) : Type 0 where
+pub record Went {A : Type 0} (input : List ℕ) (room : Room) (s : State) (o : Outcome State A) (m' : Reader A) (T' : Lent) (c' : List ℕ) : Type 0 where
   pub state : State
   pub holds : Holds input room state T' c'
   pub same : o ≡ m' state
   pub grown : Grown s state
 
--- where m begins at a state that is held first, it is at m' at a state that is held after; where the bytes compared are counted, they still are
-pub record Goes {A : Type 0} (input : List ℕ) (room : Room) (m : Reader A) (T : Lists) (c : List ℕ) (m' : Reader A) (T' : Lists) (c' : List ℕ) : Type 0 where
+-- where m begins at a state that is held first, it is at m' at a state that is held after; bytes compared are counted after if they were before
+pub record Goes {A : Type 0} (input : List ℕ) (room : Room) (m : Reader A) (T : Lent) (c : List ℕ) (m' : Reader A) (T' : Lent) (c' : List ℕ) : Type 0 where
   pub goes : (s : State) → Holds input room s T c → Went input room s (m s) m' T' c'
-  pub counts : Counting c → Counting c'
+  pub counts : eqb (compared-of c') 0 ≡ eqb (compared-of c) 0
 
 -- m is refused with q
-pub record Refuses {A : Type 0} (input : List ℕ) (room : Room) (m : Reader A) (T : Lists) (c : List ℕ) (q : Refusal) : Type 0 where
+pub record Refuses {A : Type 0} (input : List ℕ) (room : Room) (m : Reader A) (T : Lent) (c : List ℕ) (q : Refusal) : Type 0 where
   pub refuses : (s : State) → Holds input room s T c → m s ≡ refused q
 
 -- by the number r: below 2^32 m has come to m', from there on it is refused
-pub record Leads {A : Type 0} (input : List ℕ) (room : Room) (limit : ℕ) (m m' : Reader A) (T : Lists) (c : List ℕ) (r : ℕ) (T' : Lists) (c' : List ℕ) : Type 0 where
+pub record Leads {A : Type 0} (input : List ℕ) (room : Room) (limit : ℕ) (m m' : Reader A) (T : Lent) (c : List ℕ) (r : ℕ) (T' : Lent) (c' : List ℕ) : Type 0 where
   pub goes : r < 4294967296 → Goes input room m T c m' T' c'
   pub stops : 4294967296 ≤ r → Refuses input room m T c (refusal-at limit r)
 
 -- the number is m's value; there is nothing to answer; it is the length of the bytes that m gives, which stand before the offset
-abbrev pub Meets : List ℕ → Room → ℕ → Reader ℕ → Lists → List ℕ → ℕ → Lists → List ℕ → Type 0
+abbrev pub Meets : List ℕ → Room → ℕ → Reader ℕ → Lent → List ℕ → ℕ → Lent → List ℕ → Type 0
 Meets input room limit m T c r T' c' = Leads input room limit m (pure r) T c r T' c'
 
-abbrev pub Does : List ℕ → Room → ℕ → Reader (Unit {0}) → Lists → List ℕ → ℕ → Lists → List ℕ → Type 0
+abbrev pub Does : List ℕ → Room → ℕ → Reader (Unit {0}) → Lent → List ℕ → ℕ → Lent → List ℕ → Type 0
 Does input room limit m T c r T' c' = Leads input room limit m (pure tt) T c r T' c'
 
 abbrev pub span : List ℕ → ℕ → ℕ → List ℕ
@@ -222,7 +273,7 @@ span input at n = take n (drop (at - n) input)
 abbrev pub span-of : List ℕ → List ℕ → ℕ → List ℕ
 span-of input c n = span input (at-of c) n
 
-abbrev pub Spans : List ℕ → Room → ℕ → Reader (List ℕ) → Lists → List ℕ → ℕ → Lists → List ℕ → Type 0
+abbrev pub Spans : List ℕ → Room → ℕ → Reader (List ℕ) → Lent → List ℕ → ℕ → Lent → List ℕ → Type 0
 Spans input room limit m T c r T' c' = Leads input room limit m (pure (span-of input c' r)) T c r T' c'
 
 -- node h is no symbol
@@ -256,6 +307,16 @@ pub record Alike (xs ys : List ℕ) (n r : ℕ) : Type 0 where
 pub record Compared (s : State) (name : List ℕ) (row : Row) (r : ℕ) : Type 0 where
   pub same : r < 4294967296 → (named (s .bytes) name row ≡ true) × (compared-with (s .bytes) name row ≡ r)
   pub other : 4294967296 ≤ r → (named (s .bytes) name row ≡ false) × (4294967296 + compared-with (s .bytes) name row ≡ r)
+
+-- r words of the bucket table from word k on that are not zero and name others
+abbrev pub Passing : State → List ℕ → List ℕ → ℕ → ℕ → Type 0
+Passing s name B k r = (q : ℕ) → q < r → (word B (k + q) ≡ 0 → ⊥) × (named (s .bytes) name (getD (s .nodes) (word B (k + q)) nil) ≡ false)
+
+-- how far the search for a name from word k on goes: r words are passed, and then it ends
+pub record Probe (s : State) (name B : List ℕ) (k r : ℕ) : Type 0 where
+  pub inside : r < length B
+  pub before : Passing s name B k r
+  pub ends : (word B (k + r) ≡ 0) ⊎ (named (s .bytes) name (getD (s .nodes) (word B (k + r)) nil) ≡ true)
 
 -- entry n of a list of which the first `known` are used, by the number r: handed on where n is a refusal, else missing or there
 pub record Entry (l : List ℕ) (known n missing r : ℕ) : Type 0 where
@@ -327,22 +388,22 @@ abbrev pub Next : List ℕ → ℕ → ℕ → Type 0
 Next input at levels = (levels ≡ 0 → ⊥) × (at < length input) × ((getD input at 0 ≡ FIXNUM) ⊎ (getD input at 0 ≡ SYMBOL-LINK))
 
 -- a link of one byte to a known symbol, or an integer in dump form for word `to` where no name is wanted and a node has room
-abbrev pub Either : List ℕ → List ℕ → List ℕ → ℕ → ℕ → Type 0
-Either input nodes c names to = ((getD input (at-of c) 0 ≡ SYMBOL-LINK) × ((n : ℕ) × Link (getD input (at-of c + 1) 0) (symbols-of c) n)) ⊎ ((getD input (at-of c) 0 ≡ FIXNUM) × (dumped-at input (at-of c + 1) ≡ true) × (to % 2 ≡ names → ⊥) × (nodes-of c < length nodes / 7))
+abbrev pub Either : List ℕ → List ℕ → ℕ → ℕ → Type 0
+Either input c names to = ((getD input (at-of c) 0 ≡ SYMBOL-LINK) × ((n : ℕ) × Link (getD input (at-of c + 1) 0) (symbols-of c) n)) ⊎ ((getD input (at-of c) 0 ≡ FIXNUM) × (dumped-at input (at-of c + 1) ≡ true) × (to % 2 ≡ names → ⊥) × (nodes-of c < space-of c))
 
 -- one of them comes next, and six bytes are there
-pub record Coming (input nodes c : List ℕ) (names to : ℕ) : Type 0 where
+pub record Coming (input c : List ℕ) (names to : ℕ) : Type 0 where
   pub six : at-of c + 6 ≤ length input
-  pub kind : Either input nodes c names to
+  pub kind : Either input c names to
 
 -- ---- the lengths lent
 
--- the lowest wrong slice's number, or 0
-abbrev pub wrong : ℕ → ℕ → ℕ → ℕ → ℕ → ℕ → ℕ → ℕ
-wrong nodes references bytes symbols objects limit input = lowest ((1, bad-nodes nodes) ∷ (2, too-long references) ∷ (3, too-long bytes) ∷ (4, too-long symbols) ∷ (5, too-long objects) ∷ (7, ltb 128 limit) ∷ (8, too-long input) ∷ [])
+-- the lowest wrong slice's number, or 0; of the bucket table it is told whether it is wrong
+abbrev pub wrong : ℕ → ℕ → ℕ → ℕ → ℕ → ℕ → ℕ → Bool → ℕ
+wrong nodes references bytes symbols objects limit input buckets = lowest ((1, bad-nodes nodes) ∷ (2, too-long references) ∷ (3, too-long bytes) ∷ (4, too-long symbols) ∷ (5, too-long objects) ∷ (7, ltb 128 limit) ∷ (8, too-long input) ∷ (11, buckets) ∷ [])
 
--- lengths that a load takes: whole nodes, at least one, and none too large
-pub record Allowed (nodes references bytes symbols objects input : ℕ) : Type 0 where
+-- lengths that a load takes: whole nodes, at least one, none too large, and a bucket table that is not wrong
+pub record Allowed (nodes references bytes symbols objects input : ℕ) (buckets : Bool) : Type 0 where
   pub whole : nodes / 7 * 7 ≡ nodes
   pub one : 1 ≤ nodes / 7
   pub nodes-small : nodes ≤ 2147483647
@@ -351,3 +412,4 @@ pub record Allowed (nodes references bytes symbols objects input : ℕ) : Type 0
   pub symbols-small : symbols ≤ 2147483647
   pub objects-small : objects ≤ 2147483647
   pub input-small : input ≤ 2147483647
+  pub buckets-right : buckets ≡ false

@@ -10,6 +10,7 @@ use bignum::magnitude_at;
 use definition::Bignum;
 use definition::Node;
 use definition::ValueKind;
+use fnv::fnv_1a;
 use reader::INVALID_KIND;
 use reader::MISSING_OBJECT;
 use reader::MISSING_SYMBOL;
@@ -34,7 +35,7 @@ use store::same_bytes;
 use store::zero_range;
 ghost use mathlib.Core.Path.{_≡_};
 ghost use mathlib.Core.List.{List, [], _∷_};
-ghost use Prim.Native.Nat.{ℕ, _+_, _-_, _*_, _/_, _%_, _<_, _≤_};
+ghost use Prim.Native.Nat.{ℕ, suc, _+_, _-_, _*_, _/_, _%_, _<_, _≤_};
 ghost use mathlib.Core.Bool.{true, false};
 ghost use mathlib.Core.Logic.{_⊎_};
 ghost use lib.Dec.{eqb};
@@ -45,13 +46,14 @@ ghost use Rattle.definition.specs.Kind.{FIXNUM, STRING, PLUS, MINUS};
 ghost use Rattle.definition.specs.Node.{Row, words, nil, width};
 ghost use Rattle.definition.specs.Magnitude.{sign, sign-byte, bignum-row};
 ghost use Rattle.definition.specs.Arena.{named, compared-among};
-ghost use Rattle.definition.specs.Load.{Room, State, Reader, Lists, lists, read-header, read-integer, read-count, read-bytes, read-byte-string, read-fixnum, read-symbol, read-symbol-link, read-object-link, read-symbol-like, read-text, read-user-defined, read-sign, read-magnitude, read-bignum, add-bignum, read-value, value-of, head, add-node, add-bytes, add-symbol, add-object, add-object-node, counted, fill, takes-variables};
+ghost use Rattle.definition.specs.Load.{Room, State, Reader, bad-buckets, read-header, read-integer, read-count, read-bytes, read-byte-string, read-fixnum, read-symbol, read-symbol-link, read-object-link, read-symbol-like, read-text, read-user-defined, read-sign, read-magnitude, read-bignum, add-bignum, read-value, value-of, head, add-node, add-bytes, add-symbol, add-object, add-object-node, counted, fill, takes-variables};
 ghost use Rattle.reader.specs.Answers.{coded};
 ghost use Rattle.reader.specs.Integers.{size-at, word-at, dumped-at};
-ghost use Rattle.loader.specs.Holds.{Held, Holds, Somewhere, Goes, Leads, Meets, Does, Spans, Plain, Symbolic, Found, Like, Alike, Compared, Ends, find-listed, Free, Leaf, Entry, Link, Next, Coming, span, span-of, at-of, nodes-of, references-of, bytes-of, symbols-of, compared-of, new-symbol, read-name, add-name, read-number, settle, after-i, slots, wrong, Allowed};
+ghost use Rattle.loader.specs.Holds.{Symbols, Lent, lent, by-list, by-buckets, Held, Holds, Somewhere, Goes, Leads, Meets, Does, Spans, Plain, Symbolic, Found, Like, Alike, Compared, Probe, Ends, find-listed, Free, Leaf, Entry, Link, Next, Coming, span, span-of, at-of, nodes-of, references-of, bytes-of, symbols-of, compared-of, space-of, new-symbol, read-name, add-name, read-number, settle, after-i, slots, wrong, Allowed};
 
-// The places of the eight counts: the offset, then how much of each table and list is used, then whether what was read is
-// in dump form: 0 while all of it is, else 1; last, one more than the bytes compared, or 0 where they are not counted.
+// The places of the ten counts: the offset, then how much of each table and list is used, then whether what was read is in
+// dump form: 0 while all of it is, else 1; then one more than the bytes compared, or 0 where they are not counted; then the
+// words of the bucket table looked at; last, how many nodes there is room for, which does not change.
 pub const AT: usize = 0;
 
 pub const NODES: usize = 1;
@@ -68,12 +70,16 @@ pub const FORM: usize = 6;
 
 pub const COMPARED: usize = 7;
 
+pub const LOOKED: usize = 8;
+
+pub const ROOM: usize = 9;
+
 // ---- the input
 
 // An integer's 32 bits; another form than dump's is noted. Only there can the size byte be against the sign.
-fn read_integer(input: &[u8], c: &mut [usize; 8]) -> u64
-    requires { ⌜ (at-of (now c) ≤ length (now input)) × (length (now c) ≡ 8) ⌝ }
-    ensures { λ r. ⌜ ((room : Room) (limit : ℕ) (T : Lists) → Meets (now (input .entry)) room limit (read-integer (now (input .entry))) T (now (c .entry)) r T (now (c .exit))) ⌝ }
+fn read_integer(input: &[u8], c: &mut [usize; 10]) -> u64
+    requires { ⌜ (at-of (now c) ≤ length (now input)) × (length (now c) ≡ 10) ⌝ }
+    ensures { λ r. ⌜ ((room : Room) (limit : ℕ) (T : Lent) → Meets (now (input .entry)) room limit (read-integer (now (input .entry))) T (now (c .entry)) r T (now (c .exit))) ⌝ }
 {
     let at = c[AT];
     if input.len() <= at {
@@ -94,9 +100,9 @@ fn read_integer(input: &[u8], c: &mut [usize; 8]) -> u64
 }
 
 // A length, count or index; small ones come first.
-fn read_count(input: &[u8], c: &mut [usize; 8]) -> u64
-    requires { ⌜ (at-of (now c) ≤ length (now input)) × (length (now c) ≡ 8) ⌝ }
-    ensures { λ r. ⌜ ((room : Room) (limit : ℕ) (T : Lists) → Meets (now (input .entry)) room limit (read-count (now (input .entry))) T (now (c .entry)) r T (now (c .exit))) ⌝ }
+fn read_count(input: &[u8], c: &mut [usize; 10]) -> u64
+    requires { ⌜ (at-of (now c) ≤ length (now input)) × (length (now c) ≡ 10) ⌝ }
+    ensures { λ r. ⌜ ((room : Room) (limit : ℕ) (T : Lent) → Meets (now (input .entry)) room limit (read-count (now (input .entry))) T (now (c .entry)) r T (now (c .exit))) ⌝ }
     ensures { λ r. ⌜ (r < 4294967296 → r < 2147483648) ⌝ }
 {
     let at = c[AT];
@@ -118,9 +124,9 @@ fn read_count(input: &[u8], c: &mut [usize; 8]) -> u64
 }
 
 // The length of a byte string, whose bytes are there and are left.
-fn read_length(input: &[u8], c: &mut [usize; 8]) -> u64
+fn read_length(input: &[u8], c: &mut [usize; 10]) -> u64
     requires { ⌜ Somewhere (now input) (now c) ⌝ }
-    ensures { λ r. ⌜ ((room : Room) (limit : ℕ) (T : Lists) → Leads (now (input .entry)) room limit (read-byte-string (now (input .entry))) (read-bytes (now (input .entry)) r) T (now (c .entry)) r T (now (c .exit))) ⌝ }
+    ensures { λ r. ⌜ ((room : Room) (limit : ℕ) (T : Lent) → Leads (now (input .entry)) room limit (read-byte-string (now (input .entry))) (read-bytes (now (input .entry)) r) T (now (c .entry)) r T (now (c .exit))) ⌝ }
     ensures { λ r. ⌜ (r < 4294967296 → at-of (now (c .exit)) + r ≤ length (now (input .entry))) ⌝ }
 {
     let n = read_count(&input[..], c);
@@ -134,9 +140,9 @@ fn read_length(input: &[u8], c: &mut [usize; 8]) -> u64
 }
 
 // The length of a byte string, which is passed.
-fn read_byte_string(input: &[u8], c: &mut [usize; 8]) -> u64
+fn read_byte_string(input: &[u8], c: &mut [usize; 10]) -> u64
     requires { ⌜ Somewhere (now input) (now c) ⌝ }
-    ensures { λ r. ⌜ ((room : Room) (limit : ℕ) (T : Lists) → Spans (now (input .entry)) room limit (read-byte-string (now (input .entry))) T (now (c .entry)) r T (now (c .exit))) ⌝ }
+    ensures { λ r. ⌜ ((room : Room) (limit : ℕ) (T : Lent) → Spans (now (input .entry)) room limit (read-byte-string (now (input .entry))) T (now (c .entry)) r T (now (c .exit))) ⌝ }
     ensures { λ r. ⌜ (r < 4294967296 → (r ≤ at-of (now (c .exit))) × (at-of (now (c .exit)) ≤ length (now (input .entry)))) ⌝ }
 {
     let n = read_length(&input[..], c);
@@ -148,9 +154,9 @@ fn read_byte_string(input: &[u8], c: &mut [usize; 8]) -> u64
 }
 
 // The header; an older version than dump's is noted.
-pub fn read_header(input: &[u8], c: &mut [usize; 8]) -> u64
+pub fn read_header(input: &[u8], c: &mut [usize; 10]) -> u64
     requires { ⌜ Somewhere (now input) (now c) ⌝ }
-    ensures { λ r. ⌜ ((room : Room) (limit : ℕ) (T : Lists) → Does (now (input .entry)) room limit (read-header (now (input .entry))) T (now (c .entry)) r T (now (c .exit))) ⌝ }
+    ensures { λ r. ⌜ ((room : Room) (limit : ℕ) (T : Lent) → Does (now (input .entry)) room limit (read-header (now (input .entry))) T (now (c .entry)) r T (now (c .exit))) ⌝ }
 {
     let at = c[AT];
     let w = header_at(&input[..], at);
@@ -170,19 +176,19 @@ pub fn read_header(input: &[u8], c: &mut [usize; 8]) -> u64
 // A node of these words, the others zero: its number.
 fn add_node(
     nodes: &mut [u32],
-    c: &mut [usize; 8],
+    c: &mut [usize; 10],
     kind: u32,
     a: u32,
     b: u32,
     n: u32,
     name: u32,
 ) -> u64
-    requires { ⌜ (length (now nodes) ≤ 2147483647) × (length (now c) ≡ 8) ⌝ }
-    ensures { λ r. ⌜ ((input : List ℕ) (room : Room) (limit : ℕ) (row : Row) (re by sy ob : List ℕ) → words row ≡ kind ∷ a ∷ b ∷ 0 ∷ n ∷ name ∷ 0 ∷ [] → Plain row → Meets input room limit (add-node room row) (lists (now (nodes .entry)) re by sy ob) (now (c .entry)) r (lists (now (nodes .exit)) re by sy ob) (now (c .exit))) ⌝ }
+    requires { ⌜ (length (now nodes) ≤ 2147483647) × (space-of (now c) * width ≤ length (now nodes)) × (length (now c) ≡ 10) ⌝ }
+    ensures { λ r. ⌜ ((input : List ℕ) (room : Room) (limit : ℕ) (row : Row) (re by : List ℕ) (sy : Symbols) (ob : List ℕ) → words row ≡ kind ∷ a ∷ b ∷ 0 ∷ n ∷ name ∷ 0 ∷ [] → Plain row → Meets input room limit (add-node room row) (lent (now (nodes .entry)) re by sy ob) (now (c .entry)) r (lent (now (nodes .exit)) re by sy ob) (now (c .exit))) ⌝ }
     ensures { λ r. ⌜ (r < 4294967296 → (r < nodes-of (now (c .exit))) × ((kind ≡ 3 → ⊥) → Free (now (nodes .exit)) r)) ⌝ }
 {
     let at = c[NODES];
-    if nodes.len() / Node::WIDTH <= at {
+    if c[ROOM] <= at {
         return NO_SPACE + 1;
     }
     put_node(nodes, at * Node::WIDTH, kind, a, b, 0, n, name, 0);
@@ -191,9 +197,9 @@ fn add_node(
 }
 
 // Node h is put on the object list: h.
-fn add_object(objects: &mut [u32], c: &mut [usize; 8], h: u64) -> u64
+fn add_object(objects: &mut [u32], c: &mut [usize; 10], h: u64) -> u64
     requires { ⌜ (h < nodes-of (now c)) × (h < 4294967296) ⌝ }
-    ensures { λ r. ⌜ ((input : List ℕ) (room : Room) (limit : ℕ) (no re by sy : List ℕ) → Meets input room limit (add-object room h) (lists no re by sy (now (objects .entry))) (now (c .entry)) r (lists no re by sy (now (objects .exit))) (now (c .exit))) ⌝ }
+    ensures { λ r. ⌜ ((input : List ℕ) (room : Room) (limit : ℕ) (no re by : List ℕ) (sy : Symbols) → Meets input room limit (add-object room h) (lent no re by sy (now (objects .entry))) (now (c .entry)) r (lent no re by sy (now (objects .exit))) (now (c .exit))) ⌝ }
     ensures { λ r. ⌜ (r < 4294967296 → (r ≡ h) × (nodes-of (now (c .exit)) ≡ nodes-of (now (c .entry)))) ⌝ }
 {
     let at = c[OBJECTS];
@@ -209,15 +215,15 @@ fn add_object(objects: &mut [u32], c: &mut [usize; 8], h: u64) -> u64
 fn add_object_node(
     nodes: &mut [u32],
     objects: &mut [u32],
-    c: &mut [usize; 8],
+    c: &mut [usize; 10],
     kind: u32,
     a: u32,
     b: u32,
     n: u32,
     name: u32,
 ) -> u64
-    requires { ⌜ (length (now nodes) ≤ 2147483647) × (length (now c) ≡ 8) ⌝ }
-    ensures { λ r. ⌜ ((input : List ℕ) (room : Room) (limit : ℕ) (row : Row) (re by sy : List ℕ) → words row ≡ kind ∷ a ∷ b ∷ 0 ∷ n ∷ name ∷ 0 ∷ [] → Plain row → Meets input room limit (add-object-node room row) (lists (now (nodes .entry)) re by sy (now (objects .entry))) (now (c .entry)) r (lists (now (nodes .exit)) re by sy (now (objects .exit))) (now (c .exit))) ⌝ }
+    requires { ⌜ (length (now nodes) ≤ 2147483647) × (space-of (now c) * width ≤ length (now nodes)) × (length (now c) ≡ 10) ⌝ }
+    ensures { λ r. ⌜ ((input : List ℕ) (room : Room) (limit : ℕ) (row : Row) (re by : List ℕ) (sy : Symbols) → words row ≡ kind ∷ a ∷ b ∷ 0 ∷ n ∷ name ∷ 0 ∷ [] → Plain row → Meets input room limit (add-object-node room row) (lent (now (nodes .entry)) re by sy (now (objects .entry))) (now (c .entry)) r (lent (now (nodes .exit)) re by sy (now (objects .exit))) (now (c .exit))) ⌝ }
     ensures { λ r. ⌜ (r < 4294967296 → (r < nodes-of (now (c .exit))) × ((kind ≡ 3 → ⊥) → Free (now (nodes .exit)) r)) ⌝ }
 {
     let h = add_node(nodes, c, kind, a, b, n, name);
@@ -228,9 +234,9 @@ fn add_object_node(
 }
 
 // The n bytes before the offset: where they start.
-fn add_bytes(input: &[u8], bytes: &mut [u8], c: &mut [usize; 8], n: u64) -> u64
-    requires { ⌜ (n ≤ at-of (now c)) × (at-of (now c) ≤ length (now input)) × (bytes-of (now c) ≤ length (now bytes)) × (length (now bytes) ≤ 2147483647) × (length (now c) ≡ 8) ⌝ }
-    ensures { λ r. ⌜ ((room : Room) (limit : ℕ) (no re sy ob : List ℕ) → Meets (now (input .entry)) room limit (add-bytes room (span-of (now (input .entry)) (now (c .entry)) n)) (lists no re (now (bytes .entry)) sy ob) (now (c .entry)) r (lists no re (now (bytes .exit)) sy ob) (now (c .exit))) ⌝ }
+fn add_bytes(input: &[u8], bytes: &mut [u8], c: &mut [usize; 10], n: u64) -> u64
+    requires { ⌜ (n ≤ at-of (now c)) × (at-of (now c) ≤ length (now input)) × (bytes-of (now c) ≤ length (now bytes)) × (length (now bytes) ≤ 2147483647) × (length (now c) ≡ 10) ⌝ }
+    ensures { λ r. ⌜ ((room : Room) (limit : ℕ) (no re : List ℕ) (sy : Symbols) (ob : List ℕ) → Meets (now (input .entry)) room limit (add-bytes room (span-of (now (input .entry)) (now (c .entry)) n)) (lent no re (now (bytes .entry)) sy ob) (now (c .entry)) r (lent no re (now (bytes .exit)) sy ob) (now (c .exit))) ⌝ }
     ensures { λ r. ⌜ (r < 4294967296 → r + n ≤ bytes-of (now (c .exit))) ⌝ }
 {
     let to = c[BYTES];
@@ -245,9 +251,9 @@ fn add_bytes(input: &[u8], bytes: &mut [u8], c: &mut [usize; 8], n: u64) -> u64
 }
 
 // Symbol h is put on the symbol list: h.
-fn add_symbol(symbols: &mut [u32], c: &mut [usize; 8], h: u64) -> u64
+fn add_symbol(symbols: &mut [u32], c: &mut [usize; 10], h: u64) -> u64
     requires { ⌜ h < 4294967296 ⌝ }
-    ensures { λ r. ⌜ ((input : List ℕ) (room : Room) (limit : ℕ) (no re by ob : List ℕ) → ((s : State) → Holds input room s (lists no re by (now (symbols .entry)) ob) (now (c .entry)) → Symbolic (getD (s .nodes) h nil)) → Meets input room limit (add-symbol room h) (lists no re by (now (symbols .entry)) ob) (now (c .entry)) r (lists no re by (now (symbols .exit)) ob) (now (c .exit))) ⌝ }
+    ensures { λ r. ⌜ ((input : List ℕ) (room : Room) (limit : ℕ) (no re by ob : List ℕ) → ((s : State) → Holds input room s (lent no re by (by-list (now (symbols .entry))) ob) (now (c .entry)) → Symbolic (getD (s .nodes) h nil)) → Meets input room limit (add-symbol room h) (lent no re by (by-list (now (symbols .entry))) ob) (now (c .entry)) r (lent no re by (by-list (now (symbols .exit))) ob) (now (c .exit))) ⌝ }
     ensures { λ r. ⌜ (r < 4294967296 → (r ≡ h) × (nodes-of (now (c .exit)) ≡ nodes-of (now (c .entry)))) ⌝ }
 {
     let at = c[SYMBOLS];
@@ -263,16 +269,16 @@ fn add_symbol(symbols: &mut [u32], c: &mut [usize; 8], h: u64) -> u64
 fn add_symbol_node(
     nodes: &mut [u32],
     symbols: &mut [u32],
-    c: &mut [usize; 8],
+    c: &mut [usize; 10],
     start: u32,
     n: u32,
 ) -> u64
-    requires { ⌜ (length (now nodes) ≤ 2147483647) × (start + n ≤ bytes-of (now c)) × (length (now c) ≡ 8) ⌝ }
-    ensures { λ r. ⌜ ((input : List ℕ) (room : Room) (limit l : ℕ) (re by ob : List ℕ) → l ≡ n → Meets input room limit (new-symbol room start l) (lists (now (nodes .entry)) re by (now (symbols .entry)) ob) (now (c .entry)) r (lists (now (nodes .exit)) re by (now (symbols .exit)) ob) (now (c .exit))) ⌝ }
+    requires { ⌜ (length (now nodes) ≤ 2147483647) × (space-of (now c) * width ≤ length (now nodes)) × (start + n ≤ bytes-of (now c)) × (length (now c) ≡ 10) ⌝ }
+    ensures { λ r. ⌜ ((input : List ℕ) (room : Room) (limit l : ℕ) (re by ob : List ℕ) → l ≡ n → Meets input room limit (new-symbol room start l) (lent (now (nodes .entry)) re by (by-list (now (symbols .entry))) ob) (now (c .entry)) r (lent (now (nodes .exit)) re by (by-list (now (symbols .exit))) ob) (now (c .exit))) ⌝ }
     ensures { λ r. ⌜ (r < 4294967296 → r < nodes-of (now (c .exit))) ⌝ }
 {
     let at = c[NODES];
-    if nodes.len() / Node::WIDTH <= at {
+    if c[ROOM] <= at {
         return NO_SPACE + 1;
     }
     let to = c[SYMBOLS];
@@ -303,9 +309,9 @@ fn entry_at(list: &[u32], known: usize, n: u64, missing: u64) -> u64
 }
 
 // The entry of the object list that the index read names.
-fn read_object_link(input: &[u8], objects: &[u32], c: &mut [usize; 8]) -> u64
-    requires { ⌜ ((no : List ℕ) × (re : List ℕ) × (by : List ℕ) × (sy : List ℕ) × Held (now input) (lists no re by sy (now objects)) (now c)) ⌝ }
-    ensures { λ r. ⌜ ((room : Room) (limit : ℕ) (no re by sy : List ℕ) → Meets (now (input .entry)) room limit (read-object-link (now (input .entry))) (lists no re by sy (now (objects .entry))) (now (c .entry)) r (lists no re by sy (now (objects .entry))) (now (c .exit))) ⌝ }
+fn read_object_link(input: &[u8], objects: &[u32], c: &mut [usize; 10]) -> u64
+    requires { ⌜ ((no : List ℕ) × (re : List ℕ) × (by : List ℕ) × (sy : Symbols) × Held (now input) (lent no re by sy (now objects)) (now c)) ⌝ }
+    ensures { λ r. ⌜ ((room : Room) (limit : ℕ) (no re by : List ℕ) (sy : Symbols) → Meets (now (input .entry)) room limit (read-object-link (now (input .entry))) (lent no re by sy (now (objects .entry))) (now (c .entry)) r (lent no re by sy (now (objects .entry))) (now (c .exit))) ⌝ }
     ensures { λ r. ⌜ (r < 4294967296 → r < nodes-of (now (c .exit))) ⌝ }
 {
     let n = read_count(&input[..], c);
@@ -313,9 +319,9 @@ fn read_object_link(input: &[u8], objects: &[u32], c: &mut [usize; 8]) -> u64
 }
 
 // The entry of the symbol list that the index read names.
-fn read_symbol_link(input: &[u8], symbols: &[u32], c: &mut [usize; 8]) -> u64
-    requires { ⌜ ((no : List ℕ) × (re : List ℕ) × (by : List ℕ) × (ob : List ℕ) × Held (now input) (lists no re by (now symbols) ob) (now c)) ⌝ }
-    ensures { λ r. ⌜ ((room : Room) (limit : ℕ) (no re by ob : List ℕ) → Meets (now (input .entry)) room limit (read-symbol-link (now (input .entry))) (lists no re by (now (symbols .entry)) ob) (now (c .entry)) r (lists no re by (now (symbols .entry)) ob) (now (c .exit))) ⌝ }
+fn read_symbol_link(input: &[u8], symbols: &[u32], c: &mut [usize; 10]) -> u64
+    requires { ⌜ ((no : List ℕ) × (re : List ℕ) × (by : List ℕ) × (ob : List ℕ) × (bu : List ℕ) × Held (now input) (lent no re by (by-buckets (now symbols) bu) ob) (now c)) ⌝ }
+    ensures { λ r. ⌜ ((room : Room) (limit : ℕ) (no re by ob bu : List ℕ) → Meets (now (input .entry)) room limit (read-symbol-link (now (input .entry))) (lent no re by (by-buckets (now (symbols .entry)) bu) ob) (now (c .entry)) r (lent no re by (by-buckets (now (symbols .entry)) bu) ob) (now (c .exit))) ⌝ }
     ensures { λ r. ⌜ (r < 4294967296 → r < nodes-of (now (c .exit))) ⌝ }
 {
     let n = read_count(&input[..], c);
@@ -323,9 +329,9 @@ fn read_symbol_link(input: &[u8], symbols: &[u32], c: &mut [usize; 8]) -> u64
 }
 
 // A node of the integer read.
-fn read_fixnum(input: &[u8], nodes: &mut [u32], c: &mut [usize; 8]) -> u64
-    requires { ⌜ ((re : List ℕ) × (by : List ℕ) × (sy : List ℕ) × (ob : List ℕ) × Held (now input) (lists (now nodes) re by sy ob) (now c)) ⌝ }
-    ensures { λ r. ⌜ ((room : Room) (limit : ℕ) (re by sy ob : List ℕ) → Meets (now (input .entry)) room limit (read-fixnum (now (input .entry)) room) (lists (now (nodes .entry)) re by sy ob) (now (c .entry)) r (lists (now (nodes .exit)) re by sy ob) (now (c .exit))) ⌝ }
+fn read_fixnum(input: &[u8], nodes: &mut [u32], c: &mut [usize; 10]) -> u64
+    requires { ⌜ ((re : List ℕ) × (by : List ℕ) × (sy : Symbols) × (ob : List ℕ) × Held (now input) (lent (now nodes) re by sy ob) (now c)) ⌝ }
+    ensures { λ r. ⌜ ((room : Room) (limit : ℕ) (re by : List ℕ) (sy : Symbols) (ob : List ℕ) → Meets (now (input .entry)) room limit (read-fixnum (now (input .entry)) room) (lent (now (nodes .entry)) re by sy ob) (now (c .entry)) r (lent (now (nodes .exit)) re by sy ob) (now (c .exit))) ⌝ }
     ensures { λ r. ⌜ (r < 4294967296 → r < nodes-of (now (c .exit))) ⌝ }
 {
     let n = read_integer(&input[..], c);
@@ -341,12 +347,12 @@ fn read_text(
     nodes: &mut [u32],
     bytes: &mut [u8],
     objects: &mut [u32],
-    c: &mut [usize; 8],
+    c: &mut [usize; 10],
     kind: u32,
     name: u32,
 ) -> u64
-    requires { ⌜ ((re : List ℕ) × (sy : List ℕ) × Held (now input) (lists (now nodes) re (now bytes) sy (now objects)) (now c)) ⌝ }
-    ensures { λ r. ⌜ ((room : Room) (limit : ℕ) (row : ℕ → ℕ → Row) (re sy : List ℕ) → ((start n : ℕ) → words (row start n) ≡ kind ∷ start ∷ n ∷ 0 ∷ 0 ∷ name ∷ 0 ∷ []) → ((start n : ℕ) → Plain (row start n)) → Meets (now (input .entry)) room limit (read-text (now (input .entry)) room row) (lists (now (nodes .entry)) re (now (bytes .entry)) sy (now (objects .entry))) (now (c .entry)) r (lists (now (nodes .exit)) re (now (bytes .exit)) sy (now (objects .exit))) (now (c .exit))) ⌝ }
+    requires { ⌜ ((re : List ℕ) × (sy : Symbols) × Held (now input) (lent (now nodes) re (now bytes) sy (now objects)) (now c)) ⌝ }
+    ensures { λ r. ⌜ ((room : Room) (limit : ℕ) (row : ℕ → ℕ → Row) (re : List ℕ) (sy : Symbols) → ((start n : ℕ) → words (row start n) ≡ kind ∷ start ∷ n ∷ 0 ∷ 0 ∷ name ∷ 0 ∷ []) → ((start n : ℕ) → Plain (row start n)) → Meets (now (input .entry)) room limit (read-text (now (input .entry)) room row) (lent (now (nodes .entry)) re (now (bytes .entry)) sy (now (objects .entry))) (now (c .entry)) r (lent (now (nodes .exit)) re (now (bytes .exit)) sy (now (objects .exit))) (now (c .exit))) ⌝ }
     ensures { λ r. ⌜ (r < 4294967296 → r < nodes-of (now (c .exit))) ⌝ }
 {
     let n = read_byte_string(&input[..], c);
@@ -361,9 +367,9 @@ fn read_text(
 }
 
 // A Bignum's sign byte.
-fn read_sign(input: &[u8], c: &mut [usize; 8]) -> u64
+fn read_sign(input: &[u8], c: &mut [usize; 10]) -> u64
     requires { ⌜ Somewhere (now input) (now c) ⌝ }
-    ensures { λ r. ⌜ ((room : Room) (limit : ℕ) (T : Lists) → Meets (now (input .entry)) room limit (read-sign (now (input .entry))) T (now (c .entry)) r T (now (c .exit))) ⌝ }
+    ensures { λ r. ⌜ ((room : Room) (limit : ℕ) (T : Lent) → Meets (now (input .entry)) room limit (read-sign (now (input .entry))) T (now (c .entry)) r T (now (c .exit))) ⌝ }
     ensures { λ r. ⌜ (r < 4294967296 → (r ≡ PLUS) ⊎ (r ≡ MINUS)) ⌝ }
 {
     let at = c[AT];
@@ -375,9 +381,9 @@ fn read_sign(input: &[u8], c: &mut [usize; 8]) -> u64
 }
 
 // The count of a Bignum's units, which are there and are left; a count that is too great comes before units that are not.
-fn read_units(input: &[u8], c: &mut [usize; 8]) -> u64
+fn read_units(input: &[u8], c: &mut [usize; 10]) -> u64
     requires { ⌜ Somewhere (now input) (now c) ⌝ }
-    ensures { λ r. ⌜ ((room : Room) (limit b : ℕ) (T : Lists) → Leads (now (input .entry)) room limit (read-number (now (input .entry)) room b) (read-magnitude (now (input .entry)) room b r) T (now (c .entry)) r T (now (c .exit))) ⌝ }
+    ensures { λ r. ⌜ ((room : Room) (limit b : ℕ) (T : Lent) → Leads (now (input .entry)) room limit (read-number (now (input .entry)) room b) (read-magnitude (now (input .entry)) room b r) T (now (c .entry)) r T (now (c .exit))) ⌝ }
     ensures { λ r. ⌜ (r < 4294967296 → (r ≤ 4) × (at-of (now (c .exit)) + r * 2 ≤ length (now (input .entry)))) ⌝ }
 {
     let n = read_count(&input[..], c);
@@ -418,9 +424,9 @@ fn keeps_sign(b: u64, m: u64) -> bool
 }
 
 // That dump writes a magnitude with another sign byte than b, or with other units than n, is noted.
-fn note_bignum(c: &mut [usize; 8], b: u64, n: u64, m: u64)
+fn note_bignum(c: &mut [usize; 10], b: u64, n: u64, m: u64)
     requires { ⌜ (b ≡ PLUS) ⊎ (b ≡ MINUS) ⌝ }
-    ensures { λ _. ⌜ ((input : List ℕ) (room : Room) (T : Lists) → Goes input room (add-bignum room b (low-bytes (n * 2) m) m) T (now (c .entry)) (add-object-node room (bignum-row (eqb b MINUS) m)) T (now (c .exit))) ⌝ }
+    ensures { λ _. ⌜ ((input : List ℕ) (room : Room) (T : Lent) → Goes input room (add-bignum room b (low-bytes (n * 2) m) m) T (now (c .entry)) (add-object-node room (bignum-row (eqb b MINUS) m)) T (now (c .exit))) ⌝ }
 {
     if keeps_sign(b, m) & (n == wide(fewest_units(m))) {
         return;
@@ -433,12 +439,12 @@ fn read_magnitude(
     input: &[u8],
     nodes: &mut [u32],
     objects: &mut [u32],
-    c: &mut [usize; 8],
+    c: &mut [usize; 10],
     b: u64,
     n: u64,
 ) -> u64
-    requires { ⌜ ((b ≡ PLUS) ⊎ (b ≡ MINUS)) × (n ≤ 4) × (at-of (now c) + n * 2 ≤ length (now input)) × ((re : List ℕ) × (by : List ℕ) × (sy : List ℕ) × Held (now input) (lists (now nodes) re by sy (now objects)) (now c)) ⌝ }
-    ensures { λ r. ⌜ ((room : Room) (limit : ℕ) (re by sy : List ℕ) → Meets (now (input .entry)) room limit (read-magnitude (now (input .entry)) room b n) (lists (now (nodes .entry)) re by sy (now (objects .entry))) (now (c .entry)) r (lists (now (nodes .exit)) re by sy (now (objects .exit))) (now (c .exit))) ⌝ }
+    requires { ⌜ ((b ≡ PLUS) ⊎ (b ≡ MINUS)) × (n ≤ 4) × (at-of (now c) + n * 2 ≤ length (now input)) × ((re : List ℕ) × (by : List ℕ) × (sy : Symbols) × Held (now input) (lent (now nodes) re by sy (now objects)) (now c)) ⌝ }
+    ensures { λ r. ⌜ ((room : Room) (limit : ℕ) (re by : List ℕ) (sy : Symbols) → Meets (now (input .entry)) room limit (read-magnitude (now (input .entry)) room b n) (lent (now (nodes .entry)) re by sy (now (objects .entry))) (now (c .entry)) r (lent (now (nodes .exit)) re by sy (now (objects .exit))) (now (c .exit))) ⌝ }
     ensures { λ r. ⌜ (r < 4294967296 → r < nodes-of (now (c .exit))) ⌝ }
 {
     let at = c[AT];
@@ -462,9 +468,9 @@ fn read_magnitude(
 }
 
 // A Bignum: its sign byte, its count of units, its units, and its node.
-fn read_bignum(input: &[u8], nodes: &mut [u32], objects: &mut [u32], c: &mut [usize; 8]) -> u64
-    requires { ⌜ ((re : List ℕ) × (by : List ℕ) × (sy : List ℕ) × Held (now input) (lists (now nodes) re by sy (now objects)) (now c)) ⌝ }
-    ensures { λ r. ⌜ ((room : Room) (limit : ℕ) (re by sy : List ℕ) → Meets (now (input .entry)) room limit (read-bignum (now (input .entry)) room) (lists (now (nodes .entry)) re by sy (now (objects .entry))) (now (c .entry)) r (lists (now (nodes .exit)) re by sy (now (objects .exit))) (now (c .exit))) ⌝ }
+fn read_bignum(input: &[u8], nodes: &mut [u32], objects: &mut [u32], c: &mut [usize; 10]) -> u64
+    requires { ⌜ ((re : List ℕ) × (by : List ℕ) × (sy : Symbols) × Held (now input) (lent (now nodes) re by sy (now objects)) (now c)) ⌝ }
+    ensures { λ r. ⌜ ((room : Room) (limit : ℕ) (re by : List ℕ) (sy : Symbols) → Meets (now (input .entry)) room limit (read-bignum (now (input .entry)) room) (lent (now (nodes .entry)) re by sy (now (objects .entry))) (now (c .entry)) r (lent (now (nodes .exit)) re by sy (now (objects .exit))) (now (c .exit))) ⌝ }
     ensures { λ r. ⌜ (r < 4294967296 → r < nodes-of (now (c .exit))) ⌝ }
 {
     let b = read_sign(&input[..], c);
@@ -491,9 +497,9 @@ fn last_byte(input: &[u8], at: usize, n: u32) -> u8
 
 // Has the symbol h a name of n bytes, of which `last` is the last? Names of one length mostly differ there.
 fn is_like(nodes: &[u32], bytes: &[u8], h: u32, n: u32, last: u8) -> bool
-    requires { ⌜ ((room : Room) × (s : State) × (input : List ℕ) × (re : List ℕ) × (sy : List ℕ) × (ob : List ℕ) × (c : List ℕ) × Symbolic (getD (s .nodes) h nil) × Holds input room s (lists (now nodes) re (now bytes) sy ob) c) ⌝ }
+    requires { ⌜ ((room : Room) × (s : State) × (input : List ℕ) × (re : List ℕ) × (sy : Symbols) × (ob : List ℕ) × (c : List ℕ) × Symbolic (getD (s .nodes) h nil) × Holds input room s (lent (now nodes) re (now bytes) sy ob) c) ⌝ }
     ensures { λ r. ⌜ (r ≡ true → Like (now (nodes .entry)) (now (bytes .entry)) h n last) ⌝ }
-    ensures { λ r. ⌜ ((room : Room) (s : State) (input re sy ob c name : List ℕ) → r ≡ false → Symbolic (getD (s .nodes) h nil) → Holds input room s (lists (now (nodes .entry)) re (now (bytes .entry)) sy ob) c → Ends name n last → false ≡ named (s .bytes) name (getD (s .nodes) h nil)) ⌝ }
+    ensures { λ r. ⌜ ((room : Room) (s : State) (input re : List ℕ) (sy : Symbols) (ob c name : List ℕ) → r ≡ false → Symbolic (getD (s .nodes) h nil) → Holds input room s (lent (now (nodes .entry)) re (now (bytes .entry)) sy ob) c → Ends name n last → false ≡ named (s .bytes) name (getD (s .nodes) h nil)) ⌝ }
 {
     let base = (h as usize) * Node::WIDTH;
     if nodes[base + Node::LENGTH] != n {
@@ -520,9 +526,9 @@ fn next_like(
     n: u32,
     last: u8,
 ) -> usize
-    requires { ⌜ (from ≤ count) × ((room : Room) × (s : State) × (input : List ℕ) × (re : List ℕ) × (ob : List ℕ) × (c : List ℕ) × (symbols-of c ≡ count) × Holds input room s (lists (now nodes) re (now bytes) (now symbols) ob) c) ⌝ }
+    requires { ⌜ (from ≤ count) × ((room : Room) × (s : State) × (input : List ℕ) × (re : List ℕ) × (ob : List ℕ) × (c : List ℕ) × (symbols-of c ≡ count) × Holds input room s (lent (now nodes) re (now bytes) (by-list (now symbols)) ob) c) ⌝ }
     ensures { λ r. ⌜ (from ≤ r) × (r ≤ count) × (r < count → Like (now (nodes .entry)) (now (bytes .entry)) (getD (now (symbols .entry)) r 0) n last) ⌝ }
-    ensures { λ r. ⌜ ((room : Room) (s : State) (input re ob c name : List ℕ) → symbols-of c ≡ count → Holds input room s (lists (now (nodes .entry)) re (now (bytes .entry)) (now (symbols .entry)) ob) c → Ends name n last → find-listed (s .bytes) name (s .nodes) (drop from (s .symbols)) ≡ find-listed (s .bytes) name (s .nodes) (drop r (s .symbols))) ⌝ }
+    ensures { λ r. ⌜ ((room : Room) (s : State) (input re ob c name : List ℕ) → symbols-of c ≡ count → Holds input room s (lent (now (nodes .entry)) re (now (bytes .entry)) (by-list (now (symbols .entry))) ob) c → Ends name n last → find-listed (s .bytes) name (s .nodes) (drop from (s .symbols)) ≡ find-listed (s .bytes) name (s .nodes) (drop r (s .symbols))) ⌝ }
 {
     let mut i = from;
     while i < count {
@@ -536,8 +542,8 @@ fn next_like(
 
 // Do the n bytes before `at` name the symbol h, whose name has so many?
 fn is_named(input: &[u8], nodes: &[u32], bytes: &[u8], at: usize, h: u32, n: u32) -> bool
-    requires { ⌜ (n ≤ at) × (at ≤ length (now input)) × (getD (now nodes) (h * width + 2) 0 ≡ n) × ((room : Room) × (s : State) × (re : List ℕ) × (sy : List ℕ) × (ob : List ℕ) × (c : List ℕ) × Symbolic (getD (s .nodes) h nil) × Holds (now input) room s (lists (now nodes) re (now bytes) sy ob) c) ⌝ }
-    ensures { λ r. ⌜ ((room : Room) (s : State) (re sy ob c : List ℕ) → Symbolic (getD (s .nodes) h nil) → Holds (now (input .entry)) room s (lists (now (nodes .entry)) re (now (bytes .entry)) sy ob) c → r ≡ named (s .bytes) (span (now (input .entry)) at n) (getD (s .nodes) h nil)) ⌝ }
+    requires { ⌜ (n ≤ at) × (at ≤ length (now input)) × (getD (now nodes) (h * width + 2) 0 ≡ n) × ((room : Room) × (s : State) × (re : List ℕ) × (sy : Symbols) × (ob : List ℕ) × (c : List ℕ) × Symbolic (getD (s .nodes) h nil) × Holds (now input) room s (lent (now nodes) re (now bytes) sy ob) c) ⌝ }
+    ensures { λ r. ⌜ ((room : Room) (s : State) (re : List ℕ) (sy : Symbols) (ob c : List ℕ) → Symbolic (getD (s .nodes) h nil) → Holds (now (input .entry)) room s (lent (now (nodes .entry)) re (now (bytes .entry)) sy ob) c → r ≡ named (s .bytes) (span (now (input .entry)) at n) (getD (s .nodes) h nil)) ⌝ }
 {
     let k = n as usize;
     let to = nodes[(h as usize) * Node::WIDTH + Node::START] as usize;
@@ -554,8 +560,8 @@ fn find_symbol(
     count: usize,
     n: u32,
 ) -> u64
-    requires { ⌜ (n ≤ at) × (at ≤ length (now input)) × ((room : Room) × (s : State) × (re : List ℕ) × (ob : List ℕ) × (c : List ℕ) × (symbols-of c ≡ count) × Holds (now input) room s (lists (now nodes) re (now bytes) (now symbols) ob) c) ⌝ }
-    ensures { λ r. ⌜ ((room : Room) (s : State) (re ob c : List ℕ) → symbols-of c ≡ count → Holds (now (input .entry)) room s (lists (now (nodes .entry)) re (now (bytes .entry)) (now (symbols .entry)) ob) c → Found s (span (now (input .entry)) at n) r) ⌝ }
+    requires { ⌜ (n ≤ at) × (at ≤ length (now input)) × ((room : Room) × (s : State) × (re : List ℕ) × (ob : List ℕ) × (c : List ℕ) × (symbols-of c ≡ count) × Holds (now input) room s (lent (now nodes) re (now bytes) (by-list (now symbols)) ob) c) ⌝ }
+    ensures { λ r. ⌜ ((room : Room) (s : State) (re ob c : List ℕ) → symbols-of c ≡ count → Holds (now (input .entry)) room s (lent (now (nodes .entry)) re (now (bytes .entry)) (by-list (now (symbols .entry))) ob) c → Found s (span (now (input .entry)) at n) r) ⌝ }
 {
     let last = last_byte(&input[..], at, n);
     let mut i: usize = 0;
@@ -603,8 +609,8 @@ fn compared(alike: usize, n: u32) -> u64
 // The n bytes before `at` are compared with the name of the symbol h, if that has so many: n where they name it, else REFUSED
 // and how many were compared, the first that differs included.
 fn compare_name(input: &[u8], nodes: &[u32], bytes: &[u8], at: usize, h: u32, n: u32) -> u64
-    requires { ⌜ (n ≤ at) × (at ≤ length (now input)) × ((room : Room) × (s : State) × (re : List ℕ) × (sy : List ℕ) × (ob : List ℕ) × (c : List ℕ) × Symbolic (getD (s .nodes) h nil) × Holds (now input) room s (lists (now nodes) re (now bytes) sy ob) c) ⌝ }
-    ensures { λ r. ⌜ ((room : Room) (s : State) (re sy ob c : List ℕ) → Symbolic (getD (s .nodes) h nil) → Holds (now (input .entry)) room s (lists (now (nodes .entry)) re (now (bytes .entry)) sy ob) c → Compared s (span (now (input .entry)) at n) (getD (s .nodes) h nil) r) ⌝ }
+    requires { ⌜ (n ≤ at) × (at ≤ length (now input)) × ((room : Room) × (s : State) × (re : List ℕ) × (sy : Symbols) × (ob : List ℕ) × (c : List ℕ) × Symbolic (getD (s .nodes) h nil) × Holds (now input) room s (lent (now nodes) re (now bytes) sy ob) c) ⌝ }
+    ensures { λ r. ⌜ ((room : Room) (s : State) (re : List ℕ) (sy : Symbols) (ob c : List ℕ) → Symbolic (getD (s .nodes) h nil) → Holds (now (input .entry)) room s (lent (now (nodes .entry)) re (now (bytes .entry)) sy ob) c → Compared s (span (now (input .entry)) at n) (getD (s .nodes) h nil) r) ⌝ }
 {
     let base = (h as usize) * Node::WIDTH;
     if nodes[base + Node::LENGTH] != n {
@@ -622,12 +628,12 @@ fn measure_symbol(
     nodes: &[u32],
     bytes: &[u8],
     symbols: &[u32],
-    c: &mut [usize; 8],
+    c: &mut [usize; 10],
     at: usize,
     n: u32,
 ) -> u64
-    requires { ⌜ (n ≤ at) × (at ≤ length (now input)) × (compared-of (now c) ≡ 0 → ⊥) × ((re : List ℕ) × (ob : List ℕ) × Held (now input) (lists (now nodes) re (now bytes) (now symbols) ob) (now c)) ⌝ }
-    ensures { λ r. ⌜ ((room : Room) (s : State) (re ob k : List ℕ) → symbols-of k ≡ symbols-of (now (c .entry)) → Holds (now (input .entry)) room s (lists (now (nodes .entry)) re (now (bytes .entry)) (now (symbols .entry)) ob) k → Found s (span (now (input .entry)) at n) r × (now (c .exit) ≡ set (now (c .entry)) 7 (compared-of (now (c .entry)) + compared-among (s .bytes) (span (now (input .entry)) at n) (s .nodes)))) ⌝ }
+    requires { ⌜ (n ≤ at) × (at ≤ length (now input)) × (compared-of (now c) ≡ 0 → ⊥) × ((re : List ℕ) × (ob : List ℕ) × Held (now input) (lent (now nodes) re (now bytes) (by-list (now symbols)) ob) (now c)) ⌝ }
+    ensures { λ r. ⌜ ((room : Room) (s : State) (re ob k : List ℕ) → symbols-of k ≡ symbols-of (now (c .entry)) → Holds (now (input .entry)) room s (lent (now (nodes .entry)) re (now (bytes .entry)) (by-list (now (symbols .entry))) ob) k → Found s (span (now (input .entry)) at n) r × (now (c .exit) ≡ set (now (c .entry)) 7 (compared-of (now (c .entry)) + compared-among (s .bytes) (span (now (input .entry)) at n) (s .nodes)))) ⌝ }
 {
     let count = c[SYMBOLS];
     let mut total = c[COMPARED];
@@ -657,12 +663,12 @@ fn search_symbol(
     nodes: &[u32],
     bytes: &[u8],
     symbols: &[u32],
-    c: &mut [usize; 8],
+    c: &mut [usize; 10],
     n: u32,
 ) -> u64
-    requires { ⌜ (at-of (now c) + n ≤ length (now input)) × ((re : List ℕ) × (ob : List ℕ) × Held (now input) (lists (now nodes) re (now bytes) (now symbols) ob) (now c)) ⌝ }
-    ensures { λ r. ⌜ ((room : Room) (re ob : List ℕ) → Goes (now (input .entry)) room (read-name (now (input .entry)) room n) (lists (now (nodes .entry)) re (now (bytes .entry)) (now (symbols .entry)) ob) (now (c .entry)) (add-name room (span-of (now (input .entry)) (now (c .exit)) n) r) (lists (now (nodes .entry)) re (now (bytes .entry)) (now (symbols .entry)) ob) (now (c .exit))) ⌝ }
-    ensures { λ r. ⌜ ((room : Room) (s : State) (re ob k : List ℕ) → symbols-of k ≡ symbols-of (now (c .exit)) → r < 4294967296 → Holds (now (input .entry)) room s (lists (now (nodes .entry)) re (now (bytes .entry)) (now (symbols .entry)) ob) k → Symbolic (getD (s .nodes) r nil)) ⌝ }
+    requires { ⌜ (at-of (now c) + n ≤ length (now input)) × ((re : List ℕ) × (ob : List ℕ) × Held (now input) (lent (now nodes) re (now bytes) (by-list (now symbols)) ob) (now c)) ⌝ }
+    ensures { λ r. ⌜ ((room : Room) (re ob : List ℕ) → Goes (now (input .entry)) room (read-name (now (input .entry)) room n) (lent (now (nodes .entry)) re (now (bytes .entry)) (by-list (now (symbols .entry))) ob) (now (c .entry)) (add-name room (span-of (now (input .entry)) (now (c .exit)) n) r) (lent (now (nodes .entry)) re (now (bytes .entry)) (by-list (now (symbols .entry))) ob) (now (c .exit))) ⌝ }
+    ensures { λ r. ⌜ ((room : Room) (s : State) (re ob k : List ℕ) → symbols-of k ≡ symbols-of (now (c .exit)) → r < 4294967296 → Holds (now (input .entry)) room s (lent (now (nodes .entry)) re (now (bytes .entry)) (by-list (now (symbols .entry))) ob) k → Symbolic (getD (s .nodes) r nil)) ⌝ }
     ensures { λ r. ⌜ (n ≤ at-of (now (c .exit))) × (at-of (now (c .exit)) ≤ length (now (input .entry))) ⌝ }
 {
     let at = c[AT] + n as usize;
@@ -683,23 +689,21 @@ fn search_symbol(
     r
 }
 
-// The symbol of the name read, added where it is new, and put on the symbol list. That it is not new is noted.
-fn read_symbol(
+// A name, the n bytes before the offset, after the search for it, which answered `known`: the symbol, added where it is new,
+// and put on the symbol list. That it is not new is noted.
+fn intern_symbol(
     input: &[u8],
     nodes: &mut [u32],
     bytes: &mut [u8],
     symbols: &mut [u32],
-    c: &mut [usize; 8],
+    c: &mut [usize; 10],
+    n: u64,
+    known: u64,
 ) -> u64
-    requires { ⌜ ((re : List ℕ) × (ob : List ℕ) × Held (now input) (lists (now nodes) re (now bytes) (now symbols) ob) (now c)) ⌝ }
-    ensures { λ r. ⌜ ((room : Room) (limit : ℕ) (re ob : List ℕ) → Meets (now (input .entry)) room limit (read-symbol (now (input .entry)) room) (lists (now (nodes .entry)) re (now (bytes .entry)) (now (symbols .entry)) ob) (now (c .entry)) r (lists (now (nodes .exit)) re (now (bytes .exit)) (now (symbols .exit)) ob) (now (c .exit))) ⌝ }
+    requires { ⌜ (n ≤ at-of (now c)) × (at-of (now c) ≤ length (now input)) × (n < 4294967296) × (known < 4294967296 → known < nodes-of (now c)) × ((re : List ℕ) × (ob : List ℕ) × Held (now input) (lent (now nodes) re (now bytes) (by-list (now symbols)) ob) (now c)) ⌝ }
+    ensures { λ r. ⌜ ((room : Room) (limit : ℕ) (re ob : List ℕ) → (known < 4294967296 → (s : State) (k : List ℕ) → symbols-of k ≡ symbols-of (now (c .entry)) → Holds (now (input .entry)) room s (lent (now (nodes .entry)) re (now (bytes .entry)) (by-list (now (symbols .entry))) ob) k → Symbolic (getD (s .nodes) known nil)) → Meets (now (input .entry)) room limit (add-name room (span-of (now (input .entry)) (now (c .entry)) n) known) (lent (now (nodes .entry)) re (now (bytes .entry)) (by-list (now (symbols .entry))) ob) (now (c .entry)) r (lent (now (nodes .exit)) re (now (bytes .exit)) (by-list (now (symbols .exit))) ob) (now (c .exit))) ⌝ }
     ensures { λ r. ⌜ (r < 4294967296 → r < nodes-of (now (c .exit))) ⌝ }
 {
-    let n = read_length(&input[..], c);
-    if REFUSED <= n {
-        return n;
-    }
-    let known = search_symbol(&input[..], nodes, bytes, symbols, c, n as u32);
     if known < REFUSED {
         c[FORM] = 1;
         return add_symbol(symbols, c, known);
@@ -711,16 +715,160 @@ fn read_symbol(
     add_symbol_node(nodes, symbols, c, start as u32, n as u32)
 }
 
+// The word where a search goes on after the last.
+const FIRST: usize = 0;
+
+// The word after word i of m, wrapping.
+fn next_word(i: usize, m: usize) -> usize
+    requires { ⌜ i < m ⌝ }
+    ensures { λ r. ⌜ (suc i < m → r ≡ suc i) × (suc i ≡ m → r ≡ 0) ⌝ }
+{
+    if i + 1 < m {
+        return i + 1;
+    }
+    FIRST
+}
+
+// Word i of m and p words more, wrapping.
+fn word_on(i: usize, p: usize, m: usize) -> usize
+    requires { ⌜ (i < m) × (p < m) × (m ≤ 2147483647) ⌝ }
+    ensures { λ r. ⌜ (r ≡ (i + p) % m) × (r < m) ⌝ }
+{
+    if i + p < m {
+        return i + p;
+    }
+    i + p - m
+}
+
+// Do the n bytes before `at`, of which `last` is the last, name the symbol h?
+fn has_name(input: &[u8], nodes: &[u32], bytes: &[u8], at: usize, h: u32, n: u32, last: u8) -> bool
+    requires { ⌜ (n ≤ at) × (at ≤ length (now input)) × Ends (span (now input) at n) n last × ((room : Room) × (s : State) × (re : List ℕ) × (sy : Symbols) × (ob : List ℕ) × (c : List ℕ) × Symbolic (getD (s .nodes) h nil) × Holds (now input) room s (lent (now nodes) re (now bytes) sy ob) c) ⌝ }
+    ensures { λ r. ⌜ ((room : Room) (s : State) (re : List ℕ) (sy : Symbols) (ob c : List ℕ) → Symbolic (getD (s .nodes) h nil) → Holds (now (input .entry)) room s (lent (now (nodes .entry)) re (now (bytes .entry)) sy ob) c → r ≡ named (s .bytes) (span (now (input .entry)) at n) (getD (s .nodes) h nil)) ⌝ }
+{
+    if !is_like(&nodes[..], &bytes[..], h, n, last) {
+        return false;
+    }
+    is_named(&input[..], &nodes[..], &bytes[..], at, h, n)
+}
+
+// How many words of the bucket table, from word `start` on and wrapping, hold symbols with other names than the n bytes before
+// `at`, up to the symbol with that name or a zero word. A word is always zero, so it is never gone round.
+fn probe(
+    input: &[u8],
+    nodes: &[u32],
+    bytes: &[u8],
+    buckets: &[u32],
+    start: usize,
+    at: usize,
+    n: u32,
+) -> usize
+    requires { ⌜ (n ≤ at) × (at ≤ length (now input)) × (start < length (now buckets)) × ((room : Room) × (s : State) × (re : List ℕ) × (sy : List ℕ) × (ob : List ℕ) × (c : List ℕ) × Holds (now input) room s (lent (now nodes) re (now bytes) (by-buckets sy (now buckets)) ob) c) ⌝ }
+    ensures { λ r. ⌜ r < length (now (buckets .entry)) ⌝ }
+    ensures { λ r. ⌜ ((room : Room) (s : State) (re sy ob c : List ℕ) → Holds (now (input .entry)) room s (lent (now (nodes .entry)) re (now (bytes .entry)) (by-buckets sy (now (buckets .entry))) ob) c → Probe s (span (now (input .entry)) at n) (now (buckets .entry)) start r) ⌝ }
+{
+    let last = last_byte(&input[..], at, n);
+    let m = buckets.len();
+    let mut p: usize = 0;
+    let mut i = start;
+    while p < m {
+        let h = buckets[i];
+        if h == 0 {
+            return p;
+        }
+        if has_name(&input[..], &nodes[..], &bytes[..], at, h, n, last) {
+            return p;
+        }
+        p = p + 1;
+        i = next_word(i, m);
+    }
+    p
+}
+
+// The symbol in a word of the bucket table, or REFUSED where it is zero.
+fn symbol_in(h: u32) -> u64
+    ensures { λ r. ⌜ (h ≡ 0 → r ≡ 4294967296) × ((h ≡ 0 → ⊥) → r ≡ h) × (r < 4294967296 → (r ≡ h) × (h ≡ 0 → ⊥)) ⌝ }
+{
+    if h == 0 {
+        return REFUSED;
+    }
+    wide(h)
+}
+
+// A name, the n bytes at the offset, by the bucket table: the symbol stands then where the search ended.
+fn read_hashed(
+    input: &[u8],
+    nodes: &mut [u32],
+    bytes: &mut [u8],
+    symbols: &mut [u32],
+    buckets: &mut [u32],
+    c: &mut [usize; 10],
+    n: u32,
+) -> u64
+    requires { ⌜ (at-of (now c) + n ≤ length (now input)) × (length (now buckets) ≡ 0 → ⊥) × ((re : List ℕ) × (ob : List ℕ) × Held (now input) (lent (now nodes) re (now bytes) (by-buckets (now symbols) (now buckets)) ob) (now c)) ⌝ }
+    ensures { λ r. ⌜ ((room : Room) (limit : ℕ) (re ob : List ℕ) → Meets (now (input .entry)) room limit (read-name (now (input .entry)) room n) (lent (now (nodes .entry)) re (now (bytes .entry)) (by-buckets (now (symbols .entry)) (now (buckets .entry))) ob) (now (c .entry)) r (lent (now (nodes .exit)) re (now (bytes .exit)) (by-buckets (now (symbols .exit)) (now (buckets .exit))) ob) (now (c .exit))) ⌝ }
+    ensures { λ r. ⌜ (r < 4294967296 → r < nodes-of (now (c .exit))) ⌝ }
+{
+    let k = n as usize;
+    let at = c[AT] + k;
+    let m = buckets.len();
+    let start = fnv_1a(&input[..], c[AT], k) as usize % m;
+    let p = probe(&input[..], nodes, bytes, buckets, start, at, n);
+    let i = word_on(start, p, m);
+    let looked = c[LOOKED] + (p + 1);
+    c[AT] = at;
+    let r = intern_symbol(
+        &input[..],
+        nodes,
+        bytes,
+        symbols,
+        c,
+        n as u64,
+        symbol_in(buckets[i]),
+    );
+    if REFUSED <= r {
+        return r;
+    }
+    buckets[i] = r as u32;
+    c[LOOKED] = looked;
+    r
+}
+
+// The symbol of the name read, added where it is new, and put on the symbol list. Without words in the bucket table the name is
+// searched for on that list.
+fn read_symbol(
+    input: &[u8],
+    nodes: &mut [u32],
+    bytes: &mut [u8],
+    symbols: &mut [u32],
+    buckets: &mut [u32],
+    c: &mut [usize; 10],
+) -> u64
+    requires { ⌜ ((re : List ℕ) × (ob : List ℕ) × Held (now input) (lent (now nodes) re (now bytes) (by-buckets (now symbols) (now buckets)) ob) (now c)) ⌝ }
+    ensures { λ r. ⌜ ((room : Room) (limit : ℕ) (re ob : List ℕ) → Meets (now (input .entry)) room limit (read-symbol (now (input .entry)) room) (lent (now (nodes .entry)) re (now (bytes .entry)) (by-buckets (now (symbols .entry)) (now (buckets .entry))) ob) (now (c .entry)) r (lent (now (nodes .exit)) re (now (bytes .exit)) (by-buckets (now (symbols .exit)) (now (buckets .exit))) ob) (now (c .exit))) ⌝ }
+    ensures { λ r. ⌜ (r < 4294967296 → r < nodes-of (now (c .exit))) ⌝ }
+{
+    let n = read_length(&input[..], c);
+    if REFUSED <= n {
+        return n;
+    }
+    if 0 < buckets.len() {
+        return read_hashed(&input[..], nodes, bytes, symbols, buckets, c, n as u32);
+    }
+    let known = search_symbol(&input[..], nodes, bytes, symbols, c, n as u32);
+    intern_symbol(&input[..], nodes, bytes, symbols, c, n, known)
+}
+
 // A name: a symbol or a link to one.
 pub fn read_symbol_like(
     input: &[u8],
     nodes: &mut [u32],
     bytes: &mut [u8],
     symbols: &mut [u32],
-    c: &mut [usize; 8],
+    buckets: &mut [u32],
+    c: &mut [usize; 10],
 ) -> u64
-    requires { ⌜ ((re : List ℕ) × (ob : List ℕ) × Held (now input) (lists (now nodes) re (now bytes) (now symbols) ob) (now c)) ⌝ }
-    ensures { λ r. ⌜ ((room : Room) (limit : ℕ) (re ob : List ℕ) → Meets (now (input .entry)) room limit (read-symbol-like (now (input .entry)) room) (lists (now (nodes .entry)) re (now (bytes .entry)) (now (symbols .entry)) ob) (now (c .entry)) r (lists (now (nodes .exit)) re (now (bytes .exit)) (now (symbols .exit)) ob) (now (c .exit))) ⌝ }
+    requires { ⌜ ((re : List ℕ) × (ob : List ℕ) × Held (now input) (lent (now nodes) re (now bytes) (by-buckets (now symbols) (now buckets)) ob) (now c)) ⌝ }
+    ensures { λ r. ⌜ ((room : Room) (limit : ℕ) (re ob : List ℕ) → Meets (now (input .entry)) room limit (read-symbol-like (now (input .entry)) room) (lent (now (nodes .entry)) re (now (bytes .entry)) (by-buckets (now (symbols .entry)) (now (buckets .entry))) ob) (now (c .entry)) r (lent (now (nodes .exit)) re (now (bytes .exit)) (by-buckets (now (symbols .exit)) (now (buckets .exit))) ob) (now (c .exit))) ⌝ }
     ensures { λ r. ⌜ (r < 4294967296 → r < nodes-of (now (c .exit))) ⌝ }
 {
     let at = c[AT];
@@ -730,7 +878,7 @@ pub fn read_symbol_like(
     let k = input[at];
     c[AT] = at + 1;
     match k {
-        ValueKind::SYMBOL => read_symbol(&input[..], nodes, bytes, symbols, c),
+        ValueKind::SYMBOL => read_symbol(&input[..], nodes, bytes, symbols, buckets, c),
         ValueKind::SYMBOL_LINK => read_symbol_link(&input[..], symbols, c),
         _ => not_a_symbol(k),
     }
@@ -743,13 +891,14 @@ fn read_user_defined(
     bytes: &mut [u8],
     symbols: &mut [u32],
     objects: &mut [u32],
-    c: &mut [usize; 8],
+    buckets: &mut [u32],
+    c: &mut [usize; 10],
 ) -> u64
-    requires { ⌜ ((re : List ℕ) × Held (now input) (lists (now nodes) re (now bytes) (now symbols) (now objects)) (now c)) ⌝ }
-    ensures { λ r. ⌜ ((room : Room) (limit : ℕ) (re : List ℕ) → Meets (now (input .entry)) room limit (read-user-defined (now (input .entry)) room) (lists (now (nodes .entry)) re (now (bytes .entry)) (now (symbols .entry)) (now (objects .entry))) (now (c .entry)) r (lists (now (nodes .exit)) re (now (bytes .exit)) (now (symbols .exit)) (now (objects .exit))) (now (c .exit))) ⌝ }
+    requires { ⌜ ((re : List ℕ) × Held (now input) (lent (now nodes) re (now bytes) (by-buckets (now symbols) (now buckets)) (now objects)) (now c)) ⌝ }
+    ensures { λ r. ⌜ ((room : Room) (limit : ℕ) (re : List ℕ) → Meets (now (input .entry)) room limit (read-user-defined (now (input .entry)) room) (lent (now (nodes .entry)) re (now (bytes .entry)) (by-buckets (now (symbols .entry)) (now (buckets .entry))) (now (objects .entry))) (now (c .entry)) r (lent (now (nodes .exit)) re (now (bytes .exit)) (by-buckets (now (symbols .exit)) (now (buckets .exit))) (now (objects .exit))) (now (c .exit))) ⌝ }
     ensures { λ r. ⌜ (r < 4294967296 → r < nodes-of (now (c .exit))) ⌝ }
 {
-    let name = read_symbol_like(&input[..], nodes, bytes, symbols, c);
+    let name = read_symbol_like(&input[..], nodes, bytes, symbols, buckets, c);
     if REFUSED <= name {
         return name;
     }
@@ -782,11 +931,12 @@ pub fn read_leaf(
     bytes: &mut [u8],
     symbols: &mut [u32],
     objects: &mut [u32],
-    c: &mut [usize; 8],
+    buckets: &mut [u32],
+    c: &mut [usize; 10],
     k: u8,
 ) -> u64
-    requires { ⌜ ((re : List ℕ) × Held (now input) (lists (now nodes) re (now bytes) (now symbols) (now objects)) (now c)) ⌝ }
-    ensures { λ r. ⌜ ((room : Room) (limit : ℕ) (inner : Reader ℕ) (re : List ℕ) → Leaf k → Meets (now (input .entry)) room limit (value-of (now (input .entry)) room inner k (head k)) (lists (now (nodes .entry)) re (now (bytes .entry)) (now (symbols .entry)) (now (objects .entry))) (now (c .entry)) r (lists (now (nodes .exit)) re (now (bytes .exit)) (now (symbols .exit)) (now (objects .exit))) (now (c .exit))) ⌝ }
+    requires { ⌜ ((re : List ℕ) × Held (now input) (lent (now nodes) re (now bytes) (by-buckets (now symbols) (now buckets)) (now objects)) (now c)) ⌝ }
+    ensures { λ r. ⌜ ((room : Room) (limit : ℕ) (inner : Reader ℕ) (re : List ℕ) → Leaf k → Meets (now (input .entry)) room limit (value-of (now (input .entry)) room inner k (head k)) (lent (now (nodes .entry)) re (now (bytes .entry)) (by-buckets (now (symbols .entry)) (now (buckets .entry))) (now (objects .entry))) (now (c .entry)) r (lent (now (nodes .exit)) re (now (bytes .exit)) (by-buckets (now (symbols .exit)) (now (buckets .exit))) (now (objects .exit))) (now (c .exit))) ⌝ }
     ensures { λ r. ⌜ (r < 4294967296 → r < nodes-of (now (c .exit))) ⌝ }
 {
     match k {
@@ -795,13 +945,13 @@ pub fn read_leaf(
         ValueKind::STRING | ValueKind::FLOAT => {
             read_text(&input[..], nodes, bytes, objects, c, text_kind(k), 0)
         }
-        ValueKind::SYMBOL => read_symbol(&input[..], nodes, bytes, symbols, c),
+        ValueKind::SYMBOL => read_symbol(&input[..], nodes, bytes, symbols, buckets, c),
         ValueKind::NIL => add_node(nodes, c, Node::NIL, 0, 0, 0, 0),
         ValueKind::TRUE => add_node(nodes, c, Node::BOOL, 1, 0, 0, 0),
         ValueKind::FALSE => add_node(nodes, c, Node::BOOL, 0, 0, 0, 0),
         ValueKind::OBJECT_LINK => read_object_link(&input[..], objects, c),
         ValueKind::USER_DEFINED => {
-            read_user_defined(&input[..], nodes, bytes, symbols, objects, c)
+            read_user_defined(&input[..], nodes, bytes, symbols, objects, buckets, c)
         }
         ValueKind::BIGNUM => read_bignum(&input[..], nodes, objects, c),
         _ => INVALID_KIND + k as u64,
@@ -872,7 +1022,7 @@ fn small_next(input: &[u8], at: usize, levels: u32) -> bool
 }
 
 // The offset is what the run has come to: `to`.
-fn end_run(c: &mut [usize; 8], at: usize, to: usize) -> usize
+fn end_run(c: &mut [usize; 10], at: usize, to: usize) -> usize
     ensures { λ r. ⌜ (r ≡ to) × (now (c .exit) ≡ set (now (c .entry)) 0 at) ⌝ }
 {
     c[AT] = at;
@@ -887,16 +1037,16 @@ pub fn read_run(
     nodes: &mut [u32],
     references: &mut [u32],
     symbols: &[u32],
-    c: &mut [usize; 8],
+    c: &mut [usize; 10],
     start: usize,
     end: usize,
     names: usize,
     levels: u32,
 ) -> usize
-    requires { ⌜ (start ≤ end) × (end ≤ references-of (now c)) × ((by : List ℕ) × (ob : List ℕ) × Held (now input) (lists (now nodes) (now references) by (now symbols) ob) (now c)) ⌝ }
+    requires { ⌜ (start ≤ end) × (end ≤ references-of (now c)) × ((by : List ℕ) × (ob : List ℕ) × (bu : List ℕ) × Held (now input) (lent (now nodes) (now references) by (by-buckets (now symbols) bu) ob) (now c)) ⌝ }
     ensures { λ r. ⌜ (start ≤ r) × (r ≤ end) ⌝ }
-    ensures { λ r. ⌜ ((room : Room) (limit : ℕ) (by ob : List ℕ) → Goes (now (input .entry)) room (slots (read-symbol-like (now (input .entry)) room) (read-value (now (input .entry)) room limit levels) names (end - start) start) (lists (now (nodes .entry)) (now (references .entry)) by (now (symbols .entry)) ob) (now (c .entry)) (slots (read-symbol-like (now (input .entry)) room) (read-value (now (input .entry)) room limit levels) names (end - r) r) (lists (now (nodes .exit)) (now (references .exit)) by (now (symbols .entry)) ob) (now (c .exit))) ⌝ }
-    ensures { λ r. ⌜ ((levels ≡ 0 → ⊥) → r < end → Coming (now (input .entry)) (now (nodes .exit)) (now (c .exit)) names r → ⊥) ⌝ }
+    ensures { λ r. ⌜ ((room : Room) (limit : ℕ) (by ob bu : List ℕ) → Goes (now (input .entry)) room (slots (read-symbol-like (now (input .entry)) room) (read-value (now (input .entry)) room limit levels) names (end - start) start) (lent (now (nodes .entry)) (now (references .entry)) by (by-buckets (now (symbols .entry)) bu) ob) (now (c .entry)) (slots (read-symbol-like (now (input .entry)) room) (read-value (now (input .entry)) room limit levels) names (end - r) r) (lent (now (nodes .exit)) (now (references .exit)) by (by-buckets (now (symbols .entry)) bu) ob) (now (c .exit))) ⌝ }
+    ensures { λ r. ⌜ ((levels ≡ 0 → ⊥) → r < end → Coming (now (input .entry)) (now (c .exit)) names r → ⊥) ⌝ }
 {
     if !small_next(&input[..], c[AT], levels) {
         return start;
@@ -920,7 +1070,7 @@ pub fn read_run(
             continue;
         }
         let node = c[NODES];
-        if !takes_integer(k, to, names, node, nodes.len() / Node::WIDTH) {
+        if !takes_integer(k, to, names, node, c[ROOM]) {
             return end_run(c, at, to);
         }
         let n = put_integer(&input[..], nodes, at + 1, node);
@@ -938,18 +1088,18 @@ pub fn read_run(
 // ---- values with members
 
 // A nil node for what has members, put on the object list: its number.
-pub fn open_node(nodes: &mut [u32], objects: &mut [u32], c: &mut [usize; 8]) -> u64
-    requires { ⌜ (length (now nodes) ≤ 2147483647) × (length (now c) ≡ 8) ⌝ }
-    ensures { λ r. ⌜ ((input : List ℕ) (room : Room) (limit : ℕ) (re by sy : List ℕ) → Meets input room limit (add-object-node room nil) (lists (now (nodes .entry)) re by sy (now (objects .entry))) (now (c .entry)) r (lists (now (nodes .exit)) re by sy (now (objects .exit))) (now (c .exit))) ⌝ }
+pub fn open_node(nodes: &mut [u32], objects: &mut [u32], c: &mut [usize; 10]) -> u64
+    requires { ⌜ (length (now nodes) ≤ 2147483647) × (space-of (now c) * width ≤ length (now nodes)) × (length (now c) ≡ 10) ⌝ }
+    ensures { λ r. ⌜ ((input : List ℕ) (room : Room) (limit : ℕ) (re by : List ℕ) (sy : Symbols) → Meets input room limit (add-object-node room nil) (lent (now (nodes .entry)) re by sy (now (objects .entry))) (now (c .entry)) r (lent (now (nodes .exit)) re by sy (now (objects .exit))) (now (c .exit))) ⌝ }
     ensures { λ r. ⌜ (r < 4294967296 → (r < nodes-of (now (c .exit))) × Free (now (nodes .exit)) r) ⌝ }
 {
     add_object_node(nodes, objects, c, Node::NIL, 0, 0, 0, 0)
 }
 
 // A count, and so many times `each` reference words more, which are zero: the count.
-pub fn read_words(input: &[u8], references: &mut [u32], c: &mut [usize; 8], each: usize) -> u64
-    requires { ⌜ (each ≤ 2) × ((no : List ℕ) × (by : List ℕ) × (sy : List ℕ) × (ob : List ℕ) × Held (now input) (lists no (now references) by sy ob) (now c)) ⌝ }
-    ensures { λ r. ⌜ ((room : Room) (limit : ℕ) (no by sy ob : List ℕ) (k : ℕ → ℕ → Reader ℕ) → Leads (now (input .entry)) room limit (counted (now (input .entry)) room each k) (k (references-of (now (c .exit)) - r * each) r) (lists no (now (references .entry)) by sy ob) (now (c .entry)) r (lists no (now (references .exit)) by sy ob) (now (c .exit))) ⌝ }
+pub fn read_words(input: &[u8], references: &mut [u32], c: &mut [usize; 10], each: usize) -> u64
+    requires { ⌜ (each ≤ 2) × ((no : List ℕ) × (by : List ℕ) × (sy : Symbols) × (ob : List ℕ) × Held (now input) (lent no (now references) by sy ob) (now c)) ⌝ }
+    ensures { λ r. ⌜ ((room : Room) (limit : ℕ) (no by : List ℕ) (sy : Symbols) (ob : List ℕ) (k : ℕ → ℕ → Reader ℕ) → Leads (now (input .entry)) room limit (counted (now (input .entry)) room each k) (k (references-of (now (c .exit)) - r * each) r) (lent no (now (references .entry)) by sy ob) (now (c .entry)) r (lent no (now (references .exit)) by sy ob) (now (c .exit))) ⌝ }
     ensures { λ r. ⌜ (r < 4294967296 → (r < 2147483648) × (r * each ≤ references-of (now (c .exit)))) ⌝ }
 {
     let n = read_count(&input[..], c);
@@ -977,7 +1127,7 @@ pub fn fill_node(
     last: u32,
 ) -> u64
     requires { ⌜ (h * width + width ≤ length (now nodes)) × (h < 4294967296) ⌝ }
-    ensures { λ r. ⌜ ((input : List ℕ) (room : Room) (limit : ℕ) (row : Row) (re by sy ob c : List ℕ) → words row ≡ kind ∷ 0 ∷ 0 ∷ list ∷ n ∷ name ∷ last ∷ [] → Plain row → h < nodes-of c → Free (now (nodes .entry)) h → Meets input room limit (fill h row) (lists (now (nodes .entry)) re by sy ob) c r (lists (now (nodes .exit)) re by sy ob) c) ⌝ }
+    ensures { λ r. ⌜ ((input : List ℕ) (room : Room) (limit : ℕ) (row : Row) (re by : List ℕ) (sy : Symbols) (ob c : List ℕ) → words row ≡ kind ∷ 0 ∷ 0 ∷ list ∷ n ∷ name ∷ last ∷ [] → Plain row → h < nodes-of c → Free (now (nodes .entry)) h → Meets input room limit (fill h row) (lent (now (nodes .entry)) re by sy ob) c r (lent (now (nodes .exit)) re by sy ob) c) ⌝ }
     ensures { λ r. ⌜ r ≡ h ⌝ }
 {
     put_node(
@@ -1009,9 +1159,9 @@ fn takes_next(input: &[u8], at: usize) -> bool
 }
 
 // After `I`: that something else comes directly is noted.
-pub fn note_inner(input: &[u8], c: &mut [usize; 8])
+pub fn note_inner(input: &[u8], c: &mut [usize; 10])
     requires { ⌜ Somewhere (now input) (now c) ⌝ }
-    ensures { λ _. ⌜ ((room : Room) (T : Lists) (inner : Reader ℕ) → Goes (now (input .entry)) room (after-i (now (input .entry)) inner) T (now (c .entry)) inner T (now (c .exit))) ⌝ }
+    ensures { λ _. ⌜ ((room : Room) (T : Lent) (inner : Reader ℕ) → Goes (now (input .entry)) room (after-i (now (input .entry)) inner) T (now (c .entry)) inner T (now (c .exit))) ⌝ }
 {
     if takes_next(&input[..], c[AT]) {
         return;
@@ -1022,7 +1172,7 @@ pub fn note_inner(input: &[u8], c: &mut [usize; 8])
 // The variable list of node h is this one, if it is a string or user-defined: h.
 pub fn set_variables(nodes: &mut [u32], h: u64, list: u32, n: u32) -> u64
     requires { ⌜ (h * width + width ≤ length (now nodes)) × (h < 4294967296) ⌝ }
-    ensures { λ r. ⌜ ((input : List ℕ) (room : Room) (limit : ℕ) (re by sy ob c : List ℕ) → h < nodes-of c → Meets input room limit (settle h list n) (lists (now (nodes .entry)) re by sy ob) c r (lists (now (nodes .exit)) re by sy ob) c) ⌝ }
+    ensures { λ r. ⌜ ((input : List ℕ) (room : Room) (limit : ℕ) (re by : List ℕ) (sy : Symbols) (ob c : List ℕ) → h < nodes-of c → Meets input room limit (settle h list n) (lent (now (nodes .entry)) re by sy ob) c r (lent (now (nodes .exit)) re by sy ob) c) ⌝ }
     ensures { λ r. ⌜ (r < 4294967296 → r ≡ h) ⌝ }
 {
     let base = h as usize * Node::WIDTH;
@@ -1042,7 +1192,17 @@ pub fn set_variables(nodes: &mut [u32], h: u64, list: u32, n: u32) -> u64
 
 // ---- the call
 
-// The lowest wrong slice's number by the lengths lent, or 0.
+// Has the bucket table too few words for a node table of so many words, or too many?
+pub fn wrong_buckets(nodes: usize, buckets: usize) -> bool
+    ensures { λ r. ⌜ r ≡ bad-buckets (nodes / width) buckets ⌝ }
+{
+    if buckets < nodes / Node::WIDTH {
+        return true;
+    }
+    too_long(buckets)
+}
+
+// The lowest wrong slice's number by the lengths lent, or 0; whether the bucket table is wrong is given.
 pub fn wrong_slice(
     nodes: usize,
     references: usize,
@@ -1051,9 +1211,10 @@ pub fn wrong_slice(
     objects: usize,
     limit: u32,
     input: usize,
+    buckets: bool,
 ) -> u32
-    ensures { λ r. ⌜ r ≡ wrong nodes references bytes symbols objects limit input ⌝ }
-    ensures { λ r. ⌜ (r ≡ 0 → Allowed nodes references bytes symbols objects input) ⌝ }
+    ensures { λ r. ⌜ r ≡ wrong nodes references bytes symbols objects limit input buckets ⌝ }
+    ensures { λ r. ⌜ (r ≡ 0 → Allowed nodes references bytes symbols objects input buckets) ⌝ }
 {
     wrong_table(
         nodes,
@@ -1065,7 +1226,11 @@ pub fn wrong_slice(
             first_wrong(
                 5,
                 too_long(objects),
-                first_wrong(7, 128 < limit, first_wrong(8, too_long(input), 0)),
+                first_wrong(
+                    7,
+                    128 < limit,
+                    first_wrong(8, too_long(input), first_wrong(11, buckets, 0)),
+                ),
             ),
         ),
     )

@@ -12,7 +12,7 @@ use borrow.Author.Tests.{le-leb, lt-leb}
 use Rattle.definition.specs.Run.{pick}
 use Rattle.definition.specs.Refused.{answer-numbers}
 use Rattle.definition.specs.Arena.{Tables}
-use Rattle.definition.specs.Load.{Lists, LoadCall, MeasuredCall}
+use Rattle.definition.specs.Load.{Lists, LoadCall, MeasuredCall, HashedCall}
 use Rattle.definition.specs.Dump.{DumpCall, dump-call-of}
 use Rattle.definition.specs.Build.{BuildCall, NewCall}
 use Rattle.definition.specs.declared.Answer.{Answer}
@@ -21,6 +21,7 @@ use Rattle.definition.specs.declared.Costed.{Costed}
 use Rattle.definition.specs.declared.Counts.{Counts}
 use Rattle.definition.specs.declared.Created.{Created}
 use Rattle.definition.specs.declared.Dumped.{Dumped}
+use Rattle.definition.specs.declared.Hashed.{Hashed}
 use Rattle.definition.specs.declared.Loaded.{Loaded}
 use Rattle.definition.specs.declared.Measured.{Measured}
 use Rattle.definition.specs.declared.Name.{Name}
@@ -30,7 +31,7 @@ use Rattle.definition.specs.declared.Weighed.{Weighed}
 use Rattle.definition.specs.declared.Words.{Words}
 use Rattle.refusal.specs.Shown.{integer, shown}
 use Rattle.refusal.specs.declared.Numbers.{Numbers}
-use Rattle.marshal_c.specs.Reply.{word, details, count-words, loaded-words, measured-words, dumped-words, begun-words, number-words, node-words, name-words, created-words, reading-kind, reading-whole, reading-double, reading-words, weighed-words, weighing-doubles, costed-words, reply, tell, tell-doubles, tell-load, tell-measured, tell-dump, tell-new, tell-build, tell-number, tell-words, tell-name, tell-reading, tell-weighed, tell-costed}
+use Rattle.marshal_c.specs.Reply.{word, details, count-words, loaded-words, measured-words, hashed-words, dumped-words, begun-words, number-words, node-words, name-words, created-words, reading-kind, reading-whole, reading-double, reading-words, weighed-words, weighing-doubles, costed-words, reply, tell, tell-doubles, tell-load, tell-measured, tell-hashed, tell-dump, tell-new, tell-build, tell-number, tell-words, tell-name, tell-reading, tell-weighed, tell-costed}
 
 -- ---- details
 
@@ -98,6 +99,15 @@ module _ (T : Lists) (words : List ℕ) where
   pub measured-told : {r : Measured} {T′ : Lists} {k : MeasuredCall} {n : ℕ} {w : List ℕ} → 10 ≤ length words → (n ≡ answer-numbers (r .load .answer) .0) × (w ≡ sets words 0 (measured-words r)) → record { answer = r; lent = T′ } ≡ k → reply n w T′ ≡ tell-measured k T words
   unfolding tell-measured measured-words loaded-words details count-words
   measured-told {r = r} {T′ = T′} h e g = enough (r .load .answer) (measured-words r) words T T′ h e ∙ ap (λ (k : MeasuredCall). tell-measured k T words) g
+
+module _ (T : Lists) (buckets words : List ℕ) where
+  pub hashed-few : (k : HashedCall) → length words < 9 → reply 1 words (T, buckets) ≡ tell-hashed k T buckets words
+  unfolding tell-hashed hashed-words loaded-words details count-words
+  hashed-few k h = too-few (k .answer .load .answer) (hashed-words (k .answer)) words (T, buckets) (k .lent, k .buckets) h
+
+  pub hashed-told : {r : Hashed} {T′ : Lists} {buckets′ : List ℕ} {k : HashedCall} {n : ℕ} {w : List ℕ} → 9 ≤ length words → (n ≡ answer-numbers (r .load .answer) .0) × (w ≡ sets words 0 (hashed-words r)) → record { answer = r; lent = T′; buckets = buckets′ } ≡ k → reply n w (T′, buckets′) ≡ tell-hashed k T buckets words
+  unfolding tell-hashed hashed-words loaded-words details count-words
+  hashed-told {r = r} {T′ = T′} {buckets′ = b} h e g = enough (r .load .answer) (hashed-words r) words (T, buckets) (T′, b) h e ∙ ap (λ (k : HashedCall). tell-hashed k T buckets words) g
 
 module _ (T : Tables) (words : List ℕ) where
   pub new-few : (k : NewCall) → length words < 6 → reply 1 words T ≡ tell-new k T words

@@ -10,7 +10,7 @@ use lib.Seq.{sets}
 use Rattle.definition.specs.Run.{pick}
 use Rattle.definition.specs.Refused.{answer-numbers}
 use Rattle.definition.specs.Arena.{Tables}
-use Rattle.definition.specs.Load.{Lists, LoadCall, MeasuredCall}
+use Rattle.definition.specs.Load.{Lists, LoadCall, MeasuredCall, HashedCall}
 use Rattle.definition.specs.Dump.{DumpCall}
 use Rattle.definition.specs.Build.{BuildCall, NewCall}
 use Rattle.definition.specs.Weight.{positive-zero}
@@ -20,6 +20,7 @@ use Rattle.definition.specs.declared.Costed.{Costed}
 use Rattle.definition.specs.declared.Counts.{Counts}
 use Rattle.definition.specs.declared.Created.{Created}
 use Rattle.definition.specs.declared.Dumped.{Dumped}
+use Rattle.definition.specs.declared.Hashed.{Hashed}
 use Rattle.definition.specs.declared.Loaded.{Loaded}
 use Rattle.definition.specs.declared.Measured.{Measured}
 use Rattle.definition.specs.declared.Name.{Name}
@@ -58,6 +59,10 @@ loaded-words r = details (r .answer) ++ count-words (r .counts) ++ (r .used ∷ 
 -- load_measured: load's words, then the bytes copied and the bytes compared
 unfoldable pub measured-words : Measured → List ℕ
 measured-words r = loaded-words (r .load) ++ (r .copied ∷ r .compared ∷ [])
+
+-- load_hashed: load's words, then the words of the bucket table looked at
+unfoldable pub hashed-words : Hashed → List ℕ
+hashed-words r = loaded-words (r .load) ++ (r .looked ∷ [])
 
 -- dump: the bytes written
 unfoldable pub dumped-words : Dumped → List ℕ
@@ -146,6 +151,10 @@ tell-load k T words = tell (k .answer .answer) (loaded-words (k .answer)) words 
 -- load_measured's
 unfoldable pub tell-measured : MeasuredCall → Lists → List ℕ → Reply Lists
 tell-measured k T words = tell (k .answer .load .answer) (measured-words (k .answer)) words T (k .lent)
+
+-- load_hashed's; lent is the bucket table too
+unfoldable pub tell-hashed : HashedCall → Lists → List ℕ → List ℕ → Reply (Lists × List ℕ)
+tell-hashed k T buckets words = tell (k .answer .load .answer) (hashed-words (k .answer)) words (T, buckets) (k .lent, k .buckets)
 
 -- dump's; lent are scratch and output
 unfoldable pub tell-dump : DumpCall → List ℕ → List ℕ → List ℕ → Reply (List ℕ × List ℕ)

@@ -10,6 +10,7 @@ use definition::Costed;
 use definition::Counts;
 use definition::Created;
 use definition::Dumped;
+use definition::Hashed;
 use definition::Loaded;
 use definition::Measured;
 use definition::Name;
@@ -20,6 +21,7 @@ use definition::Weighed;
 use definition::Words;
 use dump::dump;
 use load::load;
+use load::load_hashed;
 use load::load_measured;
 use refusal::answer_numbers;
 use value_arena::create_array;
@@ -47,13 +49,13 @@ ghost use Prim.Native.Nat.{_≤_};
 ghost use lib.ListN.{length};
 ghost use lib.Seq.{sets};
 ghost use Rattle.definition.specs.Refused.{answer-numbers};
-ghost use Rattle.definition.specs.Load.{lists, counts, load-call, measured-call};
+ghost use Rattle.definition.specs.Load.{lists, counts, load-call, measured-call, hashed-call};
 ghost use Rattle.definition.specs.Dump.{dump-call};
 ghost use Rattle.definition.specs.Build.{lent, build-call, new-call, number-done, words-done, name-done, get-words, get-kind, get-name, get-root, exchange-root, create-nil, create-bool, create-fixnum, create-new-symbol, create-symbol, create-array, create-hash, create-object, create-string, create-user-defined, create-float, create-bignum};
 ghost use Rattle.definition.specs.Weight.{get-reading, wet-weight, read-done, weighed-done};
 ghost use Rattle.definition.specs.Cost.{batch-cost, cost-done};
 ghost use Rattle.refusal.specs.Shown.{integer};
-ghost use Rattle.marshal_c.specs.Reply.{word, details, flag, count-words, loaded-words, measured-words, dumped-words, begun-words, number-words, node-words, name-words, created-words, reading-kind, reading-whole, reading-double, reading-words, weighed-words, weighing-doubles, costed-words, tables, reply, tell-load, tell-measured, tell-dump, tell-new, tell-build, tell-number, tell-words, tell-name, tell-reading, tell-weighed, tell-costed};
+ghost use Rattle.marshal_c.specs.Reply.{word, details, flag, count-words, loaded-words, measured-words, hashed-words, dumped-words, begun-words, number-words, node-words, name-words, created-words, reading-kind, reading-whole, reading-double, reading-words, weighed-words, weighing-doubles, costed-words, tables, reply, tell-load, tell-measured, tell-hashed, tell-dump, tell-new, tell-build, tell-number, tell-words, tell-name, tell-reading, tell-weighed, tell-costed};
 
 // Too few answer words or doubles: BAD-TABLES.
 const BAD_TABLES: u32 = 1;
@@ -62,6 +64,8 @@ const BAD_TABLES: u32 = 1;
 const LOADED: usize = 8;
 
 const MEASURED: usize = 10;
+
+const HASHED: usize = 9;
 
 const DUMPED: usize = 3;
 
@@ -207,6 +211,16 @@ fn tell_measured(answer: &mut [u64], r: Measured) -> u32
     let n = tell_loaded(answer, l);
     answer[8] = r.copied;
     answer[9] = r.compared;
+    n
+}
+
+fn tell_hashed(answer: &mut [u64], r: Hashed) -> u32
+    requires { ⌜ 9 ≤ length (now answer) ⌝ }
+    ensures { λ n. ⌜ (n ≡ answer-numbers (r .load .answer) .0) × (now (answer .exit) ≡ sets (now (answer .entry)) 0 (hashed-words r)) ⌝ }
+{
+    let l = r.load;
+    let n = tell_loaded(answer, l);
+    answer[8] = r.looked;
     n
 }
 
@@ -368,6 +382,36 @@ pub extern "C" fn ruby_marshal_load_measured(
         limit,
     );
     tell_measured(answer, r)
+}
+
+#[no_mangle]
+pub extern "C" fn ruby_marshal_load_hashed(
+    input: &[u8],
+    nodes: &mut [u32],
+    references: &mut [u32],
+    bytes: &mut [u8],
+    symbols: &mut [u32],
+    objects: &mut [u32],
+    buckets: &mut [u32],
+    limit: u32,
+    answer: &mut [u64],
+) -> u32
+    ensures { λ r. ⌜ reply r (now (answer .exit)) (lists (now (nodes .exit)) (now (references .exit)) (now (bytes .exit)) (now (symbols .exit)) (now (objects .exit)), now (buckets .exit)) ≡ tell-hashed (hashed-call (now (input .entry)) (lists (now (nodes .entry)) (now (references .entry)) (now (bytes .entry)) (now (symbols .entry)) (now (objects .entry))) (now (buckets .entry)) limit) (lists (now (nodes .entry)) (now (references .entry)) (now (bytes .entry)) (now (symbols .entry)) (now (objects .entry))) (now (buckets .entry)) (now (answer .entry)) ⌝ }
+{
+    if answer.len() < HASHED {
+        return BAD_TABLES;
+    }
+    let r = load_hashed(
+        &input[..],
+        nodes,
+        references,
+        bytes,
+        symbols,
+        objects,
+        buckets,
+        limit,
+    );
+    tell_hashed(answer, r)
 }
 
 #[no_mangle]

@@ -13,8 +13,8 @@ use mir.Val.{Fits}
 use Rattle.definition.specs.Run.{pure, pick, look, next, _>>=_}
 use Rattle.definition.specs.Kind.{HASH, HASH-DEFAULT, STRING}
 use Rattle.definition.specs.Node.{array, hash, object}
-use Rattle.definition.specs.Load.{Room, Reader, Lists, lists, Hash, HashDefault, note, head, value-of, read-hash, read-variables, read-instance-variables, read-elements, read-pairs, read-default, read-value, read-symbol-like, put-reference, fill, counted}
-use Rattle.loader.specs.Holds.{Held, Goes, Leads, Meets, Free, Leaf, slot, slots, more-of, members, settle, after-i, nodes-of, references-of}
+use Rattle.definition.specs.Load.{Room, Reader, Hash, HashDefault, note, head, value-of, read-hash, read-variables, read-instance-variables, read-elements, read-pairs, read-default, read-value, read-symbol-like, put-reference, fill, counted}
+use Rattle.loader.specs.Holds.{Symbols, Lent, lent, Held, Goes, Leads, Meets, Free, Leaf, slot, slots, more-of, members, settle, after-i, nodes-of, references-of}
 use Rattle.loader.proofs.Laws.{then, still, held, held-goes, goes-to, goes-part, grew-there, still-below, lead-first, lead-after, lead-stop, lead-as, gives, bind-assoc}
 use Rattle.loader.proofs.Readers.{headed}
 use Rattle.loader.proofs.Run.{slot-put, slot-value}
@@ -51,15 +51,15 @@ module _ {A : Type 0} (name inner : Reader ℕ) (names more : ℕ) where
   abbrev pub rest : (ℕ → Reader A) → ℕ → ℕ → Reader A
   rest g n to = slots name inner names n to >>= λ _. more-of inner more >>= g
 
-  module _ {input : List ℕ} {room : Room} {limit : ℕ} {T T' : Lists} {c c' : List ℕ} {w : ℕ} (g : ℕ → Reader A) (start end n : ℕ) (e : end - start ≡ n) (k : Meets input room limit (members name inner names more (end - start) start) T c w T' c') where
+  module _ {input : List ℕ} {room : Room} {limit : ℕ} {T T' : Lent} {c c' : List ℕ} {w : ℕ} (g : ℕ → Reader A) (start end n : ℕ) (e : end - start ≡ n) (k : Meets input room limit (members name inner names more (end - start) start) T c w T' c') where
     through-members : Leads input room limit (rest g n start) (g w) T c w T' c'
     through-members = subst (λ (x : ℕ). Leads input room limit (rest g x start) (g w) T c w T' c') e (lead-as (λ i s. sym (bind-assoc (slots name inner names (end - start) start) (λ _. more-of inner more) g s) i) (lead-first g k))
 
     -- the members are read, and then the rest; one of them is refused
-    pub rest-goes : {m' : Reader A} {r : ℕ} {T'' : Lists} {c'' : List ℕ} → w < 4294967296 → Leads input room limit (g w) m' T' c' r T'' c'' → Leads input room limit (rest g n start) m' T c r T'' c''
+    pub rest-goes : {m' : Reader A} {r : ℕ} {T'' : Lent} {c'' : List ℕ} → w < 4294967296 → Leads input room limit (g w) m' T' c' r T'' c'' → Leads input room limit (rest g n start) m' T c r T'' c''
     rest-goes l m = lead-after (through-members .goes l) m
 
-    pub rest-stops : {m' : Reader A} {T'' : Lists} {c'' : List ℕ} → 4294967296 ≤ w → Leads input room limit (rest g n start) m' T c w T'' c''
+    pub rest-stops : {m' : Reader A} {T'' : Lent} {c'' : List ℕ} → 4294967296 ≤ w → Leads input room limit (rest g n start) m' T c w T'' c''
     rest-stops l = lead-stop l through-members
 
 -- what comes after the count, by the kind: the members, and then the node
@@ -98,17 +98,17 @@ module _ (name inner : Reader ℕ) (h : ℕ) where
     variables-rest names e = ap (λ (m : Reader (Unit {0})). m >>= λ _. settle h p n) (sym (slots-pairs name inner names n p e))
 
 -- the count and the words are read, then the members: one is refused, or the rest is left
-module _ {input : List ℕ} {room : Room} {limit : ℕ} {T T₁ T₂ : Lists} {c c₁ c₂ : List ℕ} {w : ℕ} (name inner : Reader ℕ) (k : ℕ → ℕ → Reader ℕ) (each names more n start end : ℕ) (g : ℕ → Reader ℕ) (f : k start n ≡ rest name inner names more g (n * each) start) (p : end - n * each ≡ start) (e : n * each ≤ end) (W : Leads input room limit (counted input room each k) (k (end - n * each) n) T c n T₁ c₁) (l : n < 4294967296) (M : Meets input room limit (members name inner names more (end - start) start) T₁ c₁ w T₂ c₂) where
+module _ {input : List ℕ} {room : Room} {limit : ℕ} {T T₁ T₂ : Lent} {c c₁ c₂ : List ℕ} {w : ℕ} (name inner : Reader ℕ) (k : ℕ → ℕ → Reader ℕ) (each names more n start end : ℕ) (g : ℕ → Reader ℕ) (f : k start n ≡ rest name inner names more g (n * each) start) (p : end - n * each ≡ start) (e : n * each ≤ end) (W : Leads input room limit (counted input room each k) (k (end - n * each) n) T c n T₁ c₁) (l : n < 4294967296) (M : Meets input room limit (members name inner names more (end - start) start) T₁ c₁ w T₂ c₂) where
   come-in : Goes input room (counted input room each k) T c (rest name inner names more g (n * each) start) T₁ c₁
   come-in = goes-to (ap (λ (x : ℕ). k x n) p ∙ f) (W .goes l)
 
   sized : end - start ≡ n * each
   sized = omega arith
 
-  pub contained-stops : {m' : Reader ℕ} {T' : Lists} {c' : List ℕ} → 4294967296 ≤ w → Leads input room limit (counted input room each k) m' T c w T' c'
+  pub contained-stops : {m' : Reader ℕ} {T' : Lent} {c' : List ℕ} → 4294967296 ≤ w → Leads input room limit (counted input room each k) m' T c w T' c'
   contained-stops h = lead-after come-in (rest-stops name inner names more g start end (n * each) sized M h)
 
-  pub contained : {m' : Reader ℕ} {T' : Lists} {c' : List ℕ} {r : ℕ} → w < 4294967296 → Leads input room limit (g w) m' T₂ c₂ r T' c' → Leads input room limit (counted input room each k) m' T c r T' c'
+  pub contained : {m' : Reader ℕ} {T' : Lent} {c' : List ℕ} {r : ℕ} → w < 4294967296 → Leads input room limit (g w) m' T₂ c₂ r T' c' → Leads input room limit (counted input room each k) m' T c r T' c'
   contained h m = lead-after come-in (rest-goes name inner names more g start end (n * each) sized M h m)
 
 -- what the reader of members asks of a list that ends at `end`, and of no value more
@@ -150,7 +150,7 @@ default-fits d zero n l f g h = record { fits = omega (arith, f refl) }
 default-fits d (suc zero) n l f g h = record { fits = omega (arith, g refl) }
 default-fits d (suc (suc more)) n l f g h = absurd (omega arith)
 
-pub nodes-few : {input : List ℕ} {T : Lists} {c : List ℕ} → Held input T c → nodes-of c ≤ 2147483647
+pub nodes-few : {input : List ℕ} {T : Lent} {c : List ℕ} → Held input T c → nodes-of c ≤ 2147483647
 nodes-few H = omega arith
 
 -- a hash by either kind byte
@@ -165,7 +165,7 @@ module _ {k more : ℕ} (h : (k ≡ HASH) ⊎ (k ≡ HASH-DEFAULT)) (f : (k ≡ 
   pub defaults-one : more ≤ 1
   defaults-one = by-hash (λ e z. omega (arith, z)) (λ e z. omega (arith, z))
 
-  pub hash-headed : {input : List ℕ} {room : Room} {limit : ℕ} {T T' : Lists} {c c' : List ℕ} {r : ℕ} {m' : Reader ℕ} (inner : Reader ℕ) → Leads input room limit (read-hash (eqb more 1) input room inner) m' T c r T' c' → Leads input room limit (value-of input room inner k (head k)) m' T c r T' c'
+  pub hash-headed : {input : List ℕ} {room : Room} {limit : ℕ} {T T' : Lent} {c c' : List ℕ} {r : ℕ} {m' : Reader ℕ} (inner : Reader ℕ) → Leads input room limit (read-hash (eqb more 1) input room inner) m' T c r T' c' → Leads input room limit (value-of input room inner k (head k)) m' T c r T' c'
   unfolding head pick value-of
   hash-headed {input} {room} inner m =
       by-hash
@@ -179,19 +179,19 @@ string-leaf = record { array = omega arith; hash = omega arith; default = omega 
 -- ---- a node whose members are read
 
 -- node h is there and, where it is new, no symbol: it is still to be filled
-pub record Open (input : List ℕ) (T : Lists) (c : List ℕ) (h : ℕ) (new : Type 0) : Type 0 where
+pub record Open (input : List ℕ) (T : Lent) (c : List ℕ) (h : ℕ) (new : Type 0) : Type 0 where
   pub held : Held input T c
   pub below : h < nodes-of c
   pub free : new → Free (T .nodes) h
 
 -- it stays open while more is read
-pub open-on : {A : Type 0} {input : List ℕ} {T T' : Lists} {c c' : List ℕ} {h : ℕ} {new : Type 0} {m m' : Room → Reader A} → Open input T c h new → ((room : Room) → Goes input room (m room) T c (m' room) T' c') → Open input T' c' h new
+pub open-on : {A : Type 0} {input : List ℕ} {T T' : Lent} {c c' : List ℕ} {h : ℕ} {new : Type 0} {m m' : Room → Reader A} → Open input T c h new → ((room : Room) → Goes input room (m room) T c (m' room) T' c') → Open input T' c' h new
 open-on {m = m} {m'} O g =
     let w = grew-there {m = m} {m' = m'} (O .held) g in
     record { held = held-goes {m = m} {m' = m'} (O .held) g; below = still-below (O .below) w; free = λ n. w .free _ (O .below) (O .free n) }
 
 -- a node is opened; a value is read, which gets variables
-module _ {input : List ℕ} {T T' : Lists} {c c' : List ℕ} {h : ℕ} {m m' : Room → Reader ℕ} (H : Held input T c) (g : (room : Room) → Goes input room (m room) T c (m' room) T' c') where
+module _ {input : List ℕ} {T T' : Lent} {c c' : List ℕ} {h : ℕ} {m m' : Room → Reader ℕ} (H : Held input T c) (g : (room : Room) → Goes input room (m room) T c (m' room) T' c') where
   pub opened : (h < nodes-of c') × Free (T' .nodes) h → Open input T' c' h (Unit {0})
   opened b = record { held = held-goes {m = m} {m' = m'} H g; below = b .0; free = λ _. b .1 }
 
@@ -201,31 +201,32 @@ module _ {input : List ℕ} {T T' : Lists} {c c' : List ℕ} {h : ℕ} {m m' : R
 -- ---- the loop
 
 -- what the loop over the members keeps: it has come to word `to`
-pub record Turning (input no₀ re₀ by₀ sy₀ ob₀ c₀ : List ℕ) (start end names levels : ℕ) (no re by sy ob c : List ℕ) (to : ℕ) : Type 0 where
+pub record Turning (input no₀ re₀ by₀ : List ℕ) (sy₀ : Symbols) (ob₀ c₀ : List ℕ) (start end names levels : ℕ) (no re by : List ℕ) (sy : Symbols) (ob c : List ℕ) (to : ℕ) : Type 0 where
   pub within : to ≤ end
   pub inside : end ≤ references-of c
   pub nodes : length no ≡ length no₀
   pub references : length re ≡ length re₀
   pub bytes : length by ≡ length by₀
-  pub symbols : length sy ≡ length sy₀
+  pub symbols : length (sy .list) ≡ length (sy₀ .list)
+  pub buckets : length (sy .buckets) ≡ length (sy₀ .buckets)
   pub objects : length ob ≡ length ob₀
-  pub held : Held input (lists no re by sy ob) c
-  pub goes : (room : Room) (limit : ℕ) → Goes input room (slots (read-symbol-like input room) (read-value input room limit levels) names (end - start) start) (lists no₀ re₀ by₀ sy₀ ob₀) c₀ (slots (read-symbol-like input room) (read-value input room limit levels) names (end - to) to) (lists no re by sy ob) c
+  pub held : Held input (lent no re by sy ob) c
+  pub goes : (room : Room) (limit : ℕ) → Goes input room (slots (read-symbol-like input room) (read-value input room limit levels) names (end - start) start) (lent no₀ re₀ by₀ sy₀ ob₀) c₀ (slots (read-symbol-like input room) (read-value input room limit levels) names (end - to) to) (lent no re by sy ob) c
 
-pub turning-start : {input no re by sy ob c : List ℕ} {start end names levels : ℕ} → start ≤ end → end ≤ references-of c → Held input (lists no re by sy ob) c → Turning input no re by sy ob c start end names levels no re by sy ob c start
-turning-start l h H = record { within = l; inside = h; nodes = refl; references = refl; bytes = refl; symbols = refl; objects = refl; held = H; goes = λ room limit. still (λ s G. refl) }
+pub turning-start : {input no re by : List ℕ} {sy : Symbols} {ob c : List ℕ} {start end names levels : ℕ} → start ≤ end → end ≤ references-of c → Held input (lent no re by sy ob) c → Turning input no re by sy ob c start end names levels no re by sy ob c start
+turning-start l h H = record { within = l; inside = h; nodes = refl; references = refl; bytes = refl; symbols = refl; buckets = refl; objects = refl; held = H; goes = λ room limit. still (λ s G. refl) }
 
 -- the same word by another name
-pub come-to : {input no₀ re₀ by₀ sy₀ ob₀ c₀ : List ℕ} {start end names levels : ℕ} {no re by sy ob c : List ℕ} {to to' : ℕ} → Turning input no₀ re₀ by₀ sy₀ ob₀ c₀ start end names levels no re by sy ob c to' → to' ≡ to → Turning input no₀ re₀ by₀ sy₀ ob₀ c₀ start end names levels no re by sy ob c to
+pub come-to : {input no₀ re₀ by₀ : List ℕ} {sy₀ : Symbols} {ob₀ c₀ : List ℕ} {start end names levels : ℕ} {no re by : List ℕ} {sy : Symbols} {ob c : List ℕ} {to to' : ℕ} → Turning input no₀ re₀ by₀ sy₀ ob₀ c₀ start end names levels no re by sy ob c to' → to' ≡ to → Turning input no₀ re₀ by₀ sy₀ ob₀ c₀ start end names levels no re by sy ob c to
 come-to {input} {no₀} {re₀} {by₀} {sy₀} {ob₀} {c₀} {start} {end} {names} {levels} {no} {re} {by} {sy} {ob} {c} R e = subst (λ x. Turning input no₀ re₀ by₀ sy₀ ob₀ c₀ start end names levels no re by sy ob c x) e R
 
 -- the words left, and what comes after them
 abbrev pub left : List ℕ → Room → ℕ → ℕ → ℕ → ℕ → ℕ → ℕ → Reader ℕ
 left input room limit levels names more end to = members (read-symbol-like input room) (read-value input room limit levels) names more (end - to) to
 
-module _ {input no₀ re₀ by₀ sy₀ ob₀ c₀ : List ℕ} {start end names levels : ℕ} {no re by sy ob c : List ℕ} {to : ℕ} (R : Turning input no₀ re₀ by₀ sy₀ ob₀ c₀ start end names levels no re by sy ob c to) where
+module _ {input no₀ re₀ by₀ : List ℕ} {sy₀ : Symbols} {ob₀ c₀ : List ℕ} {start end names levels : ℕ} {no re by : List ℕ} {sy : Symbols} {ob c : List ℕ} {to : ℕ} (R : Turning input no₀ re₀ by₀ sy₀ ob₀ c₀ start end names levels no re by sy ob c to) where
   -- it has come to another word
-  module _ {no' re' by' sy' ob' c' : List ℕ} (to' : ℕ) (l : to' ≤ end) (n : length no' ≡ length no) (r : length re' ≡ length re) (b : length by' ≡ length by) (s : length sy' ≡ length sy) (o : length ob' ≡ length ob) (g : (room : Room) (limit : ℕ) → Goes input room (slots (read-symbol-like input room) (read-value input room limit levels) names (end - to) to) (lists no re by sy ob) c (slots (read-symbol-like input room) (read-value input room limit levels) names (end - to') to') (lists no' re' by' sy' ob') c') where
+  module _ {no' re' by' : List ℕ} {sy' : Symbols} {ob' c' : List ℕ} (to' : ℕ) (l : to' ≤ end) (n : length no' ≡ length no) (r : length re' ≡ length re) (b : length by' ≡ length by) (s : length (sy' .list) ≡ length (sy .list)) (u : length (sy' .buckets) ≡ length (sy .buckets)) (o : length ob' ≡ length ob) (g : (room : Room) (limit : ℕ) → Goes input room (slots (read-symbol-like input room) (read-value input room limit levels) names (end - to) to) (lent no re by sy ob) c (slots (read-symbol-like input room) (read-value input room limit levels) names (end - to') to') (lent no' re' by' sy' ob') c') where
     pub turned : Turning input no₀ re₀ by₀ sy₀ ob₀ c₀ start end names levels no' re' by' sy' ob' c' to'
     turned = record {
       within = l;
@@ -234,17 +235,18 @@ module _ {input no₀ re₀ by₀ sy₀ ob₀ c₀ : List ℕ} {start end names 
       references = r ∙ R .references;
       bytes = b ∙ R .bytes;
       symbols = s ∙ R .symbols;
+      buckets = u ∙ R .buckets;
       objects = o ∙ R .objects;
       held = held-goes {m = λ room. slots _ _ names (end - to) to} {m' = λ room. slots _ _ names (end - to') to'} (R .held) (λ room. g room 0);
       goes = λ room limit. then (R .goes room limit) (g room limit);
     }
 
   -- all that is left to do
-  come : (more : ℕ) (room : Room) (limit : ℕ) → Goes input room (left input room limit levels names more end start) (lists no₀ re₀ by₀ sy₀ ob₀) c₀ (left input room limit levels names more end to) (lists no re by sy ob) c
+  come : (more : ℕ) (room : Room) (limit : ℕ) → Goes input room (left input room limit levels names more end start) (lent no₀ re₀ by₀ sy₀ ob₀) c₀ (left input room limit levels names more end to) (lent no re by sy ob) c
   come more room limit = goes-part (λ _. more-of (read-value input room limit levels) more) (R .goes room limit)
 
   -- nothing is left
-  pub all-turned : (more : ℕ) → end + more ≤ to → (room : Room) (limit : ℕ) → Meets input room limit (left input room limit levels names more end start) (lists no₀ re₀ by₀ sy₀ ob₀) c₀ 0 (lists no re by sy ob) c
+  pub all-turned : (more : ℕ) → end + more ≤ to → (room : Room) (limit : ℕ) → Meets input room limit (left input room limit levels names more end start) (lent no₀ re₀ by₀ sy₀ ob₀) c₀ 0 (lent no re by sy ob) c
   unfolding slots more-of pure _>>=_ next
   all-turned more l room limit =
       let e : end - to ≡ 0 = omega arith in
@@ -252,8 +254,8 @@ module _ {input no₀ re₀ by₀ sy₀ ob₀ c₀ : List ℕ} {start end names 
       lead-after (come more room limit) (lead-as (λ i. members (read-symbol-like input room) (read-value input room limit levels) names (z i) (e i) to) (gives 0 (omega arith)))
 
   -- a member is refused
-  module _ {m' : Reader ℕ} {T' T'' : Lists} {c' c'' : List ℕ} {r : ℕ} (more : ℕ) (h : 4294967296 ≤ r) (room : Room) (limit : ℕ) where
-    slot-stop : to < end → Leads input room limit (slot (read-symbol-like input room) (read-value input room limit levels) names to) m' (lists no re by sy ob) c r T' c' → Meets input room limit (left input room limit levels names more end start) (lists no₀ re₀ by₀ sy₀ ob₀) c₀ r T'' c''
+  module _ {m' : Reader ℕ} {T' T'' : Lent} {c' c'' : List ℕ} {r : ℕ} (more : ℕ) (h : 4294967296 ≤ r) (room : Room) (limit : ℕ) where
+    slot-stop : to < end → Leads input room limit (slot (read-symbol-like input room) (read-value input room limit levels) names to) m' (lent no re by sy ob) c r T' c' → Meets input room limit (left input room limit levels names more end start) (lent no₀ re₀ by₀ sy₀ ob₀) c₀ r T'' c''
     unfolding slots
     slot-stop l k =
         let e : end - to ≡ suc (end - (to + 1)) = omega arith in
@@ -263,7 +265,7 @@ module _ {input no₀ re₀ by₀ sy₀ ob₀ c₀ : List ℕ} {start end names 
         (lead-as (λ i. members name inner names more (e i) to)
         (lead-stop {T' = T'} {c' = c'} h (lead-first (λ _. more-of inner more) (lead-stop {m'' = pure tt} {T'' = T'} {c'' = c'} h (lead-first {a = 0} (λ v. put-reference to v >>= λ _. slots name inner names (end - (to + 1)) (suc to)) (lead-stop {m'' = pure 0} {T'' = T'} {c'' = c'} h k))))))
 
-    pub name-stop : to < end → to % 2 ≡ names → Leads input room limit (read-symbol-like input room) m' (lists no re by sy ob) c r T' c' → Meets input room limit (left input room limit levels names more end start) (lists no₀ re₀ by₀ sy₀ ob₀) c₀ r T'' c''
+    pub name-stop : to < end → to % 2 ≡ names → Leads input room limit (read-symbol-like input room) m' (lent no re by sy ob) c r T' c' → Meets input room limit (left input room limit levels names more end start) (lent no₀ re₀ by₀ sy₀ ob₀) c₀ r T'' c''
     unfolding pick
     name-stop l e k = slot-stop l (lead-as (rw (eq-eqb (to % 2) names e)) k)
 
@@ -275,30 +277,30 @@ module _ {input no₀ re₀ by₀ sy₀ ob₀ c₀ : List ℕ} {start end names 
       let z : more ≡ 1 = omega arith in
       λ i. members (read-symbol-like input room) (read-value input room limit levels) names (z i) (e i) to
 
-  module _ {T' T'' : Lists} {c' c'' : List ℕ} {r : ℕ} (more : ℕ) (k : to < end + more) (one : more ≤ 1) (room : Room) (limit : ℕ) where
-    pub value-stop : 4294967296 ≤ r → (to % 2 ≡ names → ⊥) → Meets input room limit (read-value input room limit levels) (lists no re by sy ob) c r T' c' → Meets input room limit (left input room limit levels names more end start) (lists no₀ re₀ by₀ sy₀ ob₀) c₀ r T'' c''
+  module _ {T' T'' : Lent} {c' c'' : List ℕ} {r : ℕ} (more : ℕ) (k : to < end + more) (one : more ≤ 1) (room : Room) (limit : ℕ) where
+    pub value-stop : 4294967296 ≤ r → (to % 2 ≡ names → ⊥) → Meets input room limit (read-value input room limit levels) (lent no re by sy ob) c r T' c' → Meets input room limit (left input room limit levels names more end start) (lent no₀ re₀ by₀ sy₀ ob₀) c₀ r T'' c''
     value-stop h n m = go (ltb to end) refl
       where
-        go : (t : Bool) → ltb to end ≡ t → Meets input room limit (left input room limit levels names more end start) (lists no₀ re₀ by₀ sy₀ ob₀) c₀ r T'' c''
+        go : (t : Bool) → ltb to end ≡ t → Meets input room limit (left input room limit levels names more end start) (lent no₀ re₀ by₀ sy₀ ob₀) c₀ r T'' c''
         go true e = slot-stop {T' = T'} {c' = c'} more h room limit (ltb-true to end e) (lead-as (slot-value _ _ names to n) m)
         go false e = lead-after (come more room limit) (lead-as (after-words more (ltb-false to end e) k one room limit) (lead-stop {T' = T'} {c' = c'} h m))
 
-  pub value-last : {T' : Lists} {c' : List ℕ} {r : ℕ} (more : ℕ) → to < end + more → more ≤ 1 → to ≡ end → (room : Room) (limit : ℕ) → Meets input room limit (read-value input room limit levels) (lists no re by sy ob) c r T' c' → Meets input room limit (left input room limit levels names more end start) (lists no₀ re₀ by₀ sy₀ ob₀) c₀ r T' c'
+  pub value-last : {T' : Lent} {c' : List ℕ} {r : ℕ} (more : ℕ) → to < end + more → more ≤ 1 → to ≡ end → (room : Room) (limit : ℕ) → Meets input room limit (read-value input room limit levels) (lent no re by sy ob) c r T' c' → Meets input room limit (left input room limit levels names more end start) (lent no₀ re₀ by₀ sy₀ ob₀) c₀ r T' c'
   value-last more k one e room limit m = lead-after (come more room limit) (lead-as (after-words more (omega arith) k one room limit) m)
 
   -- a name is read, or a value, and stored
-  module _ {no' re' by' sy' ob' c' : List ℕ} {v : ℕ} (l : to < end) (h : v < 4294967296) (n : length no' ≡ length no) (r : length re' ≡ length re) (b : length by' ≡ length by) (s : length sy' ≡ length sy) (o : length ob' ≡ length ob) where
-    stored : ((room : Room) (limit : ℕ) → Goes input room (slot (read-symbol-like input room) (read-value input room limit levels) names to) (lists no re by sy ob) c (pure v) (lists no' re' by' sy' ob') c') → Turning input no₀ re₀ by₀ sy₀ ob₀ c₀ start end names levels no' (set re' to v) by' sy' ob' c' (to + 1)
+  module _ {no' re' by' : List ℕ} {sy' : Symbols} {ob' c' : List ℕ} {v : ℕ} (l : to < end) (h : v < 4294967296) (n : length no' ≡ length no) (r : length re' ≡ length re) (b : length by' ≡ length by) (s : length (sy' .list) ≡ length (sy .list)) (u : length (sy' .buckets) ≡ length (sy .buckets)) (o : length ob' ≡ length ob) where
+    stored : ((room : Room) (limit : ℕ) → Goes input room (slot (read-symbol-like input room) (read-value input room limit levels) names to) (lent no re by sy ob) c (pure v) (lent no' re' by' sy' ob') c') → Turning input no₀ re₀ by₀ sy₀ ob₀ c₀ start end names levels no' (set re' to v) by' sy' ob' c' (to + 1)
     stored g =
         let grew = grew-there {m = λ room. slot _ _ names to} {m' = λ room. pure v} (R .held) (λ room. g room 0) in
-        turned (to + 1) (omega arith) n (lib.ListN.length-set re' to v ∙ r) b s o
+        turned (to + 1) (omega arith) n (lib.ListN.length-set re' to v ∙ r) b s u o
         (λ room limit. slot-put (read-symbol-like input room) (read-value input room limit levels) names v end to l (omega (arith, R .inside, grew .references)) (g room limit))
 
-    pub name-turned : to % 2 ≡ names → ((room : Room) (limit : ℕ) → Meets input room limit (read-symbol-like input room) (lists no re by sy ob) c v (lists no' re' by' sy' ob') c') → Turning input no₀ re₀ by₀ sy₀ ob₀ c₀ start end names levels no' (set re' to v) by' sy' ob' c' (to + 1)
+    pub name-turned : to % 2 ≡ names → ((room : Room) (limit : ℕ) → Meets input room limit (read-symbol-like input room) (lent no re by sy ob) c v (lent no' re' by' sy' ob') c') → Turning input no₀ re₀ by₀ sy₀ ob₀ c₀ start end names levels no' (set re' to v) by' sy' ob' c' (to + 1)
     unfolding pick
     name-turned e k = stored (λ room limit. rw (eq-eqb (to % 2) names e) (k room limit .goes h))
 
-    pub value-turned : (to % 2 ≡ names → ⊥) → ((room : Room) (limit : ℕ) → Meets input room limit (read-value input room limit levels) (lists no re by sy ob) c v (lists no' re' by' sy' ob') c') → Turning input no₀ re₀ by₀ sy₀ ob₀ c₀ start end names levels no' (set re' to v) by' sy' ob' c' (to + 1)
+    pub value-turned : (to % 2 ≡ names → ⊥) → ((room : Room) (limit : ℕ) → Meets input room limit (read-value input room limit levels) (lent no re by sy ob) c v (lent no' re' by' sy' ob') c') → Turning input no₀ re₀ by₀ sy₀ ob₀ c₀ start end names levels no' (set re' to v) by' sy' ob' c' (to + 1)
     unfolding pick
     value-turned e k = stored (λ room limit. rw (ne-eqb (to % 2) names e) (k room limit .goes h))
 

@@ -22,8 +22,8 @@ ghost use mathlib.Core.Path.{_≡_};
 ghost use Prim.Native.Nat.{ℕ, _-_, _<_, _≤_};
 ghost use lib.Dec.{eqb};
 ghost use Rattle.definition.specs.Kind.{HASH-DEFAULT};
-ghost use Rattle.definition.specs.Load.{Room, lists, read-array, read-hash, read-object, read-variables, read-value, read-symbol-like};
-ghost use Rattle.loader.specs.Holds.{Held, Meets, after-i, members, nodes-of, references-of};
+ghost use Rattle.definition.specs.Load.{Room, read-array, read-hash, read-object, read-variables, read-value, read-symbol-like};
+ghost use Rattle.loader.specs.Holds.{lent, by-buckets, Held, Meets, after-i, members, nodes-of, references-of};
 ghost use Rattle.value_reader.specs.Root.{whole};
 
 // The parity of names in a list without names.
@@ -40,15 +40,16 @@ fn read_members(
     bytes: &mut [u8],
     symbols: &mut [u32],
     objects: &mut [u32],
-    c: &mut [usize; 8],
+    buckets: &mut [u32],
+    c: &mut [usize; 10],
     start: usize,
     end: usize,
     more: usize,
     names: usize,
     levels: u32,
 ) -> u64
-    requires { ⌜ (start ≤ end) × (end ≤ references-of (now c)) × (more ≤ 1) × (more ≡ 1 → names ≡ 2) × Held (now input) (lists (now nodes) (now references) (now bytes) (now symbols) (now objects)) (now c) ⌝ }
-    ensures { λ r. ⌜ ((room : Room) (limit : ℕ) → Meets (now (input .entry)) room limit (members (read-symbol-like (now (input .entry)) room) (read-value (now (input .entry)) room limit levels) names more (end - start) start) (lists (now (nodes .entry)) (now (references .entry)) (now (bytes .entry)) (now (symbols .entry)) (now (objects .entry))) (now (c .entry)) r (lists (now (nodes .exit)) (now (references .exit)) (now (bytes .exit)) (now (symbols .exit)) (now (objects .exit))) (now (c .exit))) ⌝ }
+    requires { ⌜ (start ≤ end) × (end ≤ references-of (now c)) × (more ≤ 1) × (more ≡ 1 → names ≡ 2) × Held (now input) (lent (now nodes) (now references) (now bytes) (by-buckets (now symbols) (now buckets)) (now objects)) (now c) ⌝ }
+    ensures { λ r. ⌜ ((room : Room) (limit : ℕ) → Meets (now (input .entry)) room limit (members (read-symbol-like (now (input .entry)) room) (read-value (now (input .entry)) room limit levels) names more (end - start) start) (lent (now (nodes .entry)) (now (references .entry)) (now (bytes .entry)) (by-buckets (now (symbols .entry)) (now (buckets .entry))) (now (objects .entry))) (now (c .entry)) r (lent (now (nodes .exit)) (now (references .exit)) (now (bytes .exit)) (by-buckets (now (symbols .exit)) (now (buckets .exit))) (now (objects .exit))) (now (c .exit))) ⌝ }
     ensures { λ r. ⌜ (r < 4294967296 → (more ≡ 0 → r ≡ 0) × (more ≡ 1 → r < nodes-of (now (c .exit)))) ⌝ }
 {
     let mut to = start;
@@ -69,7 +70,7 @@ fn read_members(
             continue;
         }
         if to % 2 == names {
-            let name = read_symbol_like(&input[..], nodes, bytes, symbols, c);
+            let name = read_symbol_like(&input[..], nodes, bytes, symbols, buckets, c);
             if REFUSED <= name {
                 return name;
             }
@@ -84,6 +85,7 @@ fn read_members(
             bytes,
             symbols,
             objects,
+            buckets,
             c,
             levels,
         );
@@ -106,11 +108,12 @@ fn read_array(
     bytes: &mut [u8],
     symbols: &mut [u32],
     objects: &mut [u32],
-    c: &mut [usize; 8],
+    buckets: &mut [u32],
+    c: &mut [usize; 10],
     levels: u32,
 ) -> u64
-    requires { ⌜ Held (now input) (lists (now nodes) (now references) (now bytes) (now symbols) (now objects)) (now c) ⌝ }
-    ensures { λ r. ⌜ ((room : Room) (limit : ℕ) → Meets (now (input .entry)) room limit (read-array (now (input .entry)) room (read-value (now (input .entry)) room limit levels)) (lists (now (nodes .entry)) (now (references .entry)) (now (bytes .entry)) (now (symbols .entry)) (now (objects .entry))) (now (c .entry)) r (lists (now (nodes .exit)) (now (references .exit)) (now (bytes .exit)) (now (symbols .exit)) (now (objects .exit))) (now (c .exit))) ⌝ }
+    requires { ⌜ Held (now input) (lent (now nodes) (now references) (now bytes) (by-buckets (now symbols) (now buckets)) (now objects)) (now c) ⌝ }
+    ensures { λ r. ⌜ ((room : Room) (limit : ℕ) → Meets (now (input .entry)) room limit (read-array (now (input .entry)) room (read-value (now (input .entry)) room limit levels)) (lent (now (nodes .entry)) (now (references .entry)) (now (bytes .entry)) (by-buckets (now (symbols .entry)) (now (buckets .entry))) (now (objects .entry))) (now (c .entry)) r (lent (now (nodes .exit)) (now (references .exit)) (now (bytes .exit)) (by-buckets (now (symbols .exit)) (now (buckets .exit))) (now (objects .exit))) (now (c .exit))) ⌝ }
     ensures { λ r. ⌜ (r < 4294967296 → r < nodes-of (now (c .exit))) ⌝ }
 {
     let h = open_node(nodes, objects, c);
@@ -130,6 +133,7 @@ fn read_array(
         bytes,
         symbols,
         objects,
+        buckets,
         c,
         start,
         end,
@@ -158,12 +162,13 @@ fn read_hash(
     bytes: &mut [u8],
     symbols: &mut [u32],
     objects: &mut [u32],
-    c: &mut [usize; 8],
+    buckets: &mut [u32],
+    c: &mut [usize; 10],
     more: usize,
     levels: u32,
 ) -> u64
-    requires { ⌜ (more ≤ 1) × Held (now input) (lists (now nodes) (now references) (now bytes) (now symbols) (now objects)) (now c) ⌝ }
-    ensures { λ r. ⌜ ((room : Room) (limit : ℕ) → Meets (now (input .entry)) room limit (read-hash (eqb more 1) (now (input .entry)) room (read-value (now (input .entry)) room limit levels)) (lists (now (nodes .entry)) (now (references .entry)) (now (bytes .entry)) (now (symbols .entry)) (now (objects .entry))) (now (c .entry)) r (lists (now (nodes .exit)) (now (references .exit)) (now (bytes .exit)) (now (symbols .exit)) (now (objects .exit))) (now (c .exit))) ⌝ }
+    requires { ⌜ (more ≤ 1) × Held (now input) (lent (now nodes) (now references) (now bytes) (by-buckets (now symbols) (now buckets)) (now objects)) (now c) ⌝ }
+    ensures { λ r. ⌜ ((room : Room) (limit : ℕ) → Meets (now (input .entry)) room limit (read-hash (eqb more 1) (now (input .entry)) room (read-value (now (input .entry)) room limit levels)) (lent (now (nodes .entry)) (now (references .entry)) (now (bytes .entry)) (by-buckets (now (symbols .entry)) (now (buckets .entry))) (now (objects .entry))) (now (c .entry)) r (lent (now (nodes .exit)) (now (references .exit)) (now (bytes .exit)) (by-buckets (now (symbols .exit)) (now (buckets .exit))) (now (objects .exit))) (now (c .exit))) ⌝ }
     ensures { λ r. ⌜ (r < 4294967296 → r < nodes-of (now (c .exit))) ⌝ }
 {
     let h = open_node(nodes, objects, c);
@@ -183,6 +188,7 @@ fn read_hash(
         bytes,
         symbols,
         objects,
+        buckets,
         c,
         start,
         end,
@@ -211,18 +217,19 @@ fn read_object(
     bytes: &mut [u8],
     symbols: &mut [u32],
     objects: &mut [u32],
-    c: &mut [usize; 8],
+    buckets: &mut [u32],
+    c: &mut [usize; 10],
     levels: u32,
 ) -> u64
-    requires { ⌜ Held (now input) (lists (now nodes) (now references) (now bytes) (now symbols) (now objects)) (now c) ⌝ }
-    ensures { λ r. ⌜ ((room : Room) (limit : ℕ) → Meets (now (input .entry)) room limit (read-object (now (input .entry)) room (read-value (now (input .entry)) room limit levels)) (lists (now (nodes .entry)) (now (references .entry)) (now (bytes .entry)) (now (symbols .entry)) (now (objects .entry))) (now (c .entry)) r (lists (now (nodes .exit)) (now (references .exit)) (now (bytes .exit)) (now (symbols .exit)) (now (objects .exit))) (now (c .exit))) ⌝ }
+    requires { ⌜ Held (now input) (lent (now nodes) (now references) (now bytes) (by-buckets (now symbols) (now buckets)) (now objects)) (now c) ⌝ }
+    ensures { λ r. ⌜ ((room : Room) (limit : ℕ) → Meets (now (input .entry)) room limit (read-object (now (input .entry)) room (read-value (now (input .entry)) room limit levels)) (lent (now (nodes .entry)) (now (references .entry)) (now (bytes .entry)) (by-buckets (now (symbols .entry)) (now (buckets .entry))) (now (objects .entry))) (now (c .entry)) r (lent (now (nodes .exit)) (now (references .exit)) (now (bytes .exit)) (by-buckets (now (symbols .exit)) (now (buckets .exit))) (now (objects .exit))) (now (c .exit))) ⌝ }
     ensures { λ r. ⌜ (r < 4294967296 → r < nodes-of (now (c .exit))) ⌝ }
 {
     let h = open_node(nodes, objects, c);
     if REFUSED <= h {
         return h;
     }
-    let name = read_symbol_like(&input[..], nodes, bytes, symbols, c);
+    let name = read_symbol_like(&input[..], nodes, bytes, symbols, buckets, c);
     if REFUSED <= name {
         return name;
     }
@@ -239,6 +246,7 @@ fn read_object(
         bytes,
         symbols,
         objects,
+        buckets,
         c,
         start,
         end,
@@ -269,11 +277,12 @@ fn read_inner(
     bytes: &mut [u8],
     symbols: &mut [u32],
     objects: &mut [u32],
-    c: &mut [usize; 8],
+    buckets: &mut [u32],
+    c: &mut [usize; 10],
     levels: u32,
 ) -> u64
-    requires { ⌜ Held (now input) (lists (now nodes) (now references) (now bytes) (now symbols) (now objects)) (now c) ⌝ }
-    ensures { λ r. ⌜ ((room : Room) (limit : ℕ) → Meets (now (input .entry)) room limit (after-i (now (input .entry)) (read-value (now (input .entry)) room limit levels)) (lists (now (nodes .entry)) (now (references .entry)) (now (bytes .entry)) (now (symbols .entry)) (now (objects .entry))) (now (c .entry)) r (lists (now (nodes .exit)) (now (references .exit)) (now (bytes .exit)) (now (symbols .exit)) (now (objects .exit))) (now (c .exit))) ⌝ }
+    requires { ⌜ Held (now input) (lent (now nodes) (now references) (now bytes) (by-buckets (now symbols) (now buckets)) (now objects)) (now c) ⌝ }
+    ensures { λ r. ⌜ ((room : Room) (limit : ℕ) → Meets (now (input .entry)) room limit (after-i (now (input .entry)) (read-value (now (input .entry)) room limit levels)) (lent (now (nodes .entry)) (now (references .entry)) (now (bytes .entry)) (by-buckets (now (symbols .entry)) (now (buckets .entry))) (now (objects .entry))) (now (c .entry)) r (lent (now (nodes .exit)) (now (references .exit)) (now (bytes .exit)) (by-buckets (now (symbols .exit)) (now (buckets .exit))) (now (objects .exit))) (now (c .exit))) ⌝ }
     ensures { λ r. ⌜ (r < 4294967296 → r < nodes-of (now (c .exit))) ⌝ }
 {
     let at = c[AT];
@@ -287,6 +296,7 @@ fn read_inner(
                     bytes,
                     symbols,
                     objects,
+                    buckets,
                     c,
                     ValueKind::STRING,
                 );
@@ -301,6 +311,7 @@ fn read_inner(
         bytes,
         symbols,
         objects,
+        buckets,
         c,
         0,
         0,
@@ -318,11 +329,12 @@ fn read_variables(
     bytes: &mut [u8],
     symbols: &mut [u32],
     objects: &mut [u32],
-    c: &mut [usize; 8],
+    buckets: &mut [u32],
+    c: &mut [usize; 10],
     levels: u32,
 ) -> u64
-    requires { ⌜ Held (now input) (lists (now nodes) (now references) (now bytes) (now symbols) (now objects)) (now c) ⌝ }
-    ensures { λ r. ⌜ ((room : Room) (limit : ℕ) → Meets (now (input .entry)) room limit (read-variables (now (input .entry)) room (read-value (now (input .entry)) room limit levels)) (lists (now (nodes .entry)) (now (references .entry)) (now (bytes .entry)) (now (symbols .entry)) (now (objects .entry))) (now (c .entry)) r (lists (now (nodes .exit)) (now (references .exit)) (now (bytes .exit)) (now (symbols .exit)) (now (objects .exit))) (now (c .exit))) ⌝ }
+    requires { ⌜ Held (now input) (lent (now nodes) (now references) (now bytes) (by-buckets (now symbols) (now buckets)) (now objects)) (now c) ⌝ }
+    ensures { λ r. ⌜ ((room : Room) (limit : ℕ) → Meets (now (input .entry)) room limit (read-variables (now (input .entry)) room (read-value (now (input .entry)) room limit levels)) (lent (now (nodes .entry)) (now (references .entry)) (now (bytes .entry)) (by-buckets (now (symbols .entry)) (now (buckets .entry))) (now (objects .entry))) (now (c .entry)) r (lent (now (nodes .exit)) (now (references .exit)) (now (bytes .exit)) (by-buckets (now (symbols .exit)) (now (buckets .exit))) (now (objects .exit))) (now (c .exit))) ⌝ }
     ensures { λ r. ⌜ (r < 4294967296 → r < nodes-of (now (c .exit))) ⌝ }
 {
     let h = read_inner(
@@ -332,6 +344,7 @@ fn read_variables(
         bytes,
         symbols,
         objects,
+        buckets,
         c,
         levels,
     );
@@ -351,6 +364,7 @@ fn read_variables(
         bytes,
         symbols,
         objects,
+        buckets,
         c,
         start,
         end,
@@ -372,11 +386,12 @@ fn read_value(
     bytes: &mut [u8],
     symbols: &mut [u32],
     objects: &mut [u32],
-    c: &mut [usize; 8],
+    buckets: &mut [u32],
+    c: &mut [usize; 10],
     levels: u32,
 ) -> u64
-    requires { ⌜ Held (now input) (lists (now nodes) (now references) (now bytes) (now symbols) (now objects)) (now c) ⌝ }
-    ensures { λ r. ⌜ ((room : Room) (limit : ℕ) → Meets (now (input .entry)) room limit (read-value (now (input .entry)) room limit levels) (lists (now (nodes .entry)) (now (references .entry)) (now (bytes .entry)) (now (symbols .entry)) (now (objects .entry))) (now (c .entry)) r (lists (now (nodes .exit)) (now (references .exit)) (now (bytes .exit)) (now (symbols .exit)) (now (objects .exit))) (now (c .exit))) ⌝ }
+    requires { ⌜ Held (now input) (lent (now nodes) (now references) (now bytes) (by-buckets (now symbols) (now buckets)) (now objects)) (now c) ⌝ }
+    ensures { λ r. ⌜ ((room : Room) (limit : ℕ) → Meets (now (input .entry)) room limit (read-value (now (input .entry)) room limit levels) (lent (now (nodes .entry)) (now (references .entry)) (now (bytes .entry)) (by-buckets (now (symbols .entry)) (now (buckets .entry))) (now (objects .entry))) (now (c .entry)) r (lent (now (nodes .exit)) (now (references .exit)) (now (bytes .exit)) (by-buckets (now (symbols .exit)) (now (buckets .exit))) (now (objects .exit))) (now (c .exit))) ⌝ }
     ensures { λ r. ⌜ (r < 4294967296 → r < nodes-of (now (c .exit))) ⌝ }
 {
     if levels == 0 {
@@ -396,6 +411,7 @@ fn read_value(
             bytes,
             symbols,
             objects,
+            buckets,
             c,
             levels - 1,
         ),
@@ -406,6 +422,7 @@ fn read_value(
             bytes,
             symbols,
             objects,
+            buckets,
             c,
             defaults(k),
             levels - 1,
@@ -417,6 +434,7 @@ fn read_value(
             bytes,
             symbols,
             objects,
+            buckets,
             c,
             levels - 1,
         ),
@@ -427,10 +445,11 @@ fn read_value(
             bytes,
             symbols,
             objects,
+            buckets,
             c,
             levels - 1,
         ),
-        _ => read_leaf(&input[..], nodes, bytes, symbols, objects, c, k),
+        _ => read_leaf(&input[..], nodes, bytes, symbols, objects, buckets, c, k),
     }
 }
 
@@ -442,11 +461,12 @@ pub fn read_root(
     bytes: &mut [u8],
     symbols: &mut [u32],
     objects: &mut [u32],
-    c: &mut [usize; 8],
+    buckets: &mut [u32],
+    c: &mut [usize; 10],
     limit: u32,
 ) -> u64
-    requires { ⌜ Held (now input) (lists (now nodes) (now references) (now bytes) (now symbols) (now objects)) (now c) ⌝ }
-    ensures { λ r. ⌜ ((room : Room) → Meets (now (input .entry)) room limit (whole (now (input .entry)) room limit) (lists (now (nodes .entry)) (now (references .entry)) (now (bytes .entry)) (now (symbols .entry)) (now (objects .entry))) (now (c .entry)) r (lists (now (nodes .exit)) (now (references .exit)) (now (bytes .exit)) (now (symbols .exit)) (now (objects .exit))) (now (c .exit))) ⌝ }
+    requires { ⌜ Held (now input) (lent (now nodes) (now references) (now bytes) (by-buckets (now symbols) (now buckets)) (now objects)) (now c) ⌝ }
+    ensures { λ r. ⌜ ((room : Room) → Meets (now (input .entry)) room limit (whole (now (input .entry)) room limit) (lent (now (nodes .entry)) (now (references .entry)) (now (bytes .entry)) (by-buckets (now (symbols .entry)) (now (buckets .entry))) (now (objects .entry))) (now (c .entry)) r (lent (now (nodes .exit)) (now (references .exit)) (now (bytes .exit)) (by-buckets (now (symbols .exit)) (now (buckets .exit))) (now (objects .exit))) (now (c .exit))) ⌝ }
     ensures { λ r. ⌜ (r < 4294967296 → r < nodes-of (now (c .exit))) ⌝ }
 {
     let w = read_header(&input[..], c);
@@ -460,6 +480,7 @@ pub fn read_root(
         bytes,
         symbols,
         objects,
+        buckets,
         c,
         0,
         0,

@@ -158,13 +158,28 @@ pub fn objects(size: usize) -> Vec<u8> {
 }
 
 /// A hash of n names.
-pub fn names(n: i32) -> Vec<u8> {
+pub fn names(n: usize) -> Vec<u8> {
+    hash_of(&(0..n).map(NAMINGS[0].1).collect::<Vec<_>>())
+}
+
+/// A hash of the names.
+pub fn hash_of(names: &[String]) -> Vec<u8> {
     let mut out = vec![4, 8, b'{'];
-    integer(n, &mut out);
-    for i in 0..n {
-        symbol(&format!("ingredient_{i:04}"), &mut out);
+    integer(names.len() as i32, &mut out);
+    for (i, name) in names.iter().enumerate() {
+        symbol(name, &mut out);
         out.push(b'i');
-        integer(i, &mut out);
+        integer(i as i32, &mut out);
+    }
+    out
+}
+
+/// An array of the names, and nothing else.
+pub fn array_of(names: &[String]) -> Vec<u8> {
+    let mut out = vec![4, 8, b'['];
+    integer(names.len() as i32, &mut out);
+    for name in names {
+        symbol(name, &mut out);
     }
     out
 }
@@ -207,14 +222,21 @@ pub type Naming = (&'static str, fn(usize) -> String);
 /// Names that are alike, and names that are not.
 pub const NAMINGS: [Naming; 4] = [
     ("alike, of one length", |i| format!("ingredient_{i:04}")),
-    ("unlike, of one length", |i| digits_first(i) + "_ingredient"),
-    ("unlike, of 16 lengths", |i| digits_first(i) + &"_".repeat(4 + i % 16)),
+    ("unlike, of one length", |i| digits_first(i, 4) + "_ingredient"),
+    ("unlike, of 16 lengths", |i| digits_first(i, 4) + &"_".repeat(4 + i % 16)),
     ("each of another length", |i| "n".repeat(i + 1)),
 ];
 
-// The number's four digits, the last one first.
-fn digits_first(i: usize) -> String {
-    format!("{i:04}").chars().rev().collect()
+/// Up to 100,000 names, of which each has the same beginning, the same ending, or one of 16 lengths.
+pub const MANY: [Naming; 3] = [
+    ("alike, one beginning", |i| format!("ingredient_{i:05}")),
+    ("alike, one ending", |i| digits_first(i, 5) + "_ingredient"),
+    ("unlike, of 16 lengths", |i| digits_first(i, 5) + &"_".repeat(4 + i % 16)),
+];
+
+// The number's digits, so many, the last one first.
+fn digits_first(i: usize, width: usize) -> String {
+    format!("{i:0width$}").chars().rev().collect()
 }
 
 /// Values of one kind, each in the one before, 128 levels in all; nil alone for another word.

@@ -35,6 +35,7 @@ pub struct Tables {
     pub bytes: Vec<u8>,
     pub symbols: Vec<u32>,
     pub objects: Vec<u32>,
+    pub buckets: Vec<u32>,
     pub scratch: Vec<u32>,
     pub output: Vec<u8>,
     /// nodes, references, bytes and root
@@ -43,10 +44,13 @@ pub struct Tables {
     pub dump_form: bool,
     /// of the last measuring load
     pub measures: Measures,
+    /// words of the bucket table that the last hashed load looked at
+    pub looked: u64,
     pub written: usize,
 }
 
 impl Tables {
+    /// With an entry of each list, a word of the bucket table and one of scratch for each node.
     pub fn new(nodes: usize, references: usize, bytes: usize, output: usize) -> Tables {
         Tables {
             nodes: vec![0; nodes * 7],
@@ -54,12 +58,14 @@ impl Tables {
             bytes: vec![0; bytes],
             symbols: vec![0; nodes],
             objects: vec![0; nodes],
+            buckets: vec![0; nodes],
             scratch: vec![0; nodes],
             output: vec![0; output],
             counts: [0; 4],
             used: 0,
             dump_form: false,
             measures: Measures::default(),
+            looked: 0,
             written: 0,
         }
     }
@@ -80,6 +86,13 @@ impl Tables {
         let measured = calls::load_measured(input, nodes, references, bytes, symbols, objects, limit);
         self.measures = measured.measures;
         self.keep(measured.load)
+    }
+
+    pub fn load_hashed(&mut self, input: &[u8], limit: u32) -> Answer {
+        let Tables { nodes, references, bytes, symbols, objects, buckets, .. } = self;
+        let hashed = calls::load_hashed(input, nodes, references, bytes, symbols, objects, buckets, limit);
+        self.looked = hashed.looked;
+        self.keep(hashed.load)
     }
 
     fn keep(&mut self, loaded: calls::Loaded) -> Answer {

@@ -1,5 +1,5 @@
 // A walk over an input as load reads it, without tables: where load comes to an integer whose size byte is of the other sign,
-// and what the measuring load counts.
+// and what the measuring and the hashed load count.
 use crate::bignum::bignum;
 use ruby_marshal_tables::Measures;
 
@@ -45,11 +45,40 @@ pub fn wrong_sign_met(input: &[u8], limit: u32, references: usize) -> Option<(us
     walk.wrong_sign
 }
 
-/// What a load copies and compares, and the bytes that it uses; None where the input is refused.
-pub fn measures(input: &[u8]) -> Option<(Measures, usize)> {
+/// What the loads count of an input: all 0 where it is refused.
+#[derive(Clone, Copy, Debug, Default, PartialEq, Eq)]
+pub struct Counted {
+    pub used: usize,
+    pub measures: Measures,
+    /// words of the bucket table
+    pub looked: u64,
+}
+
+/// What a load uses, copies and compares, and looks at of a bucket table of so many words; None where the input is refused.
+pub fn counted(input: &[u8], buckets: usize) -> Option<Counted> {
     let mut walk = Walk::new(input, u32::MAX, usize::MAX);
     walk.value(1)?;
-    Some((walk.measures, walk.at))
+    Some(Counted { used: walk.at, measures: walk.measures, looked: looked(&walk.read, buckets) })
+}
+
+// FNV-1a, 32 bits.
+fn hash(name: &[u8]) -> u32 {
+    name.iter().fold(2166136261, |hash, &byte| (hash ^ u32::from(byte)).wrapping_mul(16777619))
+}
+
+// The words of a bucket table that searches for these names look at, one after the other.
+fn looked(names: &[&[u8]], words: usize) -> u64 {
+    let (mut table, mut looked) = (vec![None; if names.is_empty() { 0 } else { words }], 0);
+    for &name in names {
+        let mut at = hash(name) as usize % words;
+        looked += 1;
+        while table[at].is_some_and(|known| known != name) {
+            at = (at + 1) % words;
+            looked += 1;
+        }
+        table[at] = Some(name);
+    }
+    looked
 }
 
 // Each function answers None where load is refused.
@@ -61,6 +90,8 @@ struct Walk<'a> {
     references: usize,
     /// each once, in the order of their nodes
     names: Vec<&'a [u8]>,
+    /// those that are written out, in the order of the input
+    read: Vec<&'a [u8]>,
     /// on the symbol list
     symbols: usize,
     /// for each on the object list, whether it takes variables
@@ -72,8 +103,8 @@ struct Walk<'a> {
 impl<'a> Walk<'a> {
     // After the header.
     fn new(input: &'a [u8], limit: u32, references: usize) -> Walk<'a> {
-        let (names, objects, measures) = (vec![], vec![], Measures::default());
-        Walk { input, at: 2, limit, references, names, symbols: 0, objects, measures, wrong_sign: None }
+        let (names, read, objects, measures) = (vec![], vec![], vec![], Measures::default());
+        Walk { input, at: 2, limit, references, names, read, symbols: 0, objects, measures, wrong_sign: None }
     }
 
     fn byte(&mut self) -> Option<u8> {
@@ -110,6 +141,7 @@ impl<'a> Walk<'a> {
     fn symbol(&mut self) -> Option<()> {
         let name = self.string()?;
         self.symbols += 1;
+        self.read.push(name);
         for known in self.names.iter().filter(|known| known.len() == name.len()) {
             let alike = name.iter().zip(*known).take_while(|(a, b)| a == b).count();
             self.measures.compared += name.len().min(alike + 1) as u64;

@@ -162,14 +162,19 @@ impl Case {
         Counts { nodes: size(nodes), references: size(references), bytes: size(bytes), root: root.number() as u32 }
     }
 
-    /// The answer's three numbers. Of BAD-ARENA any faulty node may be named, and the lowest is.
+    /// An answer's three numbers.
+    pub fn three(&self, name: &str) -> (u32, i64, u64) {
+        let [number, first, second] = self.field(name).list() else { panic!("three numbers") };
+        (number.number() as u32, first.number(), second.number() as u64)
+    }
+
+    /// The answer's. Of BAD-ARENA any faulty node may be named, and the lowest is.
     pub fn answer(&self) -> (u32, i64, u64) {
-        let [number, first, second] = self.field("answer").list() else { panic!("three numbers") };
-        let (number, mut first) = (number.number() as u32, first.number());
+        let (number, mut first, second) = self.three("answer");
         if number == 2 && first >= 0 && self.has("faulty") {
             first = self.field("faulty").list().iter().map(Json::number).min().expect("a faulty node");
         }
-        (number, first, second.number() as u64)
+        (number, first, second)
     }
 }
 

@@ -1,10 +1,12 @@
 -- The proof of load_at.
+use borrow.Author.Needs.{needs}
+use native.Mathlib.Omega.{arith}
 use Prim.Native.Nat.{ℕ}
-use mathlib.Core.Path.{_∙_, ap}
+use mathlib.Core.Path.{refl, _∙_, ap}
 use mathlib.Core.List.{List}
+use mathlib.Core.Logic.{inl}
 use Rattle.definition.specs.Load.{lists, load-call}
 use Rattle.load.proofs.Whole.{rest-at}
-use borrow.Author.Needs.{needs}
 use Rattle.load.proofs.load_at.Statement.{statement}
 use Rattle.load.proofs.load_at.Tie as tie
 
@@ -20,8 +22,14 @@ part-load-whole-start c = search needs
 part-load-whole-end : tie.Need-part-load-whole-end
 part-load-whole-end c = search needs
 
+array-borrow-prefix-none : tie.Need-array-borrow-prefix-none
+array-borrow-prefix-none c = search needs
+
+slice-aggregate-load-whole : tie.Need-slice-aggregate-load-whole
+slice-aggregate-load-whole c = search needs
+
 load-whole-requires : tie.Need-load-whole-requires
-load-whole-requires c κs = search needs
+load-whole-requires c κs = (omega arith, inl (refl, refl))
 
 same-length : tie.Need-same-length
 same-length c = search needs
@@ -40,12 +48,12 @@ same-length-5 c = search needs
 
 returns : tie.Need-returns
 returns c =
-    let c11 = c .before .before .before .before .before .before .before .before .before .before .before in
-    let c18 = c11 .before .before .before .before .before .before .before in
-    let c25 = c18 .before .before .before .before .before .before .before in
-    let a = c25 .args in
-    let i = c18 .inside .ensures in
-    c11 .load-whole .ensures .0 ∙ ap (λ (l : List ℕ). load-call l (lists (a .nodes .now) (a .references .now) (a .bytes .now) (a .symbols .now) (a .objects .now)) (a .limit)) (rest-at (a .input .now) (a .at) _ i)
+    let c12 = c .before .before .before .before .before .before .before .before .before .before .before .before in
+    let c20 = c12 .before .before .before .before .before .before .before .before in
+    let c27 = c20 .before .before .before .before .before .before .before in
+    let a = c27 .args in
+    let i = c20 .inside .ensures in
+    c12 .load-whole .ensures .0 refl ∙ ap (λ (l : List ℕ). load-call l (lists (a .nodes .now) (a .references .now) (a .bytes .now) (a .symbols .now) (a .objects .now)) (a .limit)) (rest-at (a .input .now) (a .at) _ i)
 
 pub load-at-spec : {M : Type 1} → statement M
 load-at-spec =
@@ -55,6 +63,8 @@ load-at-spec =
     sub-load-whole
     part-load-whole-start
     part-load-whole-end
+    array-borrow-prefix-none
+    slice-aggregate-load-whole
     load-whole-requires
     same-length
     same-length-2

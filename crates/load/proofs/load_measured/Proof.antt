@@ -1,11 +1,19 @@
 -- The proof of load_measured.
 use borrow.Author.Needs.{needs}
+use native.Mathlib.Omega.{arith}
 use mathlib.Core.Path.{refl}
+use mathlib.Core.Logic.{inl}
 use Rattle.load.proofs.load_measured.Statement.{statement}
 use Rattle.load.proofs.load_measured.Tie as tie
 
+array-borrow-prefix-none : tie.Need-array-borrow-prefix-none
+array-borrow-prefix-none c = search needs
+
+slice-aggregate-load-whole : tie.Need-slice-aggregate-load-whole
+slice-aggregate-load-whole c = search needs
+
 load-whole-requires : tie.Need-load-whole-requires
-load-whole-requires c κs = search needs
+load-whole-requires c κs = (omega arith, inl (refl, refl))
 
 same-length : tie.Need-same-length
 same-length c = search needs
@@ -23,9 +31,20 @@ same-length-5 : tie.Need-same-length-5
 same-length-5 c = search needs
 
 returns : tie.Need-returns
-returns c = c .before .before .before .before .before .before .before .before .before .before .load-whole .ensures .1 refl
+returns c =
+    let c12 = c .before .before .before .before .before .before .before .before .before .before .before .before in
+    c12 .load-whole .ensures .1 .0 refl refl
 
 pub load-measured-spec : {M : Type 1} → statement M
 load-measured-spec =
     tie.close
-    (tie.spec load-whole-requires same-length same-length-2 same-length-3 same-length-4 same-length-5 returns)
+    (tie.spec
+    array-borrow-prefix-none
+    slice-aggregate-load-whole
+    load-whole-requires
+    same-length
+    same-length-2
+    same-length-3
+    same-length-4
+    same-length-5
+    returns)

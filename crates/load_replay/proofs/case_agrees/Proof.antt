@@ -43,11 +43,17 @@ word-requires-5 c κs = search needs
 cast-o : tie.Need-cast-o
 cast-o c = search needs
 
+word-requires-6 : tie.Need-word-requires-6
+word-requires-6 c κs = search needs
+
+cast-k : tie.Need-cast-k
+cast-k c = search needs
+
 input-start-requires : tie.Need-input-start-requires
 input-start-requires c κs = search needs
 
-word-requires-6 : tie.Need-word-requires-6
-word-requires-6 c κs = search needs
+word-requires-7 : tie.Need-word-requires-7
+word-requires-7 c κs = search needs
 
 cast-plus : tie.Need-cast-plus
 cast-plus c = search needs
@@ -66,35 +72,42 @@ slice-relend-prefix-fitted-agrees c = search needs
 
 slice-aggregate-fitted-agrees : tie.Need-slice-aggregate-fitted-agrees
 slice-aggregate-fitted-agrees c =
-    sym (length-take-le _ _ (c .before .before .before .before .before .before .before .before .if1 .taken))
+    sym (length-take-le _ _ (c .before .before .before .before .before .before .before .before .before .if1 .taken))
 
 slice-relend-prefix-fitted-agrees-2 : tie.Need-slice-relend-prefix-fitted-agrees-2
 slice-relend-prefix-fitted-agrees-2 c = search needs
 
 slice-aggregate-fitted-agrees-2 : tie.Need-slice-aggregate-fitted-agrees-2
 slice-aggregate-fitted-agrees-2 c =
-    sym (length-take-le _ _ (c .before .before .before .before .before .before .before .before .if2 .taken))
+    sym (length-take-le _ _ (c .before .before .before .before .before .before .before .before .before .if2 .taken))
 
 slice-relend-prefix-fitted-agrees-3 : tie.Need-slice-relend-prefix-fitted-agrees-3
 slice-relend-prefix-fitted-agrees-3 c = search needs
 
 slice-aggregate-fitted-agrees-3 : tie.Need-slice-aggregate-fitted-agrees-3
 slice-aggregate-fitted-agrees-3 c =
-    sym (length-take-le _ _ (c .before .before .before .before .before .before .before .before .if3 .taken))
+    sym (length-take-le _ _ (c .before .before .before .before .before .before .before .before .before .if3 .taken))
 
 slice-relend-prefix-fitted-agrees-4 : tie.Need-slice-relend-prefix-fitted-agrees-4
 slice-relend-prefix-fitted-agrees-4 c = search needs
 
 slice-aggregate-fitted-agrees-4 : tie.Need-slice-aggregate-fitted-agrees-4
 slice-aggregate-fitted-agrees-4 c =
-    sym (length-take-le _ _ (c .before .before .before .before .before .before .before .before .if4 .taken))
+    sym (length-take-le _ _ (c .before .before .before .before .before .before .before .before .before .if4 .taken))
 
 slice-relend-prefix-fitted-agrees-5 : tie.Need-slice-relend-prefix-fitted-agrees-5
 slice-relend-prefix-fitted-agrees-5 c = search needs
 
 slice-aggregate-fitted-agrees-5 : tie.Need-slice-aggregate-fitted-agrees-5
 slice-aggregate-fitted-agrees-5 c =
-    sym (length-take-le _ _ (c .before .before .before .before .before .before .before .before .if5 .taken))
+    sym (length-take-le _ _ (c .before .before .before .before .before .before .before .before .before .if5 .taken))
+
+slice-relend-prefix-fitted-agrees-6 : tie.Need-slice-relend-prefix-fitted-agrees-6
+slice-relend-prefix-fitted-agrees-6 c = search needs
+
+slice-aggregate-fitted-agrees-6 : tie.Need-slice-aggregate-fitted-agrees-6
+slice-aggregate-fitted-agrees-6 c =
+    sym (length-take-le _ _ (c .before .before .before .before .before .before .before .before .before .if6 .taken))
 
 fitted-agrees-requires : tie.Need-fitted-agrees-requires
 fitted-agrees-requires c κs = search needs
@@ -113,6 +126,9 @@ same-length-4 c = search needs
 
 same-length-5 : tie.Need-same-length-5
 same-length-5 c = search needs
+
+same-length-6 : tie.Need-same-length-6
+same-length-6 c = search needs
 
 returns : tie.Need-returns
 returns c = search needs
@@ -138,6 +154,9 @@ returns-7 c = search needs
 returns-8 : tie.Need-returns-8
 returns-8 c = search needs
 
+returns-9 : tie.Need-returns-9
+returns-9 c = search needs
+
 pub case-agrees-spec : {M : Type 1} → statement M
 case-agrees-spec =
     tie.close
@@ -152,8 +171,10 @@ case-agrees-spec =
     cast-s
     word-requires-5
     cast-o
-    input-start-requires
     word-requires-6
+    cast-k
+    input-start-requires
+    word-requires-7
     cast-plus
     plus-requires
     part-fitted-agrees-start
@@ -168,12 +189,15 @@ case-agrees-spec =
     slice-aggregate-fitted-agrees-4
     slice-relend-prefix-fitted-agrees-5
     slice-aggregate-fitted-agrees-5
+    slice-relend-prefix-fitted-agrees-6
+    slice-aggregate-fitted-agrees-6
     fitted-agrees-requires
     same-length
     same-length-2
     same-length-3
     same-length-4
     same-length-5
+    same-length-6
     returns
     returns-2
     returns-3
@@ -181,4 +205,5 @@ case-agrees-spec =
     returns-5
     returns-6
     returns-7
-    returns-8)
+    returns-8
+    returns-9)

@@ -13,6 +13,9 @@ use Rattle.loader.proofs.add_node.Tie as tie
 element-copy-out-at : tie.Need-element-copy-out-at
 element-copy-out-at c = search needs
 
+element-copy-out-if1 : tie.Need-element-copy-out-if1
+element-copy-out-if1 c = search needs
+
 add-result : tie.Need-add-result
 add-result c = search needs
 
@@ -40,13 +43,13 @@ returns-2 c =
     let c-put-node = c .before .before .put-node in
     let c4 = c .before .before .before .before in
     let c-if1 = c4 .if1 in
-    let c7 = c4 .before .before .before in
+    let c7 = c4 .before .before .before .before in
     let a = c7 .args in
     let l = a .c .now in
     let h : nodes-of l * 7 + 7 ≤ length (a .nodes .now) = omega (arith, c-if1 .left) in (
       λ input room limit row re by sy ob e f. row-added row _ e f (c-if1 .left) (c-put-node .ensures),
       λ k. (
-        omega (arith, is 1 (nodes-of l + 1) l (c7 .pre .1) (omega arith)),
+        omega (arith, is 1 (nodes-of l + 1) l (c7 .pre .2) (omega arith)),
         λ n. stored-free (a .nodes .now) (nodes-of l) (a .kind) (a .a ∷ a .b ∷ 0 ∷ a .n ∷ a .name ∷ 0 ∷ []) (c-put-node .ensures) h n,
       ),
     )
@@ -56,6 +59,7 @@ add-node-spec =
     tie.close
     (tie.spec
     element-copy-out-at
+    element-copy-out-if1
     add-result
     returns
     mul-put-node

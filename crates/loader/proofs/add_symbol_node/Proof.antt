@@ -13,6 +13,9 @@ use Rattle.loader.proofs.add_symbol_node.Tie as tie
 element-copy-out-at : tie.Need-element-copy-out-at
 element-copy-out-at c = search needs
 
+element-copy-out-if1 : tie.Need-element-copy-out-if1
+element-copy-out-if1 c = search needs
+
 add-result : tie.Need-add-result
 add-result c = search needs
 
@@ -66,17 +69,18 @@ same-length-2 c = search needs
 returns-3 : tie.Need-returns-3
 returns-3 c =
     let c4 = c .before .before .before .before in
-    let c10 = c4 .before .before .before .before .before .before in
+    let c10 = c4 .before .before .before .before .before .before .before in
     let p = c10 .pre in
     let l = c10 .args .c .now in
     let l1 = set l 1 (nodes-of l + 1) in
-    (λ input room limit k re by ob e. symbol-new _ _ k e (p .1) (c4 .before .before .if1 .left) (c4 .if2 .left) (c .before .before .put-node .ensures), λ h. omega (arith, put 4 (symbols-of l + 1) l1 .others 1 (omega arith) ∙ is 1 (nodes-of l + 1) l (p .2) (omega arith)))
+    (λ input room limit k re by ob e. symbol-new _ _ k e (p .2) (c4 .before .before .if1 .left) (c4 .if2 .left) (c .before .before .put-node .ensures), λ h. omega (arith, put 4 (symbols-of l + 1) l1 .others 1 (omega arith) ∙ is 1 (nodes-of l + 1) l (p .3) (omega arith)))
 
 pub add-symbol-node-spec : {M : Type 1} → statement M
 add-symbol-node-spec =
     tie.close
     (tie.spec
     element-copy-out-at
+    element-copy-out-if1
     add-result
     returns
     element-copy-out-to

@@ -7,8 +7,8 @@ use mathlib.Core.List.{List}
 use mathlib.Core.Option.{some}
 use lib.ListN.{getD, drop}
 use Rattle.definition.specs.Node.{nil}
-use Rattle.definition.specs.Load.{Room, State, lists}
-use Rattle.loader.specs.Holds.{Holds, Symbolic, Ends, find-listed, span, symbols-of}
+use Rattle.definition.specs.Load.{Room, State}
+use Rattle.loader.specs.Holds.{lent, by-list, Holds, Symbolic, Ends, find-listed, span, symbols-of}
 use Rattle.loader.proofs.Readers.{found-at, found-on, found-none}
 use Rattle.loader.proofs.Steps.{entry-symbolic, is-there, length-span}
 use Rattle.loader.proofs.find_symbol.Statement.{statement}
@@ -16,7 +16,7 @@ use Rattle.loader.proofs.find_symbol.Tie as tie
 
 abbrev Inv-loop : tie.InvT-loop
 Inv-loop input nodes bytes symbols at count n last i₀ i =
-    (room : Room) (s : State) (re ob k : List ℕ) → symbols-of k ≡ count → Holds input room s (lists nodes re bytes symbols ob) k →
+    (room : Room) (s : State) (re ob k : List ℕ) → symbols-of k ≡ count → Holds input room s (lent nodes re bytes (by-list symbols) ob) k →
     find-listed (s .bytes) (span input at n) (s .nodes) (s .symbols) ≡ find-listed (s .bytes) (span input at n) (s .nodes) (drop i (s .symbols))
 
 abbrev μ-loop : tie.MeasureT-loop

@@ -7,8 +7,8 @@ use mathlib.Core.List.{List}
 use mathlib.Core.Option.{some}
 use lib.ListN.{getD, set}
 use Rattle.definition.specs.Node.{nil}
-use Rattle.definition.specs.Load.{Room, State, lists}
-use Rattle.loader.specs.Holds.{Holds, Symbolic, span, symbols-of, compared-of}
+use Rattle.definition.specs.Load.{Room, State}
+use Rattle.loader.specs.Holds.{lent, by-list, Holds, Symbolic, span, symbols-of, compared-of}
 use Rattle.loader.proofs.Readers.{Turned, turned-start, turned-met, turned-on, turned-here, turned-fits, turned-end}
 use Rattle.loader.proofs.Steps.{entry-symbolic, is-there, length-span}
 use Rattle.loader.proofs.measure_symbol.Statement.{statement}
@@ -17,7 +17,7 @@ use Rattle.loader.proofs.measure_symbol.Tie as tie
 abbrev Inv-loop : tie.InvT-loop
 Inv-loop input nodes bytes symbols c₀ at n count total₀ next₀ i₀ c total next i =
     (c ≡ c₀) × (i ≤ symbols-of c₀) ×
-    ((room : Room) (s : State) (re ob k : List ℕ) → symbols-of k ≡ symbols-of c₀ → Holds input room s (lists nodes re bytes symbols ob) k → Turned s (span input at n) (compared-of c₀) total next i)
+    ((room : Room) (s : State) (re ob k : List ℕ) → symbols-of k ≡ symbols-of c₀ → Holds input room s (lent nodes re bytes (by-list symbols) ob) k → Turned s (span input at n) (compared-of c₀) total next i)
 
 abbrev μ-loop : tie.MeasureT-loop
 μ-loop input nodes bytes symbols c₀ at n count total₀ next₀ i₀ c total next i = symbols-of c₀ - i

@@ -5,8 +5,8 @@ use Prim.Native.Nat.{ℕ, _-_, _<_, _≤_}
 use mathlib.Core.Path.{_≡_, refl, ap, _∙_}
 use mathlib.Core.List.{List}
 use lib.ListN.{drop}
-use Rattle.definition.specs.Load.{Room, State, lists}
-use Rattle.loader.specs.Holds.{Holds, Ends, find-listed, symbols-of}
+use Rattle.definition.specs.Load.{Room, State}
+use Rattle.loader.specs.Holds.{lent, by-list, Holds, Ends, find-listed, symbols-of}
 use Rattle.loader.proofs.Readers.{found-on}
 use Rattle.loader.proofs.Steps.{entry-symbolic}
 use Rattle.loader.proofs.next_like.Statement.{statement}
@@ -15,7 +15,7 @@ use Rattle.loader.proofs.next_like.Tie as tie
 abbrev Inv-loop : tie.InvT-loop
 Inv-loop nodes bytes symbols from count n last i₀ i =
     (from ≤ i) × (i ≤ count) ×
-    ((room : Room) (s : State) (input re ob k name : List ℕ) → symbols-of k ≡ count → Holds input room s (lists nodes re bytes symbols ob) k → Ends name n last →
+    ((room : Room) (s : State) (input re ob k name : List ℕ) → symbols-of k ≡ count → Holds input room s (lent nodes re bytes (by-list symbols) ob) k → Ends name n last →
     find-listed (s .bytes) name (s .nodes) (drop from (s .symbols)) ≡ find-listed (s .bytes) name (s .nodes) (drop i (s .symbols)))
 
 abbrev μ-loop : tie.MeasureT-loop

@@ -6,7 +6,7 @@ use Rattle.definition.specs.Load.{read-byte-string}
 use Rattle.loader.specs.Holds.{at-of}
 use Rattle.loader.proofs.Counts.{is}
 use Rattle.loader.proofs.Laws.{held, lead-after, lead-stop}
-use Rattle.loader.proofs.Readers.{eight, at-inside}
+use Rattle.loader.proofs.Readers.{ten, at-inside}
 use Rattle.loader.proofs.Steps.{span-read}
 use Rattle.loader.proofs.read_byte_string.Statement.{statement}
 use Rattle.loader.proofs.read_byte_string.Tie as tie
@@ -38,8 +38,8 @@ returns-2 c =
     let inside = at-inside H in
     let r = c-read-length .ensures .1 (c-if1 .left) in
     let l = c-read-length .last .1 .0 in
-    let e = is 0 (at-of l + c-read-length .result) l (eight H) (omega arith) in
-    (λ room limit T. lead-after (c-read-length .ensures .0 room limit T .goes (c-if1 .left)) (span-read _ inside (omega (arith, r)) (c-if1 .left) (eight H)), λ l. (omega (arith, e), omega (arith, e, r)))
+    let e = is 0 (at-of l + c-read-length .result) l (ten H) (omega arith) in
+    (λ room limit T. lead-after (c-read-length .ensures .0 room limit T .goes (c-if1 .left)) (span-read _ inside (omega (arith, r)) (c-if1 .left) (ten H)), λ l. (omega (arith, e), omega (arith, e, r)))
 
 pub read-byte-string-spec : {M : Type 1} → statement M
 read-byte-string-spec =

@@ -5,6 +5,7 @@ use mathlib.Core.Path.{refl}
 use Rattle.definition.specs.Node.{fixnum, words}
 use Rattle.definition.specs.Load.{read-fixnum, read-integer}
 use Rattle.loader.proofs.Laws.{held, lead-first, lead-after, lead-stop}
+use Rattle.loader.proofs.Readers.{space-fits}
 use Rattle.loader.proofs.read_fixnum.Statement.{statement}
 use Rattle.loader.proofs.read_fixnum.Tie as tie
 
@@ -24,7 +25,7 @@ add-node-requires c κs =
     let c3 = c .before .before .before in
     let c7 = c3 .before .before .before .before in
     let H = held {m = λ room. read-integer _} {m' = λ room. _} (c7 .pre .4) (c .before .before .if1 .left) (λ room. c3 .read-integer .ensures room 0 _) in
-    (omega arith, H .holds .counts)
+    (omega arith, space-fits H, H .holds .counts)
 
 same-length : tie.Need-same-length
 same-length c = search needs

@@ -5,6 +5,7 @@ use Rattle.definition.specs.Magnitude.{bignum-row}
 use Rattle.definition.specs.Load.{read-magnitude}
 use Rattle.loader.proofs.Laws.{then, held-goes, lead-after}
 use Rattle.loader.proofs.Bignums.{magnitude-read, magnitude-over}
+use Rattle.loader.proofs.Readers.{space-fits}
 use Rattle.loader.proofs.read_magnitude.Statement.{statement}
 use Rattle.loader.proofs.read_magnitude.Tie as tie
 
@@ -53,7 +54,7 @@ add-object-node-requires c κs =
     let p = c12 .pre in
     let e = c6 .before .magnitude-at .ensures in
     let G = held-goes {m = λ room. read-magnitude _ room _ _} {m' = λ room. _} (p .3 .3) (λ room. then (magnitude-read _ _ _ (p .2) (p .1) (p .3 .3 .holds .counts) (e .0) (e .1) (c6 .if1 .left)) (c4 .note-bignum .ensures _ room _)) in
-    (omega (arith, p .3 .3), G .holds .counts)
+    (omega (arith, p .3 .3), space-fits G, G .holds .counts)
 
 same-length : tie.Need-same-length
 same-length c = search needs

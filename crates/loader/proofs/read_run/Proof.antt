@@ -8,7 +8,7 @@ use borrow.Author.Tests.{not-true, not-false}
 use Rattle.reader.specs.Integers.{size-small}
 use Rattle.loader.proofs.Laws.{still}
 use Rattle.loader.proofs.Names.{untrue}
-use Rattle.loader.proofs.Run.{Running, running-start, run-over, run-link, run-integer, at-inside, coming-next, over-short, over-link, over-integer, over-form, run-same}
+use Rattle.loader.proofs.Run.{Running, running-start, run-over, run-link, run-integer, at-inside, coming-next, over-short, over-link, over-integer, over-form, run-same, node-room}
 use Rattle.loader.proofs.read_run.Statement.{statement}
 use Rattle.loader.proofs.read_run.Tie as tie
 
@@ -29,7 +29,7 @@ small-next-requires c κs = search needs
 returns : tie.Need-returns Inv-loop μ-loop
 returns c =
     let c7 = c .before .before .before .before .before .before .before in
-    ((omega arith, c7 .pre .0), (λ room limit by ob. still (λ s H. refl), λ n l t. untrue (sym (not-true _ (c .if1 .taken)) ∙ c .before .small-next .ensures .1 (coming-next n t))))
+    ((omega arith, c7 .pre .0), (λ room limit by ob bu. still (λ s H. refl), λ n l t. untrue (sym (not-true _ (c .if1 .taken)) ∙ c .before .small-next .ensures .1 (coming-next n t))))
 
 element-copy-out-known : tie.Need-element-copy-out-known Inv-loop μ-loop
 element-copy-out-known c = search needs
@@ -41,7 +41,7 @@ loop-holds : tie.Need-loop-holds Inv-loop μ-loop
 loop-holds c =
     let c9 = c .before .before .before .before .before .before .before .before .before in
     let p = c9 .pre in
-    running-start (p .0) (p .1) (p .2 .2)
+    running-start (p .0) (p .1) (p .2 .3)
 
 sub-if2 : tie.Need-sub-if2 Inv-loop μ-loop
 sub-if2 c = at-inside (c .before .loop .inv)
@@ -107,7 +107,7 @@ shared-slice-read-references : tie.Need-shared-slice-read-references Inv-loop μ
 shared-slice-read-references c =
     let c8 = c .before .before .before .before .before .before .before .before in
     let R = c8 .loop .inv in
-    let H = R .held .2 .holds in
+    let H = R .held .3 .holds in
     omega (arith, c .before .if4 .left, R .known, H .count-symbols, H .symbols .fits, H .symbols .sized)
 
 mul-references-2 : tie.Need-mul-references-2 Inv-loop μ-loop
@@ -117,7 +117,7 @@ slice-write-references : tie.Need-slice-write-references Inv-loop μ-loop
 slice-write-references c =
     let c7 = c .before .before .before .before .before .before .before in
     let R = c7 .before .loop .inv in
-    let H = R .held .2 .holds in
+    let H = R .held .3 .holds in
     omega (arith, c7 .loop-test .taken, R .inside, H .count-references, H .references .fits, H .references .sized)
 
 add-at : tie.Need-add-at Inv-loop μ-loop
@@ -143,6 +143,9 @@ loop-again c =
 element-copy-out-node : tie.Need-element-copy-out-node Inv-loop μ-loop
 element-copy-out-node c = search needs
 
+element-copy-out-takes-integer : tie.Need-element-copy-out-takes-integer Inv-loop μ-loop
+element-copy-out-takes-integer c = search needs
+
 takes-integer-requires : tie.Need-takes-integer-requires Inv-loop μ-loop
 takes-integer-requires c κs = search needs
 
@@ -151,19 +154,19 @@ end-run-requires-3 c κs = search needs
 
 same-length-5 : tie.Need-same-length-5 Inv-loop μ-loop
 same-length-5 c =
-    let c9 = c .before .before .before .before .before .before .before .before .before in
+    let c9 = c .before .before .before .before .before .before .before .before .before .before in
     c9 .loop .inv .nodes
 
 same-length-6 : tie.Need-same-length-6 Inv-loop μ-loop
 same-length-6 c =
-    let c9 = c .before .before .before .before .before .before .before .before .before in
+    let c9 = c .before .before .before .before .before .before .before .before .before .before in
     c9 .loop .inv .references
 
 returns-4 : tie.Need-returns-4 Inv-loop μ-loop
 returns-4 c =
     let c3 = c .before .before .before in
-    let c5 = c3 .before .before in
-    let c9 = c .before .before .before .before .before .before .before .before .before in
+    let c5 = c3 .before .before .before in
+    let c9 = c .before .before .before .before .before .before .before .before .before .before in
     let R = c9 .loop .inv in
     let e = c .end-run3 .ensures in
     ((omega (arith, e .0, R .from), omega (arith, e .0, R .within)), (run-over R (e .0) (e .1), λ n l t. over-integer R (e .1) (e .0) t (c5 .if3 .left) (c3 .takes-integer .ensures .1) (not-true _ (c .before .before .if5 .taken))))
@@ -173,14 +176,14 @@ add-put-integer c = search needs
 
 put-integer-requires : tie.Need-put-integer-requires Inv-loop μ-loop
 put-integer-requires c κs =
-    let c6 = c .before .before .before .before .before .before in
+    let c6 = c .before .before .before .before .before .before .before in
     let c-loop = c6 .before .before .loop in
     let c18 = c6 .before .before .before .before .before .before .before .before .before .before .before .before in
     let R = c-loop .inv in
     let inside = at-inside R in
     let a = c18 .args in
     let t = c .before .before .takes-integer .ensures .0 (not-false _ (c .before .if5 .left)) in
-    (omega (arith, c6 .if2 .left, inside, size-small (getD (a .input .now) (c-loop .at + 1) 0)), omega (arith, t .2))
+    (omega (arith, c6 .if2 .left, inside, size-small (getD (a .input .now) (c-loop .at + 1) 0)), node-room R (t .2) .0)
 
 end-run-requires-4 : tie.Need-end-run-requires-4 Inv-loop μ-loop
 end-run-requires-4 c κs = search needs
@@ -188,20 +191,20 @@ end-run-requires-4 c κs = search needs
 same-length-7 : tie.Need-same-length-7 Inv-loop μ-loop
 same-length-7 c =
     let c5 = c .before .before .before .before .before in
-    let c14 = c5 .before .before .before .before .before .before .before .before .before in
+    let c14 = c5 .before .before .before .before .before .before .before .before .before .before in
     c5 .put-integer .kept .1 .0 ∙ c14 .loop .inv .nodes
 
 same-length-8 : tie.Need-same-length-8 Inv-loop μ-loop
 same-length-8 c =
     let c5 = c .before .before .before .before .before in
-    let c14 = c5 .before .before .before .before .before .before .before .before .before in
+    let c14 = c5 .before .before .before .before .before .before .before .before .before .before in
     c14 .loop .inv .references
 
 -- an integer in another form
 returns-5 : tie.Need-returns-5 Inv-loop μ-loop
 returns-5 c =
     let c5 = c .before .before .before .before .before in
-    let c10 = c5 .before .before .before .before .before in
+    let c10 = c5 .before .before .before .before .before .before in
     let p = c5 .put-integer .ensures .1 .1 .0 (c .before .before .if6 .taken) in
     let R = run-same (c10 .before .before .before .before .loop .inv) (p .0) in
     let e = c .end-run4 .ensures in
@@ -213,7 +216,7 @@ add-at-2 c = search needs
 add-at-3 : tie.Need-add-at-3 Inv-loop μ-loop
 add-at-3 c =
     let c-put-integer = c .before .before .before .put-integer in
-    let c10 = c .before .before .before .before .before .before .before .before .before .before in
+    let c10 = c .before .before .before .before .before .before .before .before .before .before .before in
     let c-loop = c10 .before .before .loop in
     let c22 = c10 .before .before .before .before .before .before .before .before .before .before .before .before in
     let a = c22 .args in
@@ -226,10 +229,10 @@ add-at-3 c =
 add-c : tie.Need-add-c Inv-loop μ-loop
 add-c c =
     let c5 = c .before .before .before .before .before in
-    let c12 = c5 .before .before .before .before .before .before .before in
+    let c12 = c5 .before .before .before .before .before .before .before .before in
     let t = c5 .before .takes-integer .ensures .0 (not-false _ (c5 .if5 .left)) in
-    let H = c12 .loop .inv .held .2 .holds in
-    record { fits = omega (arith, t .2, H .small .nodes, H .nodes .sized) }
+    let fits = node-room (c12 .loop .inv) (t .2) .1 in
+    record { fits = omega (arith, fits) }
 
 element-write-c : tie.Need-element-write-c Inv-loop μ-loop
 element-write-c c = search needs
@@ -237,19 +240,18 @@ element-write-c c = search needs
 cast-references : tie.Need-cast-references Inv-loop μ-loop
 cast-references c =
     let c5 = c .before .before .before .before .before in
-    let c12 = c5 .before .before .before .before .before .before .before in
+    let c12 = c5 .before .before .before .before .before .before .before .before in
     let t = c5 .before .takes-integer .ensures .0 (not-false _ (c5 .if5 .left)) in
-    let H = c12 .loop .inv .held .2 .holds in
-    omega (arith, t .2, H .small .nodes, H .nodes .sized)
+    omega (arith, node-room (c12 .loop .inv) (t .2) .1)
 
 mul-references-3 : tie.Need-mul-references-3 Inv-loop μ-loop
 mul-references-3 c = search needs
 
 slice-write-references-2 : tie.Need-slice-write-references-2 Inv-loop μ-loop
 slice-write-references-2 c =
-    let c11 = c .before .before .before .before .before .before .before .before .before .before .before in
+    let c11 = c .before .before .before .before .before .before .before .before .before .before .before .before in
     let R = c11 .before .loop .inv in
-    let H = R .held .2 .holds in
+    let H = R .held .3 .holds in
     omega (arith, c11 .loop-test .taken, R .inside, H .count-references, H .references .fits, H .references .sized)
 
 add-to-2 : tie.Need-add-to-2 Inv-loop μ-loop
@@ -262,7 +264,7 @@ loop-again-2 : tie.Need-loop-again-2 Inv-loop μ-loop
 loop-again-2 c =
     let c-put-integer = c .before .before .before .put-integer in
     let c5 = c .before .before .before .before .before in
-    let c10 = c5 .before .before .before .before .before in
+    let c10 = c5 .before .before .before .before .before .before in
     let c15 = c10 .before .before .before .before .before in
     let R = c10 .before .before .loop .inv in
     let inside = at-inside R in
@@ -325,6 +327,7 @@ read-run-spec =
     loop-less
     loop-again
     element-copy-out-node
+    element-copy-out-takes-integer
     takes-integer-requires
     end-run-requires-3
     same-length-5

@@ -26,15 +26,15 @@ element-write-c c = search needs
 
 read-symbol-requires : tie.Need-read-symbol-requires
 read-symbol-requires c κs =
-    let c6 = c .before .before .before .before .before .before in
-    let c12 = c6 .before .before .before .before .before .before in
-    (_, _, held-goes {m = λ room. read-byte _} {m' = λ room. _} (c12 .pre .2) (λ room. byte-goes (c6 .if1 .left)))
+    let c7 = c .before .before .before .before .before .before .before in
+    let c14 = c7 .before .before .before .before .before .before .before in
+    (_, _, held-goes {m = λ room. read-byte _} {m' = λ room. _} (c14 .pre .2) (λ room. byte-goes (c7 .if1 .left)))
 
 read-symbol-link-requires : tie.Need-read-symbol-link-requires
 read-symbol-link-requires c κs =
     let c4 = c .before .before .before .before in
-    let c10 = c4 .before .before .before .before .before .before in
-    (_, _, _, _, held-goes {m = λ room. read-byte _} {m' = λ room. _} (c10 .pre .2) (λ room. byte-goes (c4 .if1 .left)))
+    let c11 = c4 .before .before .before .before .before .before .before in
+    (_, _, _, _, _, held-goes {m = λ room. read-byte _} {m' = λ room. _} (c11 .pre .2) (λ room. byte-goes (c4 .if1 .left)))
 
 not-a-symbol-requires : tie.Need-not-a-symbol-requires
 not-a-symbol-requires c κs = search needs
@@ -50,19 +50,21 @@ same-length-3 c = search needs
 
 returns-2 : tie.Need-returns-2
 returns-2 c =
-    let c6 = c .before .before .before .before .before .before in
-    let c-read-symbol = c6 .read-symbol in
-    let c11 = c6 .before .before .before .before .before in
-    (λ room limit re ob. lead-after (like-symbol (c11 .before .before .if1 .left) (c11 .match .keys1)) (c-read-symbol .ensures .0 room limit re ob), c-read-symbol .ensures .1)
+    let c8 = c .before .before .before .before .before .before .before .before in
+    let c14 = c8 .before .before .before .before .before .before in
+    let c16 = c14 .before .before in
+    let c-read-symbol = c8 .read-symbol in
+    (λ room limit re ob. lead-after (like-symbol (c16 .if1 .left) (c14 .match .keys1)) (c-read-symbol .ensures .0 room limit re ob), c-read-symbol .ensures .1)
 
 same-length-4 : tie.Need-same-length-4
 same-length-4 c = search needs
 
 returns-3 : tie.Need-returns-3
 returns-3 c =
-    let c-read-symbol-link = c .read-symbol-link in
     let c3 = c .before .before .before in
-    (λ room limit re ob. lead-after (like-link (c3 .before .before .if1 .left) (c3 .match .keys2)) (c-read-symbol-link .ensures .0 room limit _ re _ ob), c-read-symbol-link .ensures .1)
+    let c5 = c3 .before .before in
+    let c-read-symbol-link = c .read-symbol-link in
+    (λ room limit re ob. lead-after (like-link (c5 .if1 .left) (c3 .match .keys2)) (c-read-symbol-link .ensures .0 room limit _ re _ ob _), c-read-symbol-link .ensures .1)
 
 returns-4 : tie.Need-returns-4
 returns-4 c =
@@ -70,6 +72,9 @@ returns-4 c =
     let r = c .before .match .rest in
     let q = c .not-a-symbol .ensures in
     (λ room limit re ob. met-as (q .0) (like-neither (c3 .if1 .left) (q .1) (r .0 .1) (r .1)), λ l. absurd (omega (arith, q .0, l)))
+
+same-length-5 : tie.Need-same-length-5
+same-length-5 c = search needs
 
 pub read-symbol-like-spec : {M : Type 1} → statement M
 read-symbol-like-spec =
@@ -86,7 +91,8 @@ read-symbol-like-spec =
     same-length
     same-length-2
     same-length-3
-    returns-2
     same-length-4
+    returns-2
+    same-length-5
     returns-3
     returns-4)

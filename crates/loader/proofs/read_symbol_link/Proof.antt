@@ -18,16 +18,16 @@ element-copy-out-entry-at c = search needs
 entry-at-requires : tie.Need-entry-at-requires
 entry-at-requires c κs =
     let c5 = c .before .before .before .before .before in
-    (λ l. let H = held {m = λ room. read-count _} {m' = λ room. _} (c5 .pre .4) l (λ room. c .before .read-count .ensures .0 room 0 _) in omega (arith, H .holds .count-symbols, H .holds .symbols .fits, H .holds .symbols .sized), omega arith)
+    (λ l. let H = held {m = λ room. read-count _} {m' = λ room. _} (c5 .pre .5) l (λ room. c .before .read-count .ensures .0 room 0 _) in omega (arith, H .holds .count-symbols, H .holds .symbols .fits, H .holds .symbols .sized), omega arith)
 
 returns : tie.Need-returns
 unfolding read-symbol-link
 returns c =
     let c6 = c .before .before .before .before .before .before in (
-      λ room limit a b d e. linked (λ s. s .symbols) MissingSymbol (c .before .before .read-count .ensures .0 room limit _) (c .entry-at .ensures) (omega arith) (at-symbol limit) symbols-listed,
+      λ room limit a b d e f. linked (λ s. s .symbols) MissingSymbol (c .before .before .read-count .ensures .0 room limit _) (c .entry-at .ensures) (omega arith) (at-symbol limit) symbols-listed,
       λ l.
           let i = entry-inside (c .entry-at .ensures) (omega arith) l in
-          let H = held {m = λ room. read-count _} {m' = λ room. _} (c6 .pre .4) (i .0) (λ room. c .before .before .read-count .ensures .0 room 0 _) in
+          let H = held {m = λ room. read-count _} {m' = λ room. _} (c6 .pre .5) (i .0) (λ room. c .before .before .read-count .ensures .0 room 0 _) in
           omega (arith, i .2, symbol-below H (i .1)),
     )
 

@@ -7,6 +7,7 @@ use mathlib.Core.List.{[], _∷_}
 use Rattle.definition.specs.Load.{read-text, read-byte-string, add-bytes}
 use Rattle.loader.proofs.Laws.{held, lead-first, lead-after, lead-stop}
 use Rattle.loader.proofs.Steps.{span-length}
+use Rattle.loader.proofs.Readers.{space-fits}
 use Rattle.loader.proofs.read_text.Statement.{statement}
 use Rattle.loader.proofs.read_text.Tie as tie
 
@@ -57,7 +58,7 @@ add-object-node-requires c κs =
     let c-pre = c16 .pre in
     let H = held {m = λ room. read-byte-string _} {m' = λ room. _} (c-pre .2) (c9 .if1 .left) (λ room. c9 .before .read-byte-string .ensures .0 room 0 _) in
     let G = held {m = λ room. add-bytes room _} {m' = λ room. _} H (c3 .if2 .left) (λ room. c6 .add-bytes .ensures .0 room 0 _ _ _ _) in
-    (omega (arith, c-pre .2), G .holds .counts)
+    (omega (arith, c-pre .2), space-fits G, G .holds .counts)
 
 same-length-2 : tie.Need-same-length-2
 same-length-2 c = search needs

@@ -23,8 +23,8 @@ same-length-3 c = search needs
 returns : tie.Need-returns
 unfolding read-user-defined
 returns c =
-    let c7 = c .before .before .before .before .before .before .before in
-    (λ room limit re. lead-stop (c .if1 .taken) (lead-first _ (c7 .read-symbol-like .ensures .0 room limit _ _)), λ l. absurd (omega arith))
+    let c9 = c .before .before .before .before .before .before .before .before .before in
+    (λ room limit re. lead-stop (c .if1 .taken) (lead-first _ (c9 .read-symbol-like .ensures .0 room limit _ _)), λ l. absurd (omega arith))
 
 cast-read-text : tie.Need-cast-read-text
 cast-read-text c = search needs
@@ -32,9 +32,9 @@ cast-read-text c = search needs
 read-text-requires : tie.Need-read-text-requires
 read-text-requires c κs =
     let c4 = c .before .before .before .before in
-    let c11 = c4 .before .before .before .before .before .before .before in
-    let c21 = c11 .before .before .before .before .before .before .before .before .before .before in
-    let H = held {m = λ room. read-symbol-like _ room} {m' = λ room. _} (c21 .pre .1) (c4 .if1 .left) (λ room. c11 .read-symbol-like .ensures .0 room 0 _ _) in
+    let c13 = c4 .before .before .before .before .before .before .before .before .before in
+    let c25 = c13 .before .before .before .before .before .before .before .before .before .before .before .before in
+    let H = held {m = λ room. read-symbol-like _ room} {m' = λ room. _} (c25 .pre .1) (c4 .if1 .left) (λ room. c13 .read-symbol-like .ensures .0 room 0 _ _) in
     (_, _, H)
 
 same-length-4 : tie.Need-same-length-4
@@ -53,14 +53,20 @@ returns-2 : tie.Need-returns-2
 unfolding read-user-defined words
 returns-2 c =
     let c6 = c .before .before .before .before .before .before in
-    let c-read-text = c6 .read-text in
     let c11 = c6 .before .before .before .before .before in
-    let c18 = c11 .before .before .before .before .before .before .before in (
+    let c20 = c11 .before .before .before .before .before .before .before .before .before in
+    let c-read-text = c6 .read-text in (
       λ room limit re.
-          lead-after (lead-first _ (c18 .read-symbol-like .ensures .0 room limit _ _) .goes (c11 .if1 .left))
+          lead-after (lead-first _ (c20 .read-symbol-like .ensures .0 room limit _ _) .goes (c11 .if1 .left))
           (c-read-text .ensures .0 room limit (λ start n. user start n _ absent) _ _ (λ start n. refl) (λ start n. tt)),
       c-read-text .ensures .1,
     )
+
+same-length-8 : tie.Need-same-length-8
+same-length-8 c = search needs
+
+same-length-9 : tie.Need-same-length-9
+same-length-9 c = search needs
 
 pub read-user-defined-spec : {M : Type 1} → statement M
 read-user-defined-spec =
@@ -70,11 +76,13 @@ read-user-defined-spec =
     same-length
     same-length-2
     same-length-3
+    same-length-4
     returns
     cast-read-text
     read-text-requires
-    same-length-4
     same-length-5
     same-length-6
     same-length-7
+    same-length-8
+    same-length-9
     returns-2)

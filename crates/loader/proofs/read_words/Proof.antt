@@ -3,8 +3,8 @@ use borrow.Author.Needs.{needs}
 use native.Mathlib.Omega.{arith}
 use Prim.Native.Nat.{ℕ, _+_, _-_, _*_}
 use mathlib.Core.Path.{_≡_, sym, ap, _∙_}
-use Rattle.definition.specs.Load.{lists, read-count, counted}
-use Rattle.loader.specs.Holds.{references-of}
+use Rattle.definition.specs.Load.{read-count, counted}
+use Rattle.loader.specs.Holds.{lent, references-of}
 use Rattle.loader.proofs.Counts.{is}
 use Rattle.loader.proofs.Laws.{held, lead-first, lead-after, lead-stop, goes-first, goes-to, given}
 use Rattle.loader.proofs.Readers.{twice-at-most}
@@ -43,7 +43,7 @@ returns-2 c =
     let c3 = c .before .before .before in
     let c-read-count = c3 .read-count in
     let c7 = c3 .before .before .before .before in
-    (λ room limit no by sy ob k. lead-after (lead-first _ (c-read-count .ensures .0 room limit _) .goes (c .before .before .if1 .left)) (lead-stop {T' = lists no (c7 .args .references .now) by sy ob} {c' = c-read-count .last .1 .0} (omega arith) (lead-first _ (words-short _ (c .if2 .taken)))), λ l. absurd (omega arith))
+    (λ room limit no by sy ob k. lead-after (lead-first _ (c-read-count .ensures .0 room limit _) .goes (c .before .before .if1 .left)) (lead-stop {T' = lent no (c7 .args .references .now) by sy ob} {c' = c-read-count .last .1 .0} (omega arith) (lead-first _ (words-short _ (c .if2 .taken)))), λ l. absurd (omega arith))
 
 zero-range-requires : tie.Need-zero-range-requires
 zero-range-requires c κs =

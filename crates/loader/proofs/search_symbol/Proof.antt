@@ -7,7 +7,7 @@ use lib.ListN.{length, set, length-set}
 use lib.Seq.{getD-set-other}
 use Rattle.loader.specs.Holds.{at-of, symbols-of}
 use Rattle.loader.proofs.Counts.{is}
-use Rattle.loader.proofs.Readers.{eight, searched-plainly, searched-counting}
+use Rattle.loader.proofs.Readers.{ten, searched-plainly, searched-counting}
 use Rattle.loader.proofs.search_symbol.Statement.{statement}
 use Rattle.loader.proofs.search_symbol.Tie as tie
 
@@ -41,7 +41,7 @@ returns c =
     let k = a .c .now in
     let f = c .find-symbol .ensures in
     let other = getD-set-other k 0 4 (at-of k + a .n) 0 (omega arith) in
-    let z = eight (p .1 .2) in
+    let z = ten (p .1 .2) in
     let e = is 0 (at-of k + a .n) k z (omega arith) in (
       λ room re ob. searched-plainly (a .n) (c .find-symbol .result) (p .0) (λ s G. f room s re ob k (sym other) G) z (c .before .before .if1 .taken),
       (λ room s re ob m q l G. f room s re ob m q G .symbol l, (omega (arith, e), omega (arith, e, p .0))),
@@ -64,10 +64,10 @@ returns-2 c =
     let k = a .c .now in
     let f = c .measure-symbol .ensures in
     let H = p .1 .2 in
-    let z = eight H in
+    let z = ten H in
     let k₁ = c .measure-symbol .last .1 .1 .1 .1 .0 in
     let d = f (H .room) (H .state) _ _ k refl (H .holds) .1 in
-    let sized : length k₁ ≡ 8 = ap length d ∙ length-set k 7 _ ∙ z in
+    let sized : length k₁ ≡ 10 = ap length d ∙ length-set k 7 _ ∙ z in
     let other : symbols-of (set k₁ 0 (at-of k + a .n)) ≡ symbols-of k = getD-set-other k₁ 0 4 _ 0 (omega arith) ∙ ap symbols-of d ∙ getD-set-other k 7 4 _ 0 (omega arith) in
     let e = is 0 (at-of k + a .n) k₁ sized (omega arith) in (
       λ room re ob. searched-counting (a .n) (c .measure-symbol .result) (p .0) (λ s G. f room s re ob k refl G .0) _ z (c .before .before .if1 .left) d (λ s G. f room s re ob k refl G .1),

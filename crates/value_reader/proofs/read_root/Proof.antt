@@ -18,9 +18,10 @@ returns c =
 
 read-members-requires : tie.Need-read-members-requires
 read-members-requires c κs =
-    let c6 = c .before .before .before .before .before .before in
-    let c15 = c6 .before .before .before .before .before .before .before .before .before in
-    let H = held {m = λ room. read-header _} {m' = λ room. _} (c15 .pre) (c6 .if1 .left) (λ room. c6 .before .read-header .ensures room 0 _) in
+    let c7 = c .before .before .before .before .before .before .before in
+    let c8 = c7 .before in
+    let c17 = c8 .before .before .before .before .before .before .before .before .before in
+    let H = held {m = λ room. read-header _} {m' = λ room. _} (c17 .pre) (c7 .if1 .left) (λ room. c8 .read-header .ensures room 0 _) in
     (omega arith, omega arith, omega arith, λ e. refl, H)
 
 same-length : tie.Need-same-length
@@ -40,16 +41,20 @@ same-length-5 c = search needs
 
 returns-2 : tie.Need-returns-2
 returns-2 c =
-    let c10 = c .before .before .before .before .before .before .before .before .before .before in
-    let c17 = c10 .before .before .before .before .before .before .before in
-    let c26 = c17 .before .before .before .before .before .before .before .before .before in
-    let a = c26 .args in
-    let k = c10 .read-members .ensures in (
+    let c12 = c .before .before .before .before .before .before .before .before .before .before .before .before in
+    let c20 = c12 .before .before .before .before .before .before .before .before in
+    let c21 = c20 .before in
+    let c30 = c21 .before .before .before .before .before .before .before .before .before in
+    let a = c30 .args in
+    let k = c12 .read-members .ensures in (
       λ room.
-          lead-after (lead-first _ (c17 .before .read-header .ensures room (a .limit) _) .goes (c17 .if1 .left))
+          lead-after (lead-first _ (c21 .read-header .ensures room (a .limit) _) .goes (c20 .if1 .left))
           (lead-as (sym (after-members (read-symbol-like (a .input .now) room) (D.read-value (a .input .now) room (a .limit) (a .limit)) 2 0)) (k .0 room (a .limit))),
       λ l. k .1 l .1 refl,
     )
+
+same-length-6 : tie.Need-same-length-6
+same-length-6 c = search needs
 
 pub read-root-spec : {M : Type 1} → statement M
 read-root-spec =
@@ -63,4 +68,5 @@ read-root-spec =
     same-length-3
     same-length-4
     same-length-5
+    same-length-6
     returns-2)

@@ -1,7 +1,8 @@
 // Runs load and dump of the Rattle crates and of the Rust crate on the same inputs and compares what they answer: the refusal
 // and its details, the bytes used, the arena node by node, the bytes dumped, and that these load and dump to themselves; and
-// that ours says yes to dump form exactly where the Rust dumps the bytes used. The measuring load must answer and leave what
-// load does, and count what a walk over the input finds.
+// that ours says yes to dump form exactly where the Rust dumps the bytes used. The measuring and the hashed load must answer and
+// leave what load does, and count what a walk over the input finds; the bucket table, of just as many words as the node table has
+// nodes, must be zero then.
 //
 // usage: differential [CORPUS ..]    after tools/rust/build; a CORPUS is a folder with saved, load-list or load .jsonl
 //
@@ -18,12 +19,11 @@
 // Bignum and `I`; with empty arrays for them, on which `I` is refused as on both, the Rust must give our answer; and where load
 // comes to a Bignum that is refused, ours must give the answer of a reader of Bignums written after the document.
 use beside_rust::bignum::{bignum, Bignum};
-use beside_rust::measure::{integer, measures, wrong_sign_met, Role};
+use beside_rust::measure::{counted, integer, wrong_sign_met, Counted, Role};
 use beside_rust::random::{damaged, value, Random, ALPHABET};
 use beside_rust::room::Room;
 use beside_rust::{inputs, Answer, Tables};
 use ruby_marshal::{Error, SymbolValue, TypedValueHandle, Value, ValueArena, ValueHandle};
-use ruby_marshal_tables::Measures;
 use std::collections::HashSet;
 use std::panic::{catch_unwind, AssertUnwindSafe};
 
@@ -33,6 +33,8 @@ static ROOM: Room = Room;
 const LIMIT: u32 = 128;
 const REFERENCES: [usize; 2] = [4096, 1 << 18];
 const SHOWN: usize = 20;
+// What the bucket table holds before a call.
+const JUNK: u32 = 0xA5A5_A5A5;
 const STACK: usize = 512 << 20;
 
 const LETTERS: &[u8] = b"0i:;@I[}o\"uf\x00\x06\x07\xFA";
@@ -324,9 +326,13 @@ struct Run {
     lent: [Lent; 2],
     /// the measuring load's
     measured: [Lent; 2],
+    /// the hashed load's
+    hashed: [Lent; 2],
     again: Lent,
     /// accepted inputs in which names are compared, and their bytes compared
     compared: [u64; 2],
+    /// accepted inputs in which names are searched for by the hashed load, and the words that it looks at
+    looked: [u64; 2],
     /// nodes compared, by kind
     kinds: [usize; 9],
     /// Floats and Bignums in accepted inputs
@@ -356,7 +362,7 @@ impl Run {
         if ours.number != 0 && self.lent[room].tables.dump_form {
             return Err(format!("load: {ours:?}, and in dump form"));
         }
-        self.compare_measured(input, room, ours)?;
+        self.compare_other_loads(input, room, ours)?;
         if let Some(at) = wrong_sign_met(input, LIMIT, self.lent[room].tables.references.len()) {
             return self.compare_wrong_sign(input, at, room, ours);
         }
@@ -379,19 +385,27 @@ impl Run {
         }
     }
 
-    // The measuring load's answer and tables are load's; its counts are what the walk finds, and 0 where it is refused.
-    fn compare_measured(&mut self, input: &[u8], room: usize, ours: Answer) -> Result<(), String> {
-        let tables = self.measured[room].fit(input.len());
-        let answer = tables.load_measured(input, LIMIT);
-        if answer != ours || !tables.filled_alike(&self.lent[room].tables) {
-            return Err(format!("load_measured: {answer:?}, load {ours:?}; or the tables differ"));
+    // Answer and tables of the measuring and of the hashed load are load's; their counts are what the walk finds, and 0 where it
+    // is refused.
+    fn compare_other_loads(&mut self, input: &[u8], room: usize, ours: Answer) -> Result<(), String> {
+        let [measured, hashed] = [&mut self.measured, &mut self.hashed].map(|lent| lent[room].fit(input.len()));
+        hashed.buckets.fill(JUNK);
+        let answers = [measured.load_measured(input, LIMIT), hashed.load_hashed(input, LIMIT)];
+        let lent = &self.lent[room].tables;
+        if answers != [ours; 2] || !measured.filled_alike(lent) || !hashed.filled_alike(lent) {
+            return Err(format!("load_measured and load_hashed {answers:?}, load {ours:?}; or the tables differ"));
         }
-        let expected = if ours.number == 0 { measures(input) } else { Some((Measures::default(), 0)) };
-        if expected != Some((tables.measures, tables.used)) {
-            return Err(format!("load_measured: {:?}, walked {expected:?}", tables.measures));
+        if hashed.buckets.iter().any(|&word| word != 0) {
+            return Err("load_hashed: the bucket table is not zero".into());
         }
-        self.compared[0] += (tables.measures.compared > 0) as u64;
-        self.compared[1] += tables.measures.compared;
+        let expected = if ours.number == 0 { counted(input, hashed.buckets.len()) } else { Some(Counted::default()) };
+        let (measures, looked) = (measured.measures, hashed.looked);
+        if expected != Some(Counted { used: lent.used, measures, looked }) {
+            return Err(format!("load_measured {measures:?}, load_hashed {looked}, walked {expected:?}"));
+        }
+        for (sum, n) in [(&mut self.compared, measures.compared), (&mut self.looked, looked)] {
+            *sum = [sum[0] + (n > 0) as u64, sum[1] + n];
+        }
         Ok(())
     }
 
@@ -694,11 +708,13 @@ fn made() -> Vec<Vec<u8>> {
 }
 
 fn run(corpora: Vec<String>) -> usize {
-    let [lent, measured] = [REFERENCES, REFERENCES].map(|sizes| sizes.map(Lent::new));
+    let [lent, measured, hashed] = [REFERENCES; 3].map(|sizes| sizes.map(Lent::new));
     let again = Lent::new(REFERENCES[0]);
-    let (compared, kinds, later, refused, later_refused) = ([0; 2], [0; 9], [0; 2], [0; 11], [0; 17]);
+    let (compared, looked, kinds, later, refused, later_refused) = ([0; 2], [0; 2], [0; 9], [0; 2], [0; 11], [0; 17]);
     let (signs, inputs, disagree, row) = ([[0; 4]; 2], 0, 0, [0; 11]);
-    let mut run = Run { lent, measured, again, compared, kinds, later, refused, later_refused, signs, inputs, disagree, row };
+    let mut run = Run {
+        lent, measured, hashed, again, compared, looked, kinds, later, refused, later_refused, signs, inputs, disagree, row,
+    };
     let mut random = Random(48);
     println!(
         "{:<34}{:>9}{:>9}{:>9}{:>9}{:>9}{:>9}{:>9}{:>9}{:>7}{:>9}{:>10}",
@@ -727,6 +743,8 @@ fn run(corpora: Vec<String>) -> usize {
     }
     let [inputs, bytes] = run.compared;
     println!("bytes compared in searches for names: {bytes}, in {inputs} loads");
+    let [inputs, words] = run.looked;
+    println!("words of the bucket table looked at: {words}, in {inputs} loads");
     println!("{} inputs, {} disagree", run.inputs, run.disagree);
     run.disagree
 }

@@ -1,15 +1,17 @@
 // Times load and dump of the Rattle crates and of the Rust crate on the same inputs, and a walk over what they filled, in one
 // run; rounds of the two alternate. Beside load stands what it does at least: tables and lists set to zero and the input copied.
-// The measuring load stands beside load.
+// The measuring and the hashed load stand beside load.
 // Floats and Bignums, which the Rust refuses, are run by ours alone, and beside them the same recipes with strings in their place.
 //
 // usage: perf                    the tables of times
 //        perf names              the bytes that a load copies and compares for recipes of 10, 100 and 1,000 names
+//        perf hashed             load, the hashed load and the Rust on 10 to 30,000 names, with the words looked at per name
 //        perf cost               what recipes of 10, 100 and 512 pairs cost at 1,000 prices, beside a hash map over the views
-//        perf deep CALL KIND     one load, and one dump where CALL is dump, at limit 128 of 128 levels of arrays, hashes,
-//                                defaults, objects or variables, or of nil alone (for trials of the stack)
+//        perf deep CALL KIND     one load, the hashed one where CALL is hashed, and one dump where it is dump, at limit 128 of
+//                                128 levels of arrays, hashes, defaults, objects or variables, or of nil alone (for trials of
+//                                the stack)
 use beside_rust::inputs::*;
-use beside_rust::measure::measures;
+use beside_rust::measure::{counted, Counted};
 use beside_rust::walk;
 use beside_rust::Tables;
 use ruby_marshal_tables::{Node, Value};
@@ -23,11 +25,15 @@ const ROUNDS: usize = 15;
 
 // The least time of each call in nanoseconds; rounds of the calls alternate.
 fn times<const N: usize>(calls: [&mut dyn FnMut(); N]) -> [f64; N] {
+    times_of(ROUNDS, calls)
+}
+
+fn times_of<const N: usize>(rounds: usize, calls: [&mut dyn FnMut(); N]) -> [f64; N] {
     let mut least = [f64::MAX; N];
     let start = Instant::now();
     calls[N - 1]();
     let turns = (20_000_000 / start.elapsed().as_nanos().max(1) as usize).clamp(1, 20000);
-    for _ in 0..ROUNDS {
+    for _ in 0..rounds {
         for i in 0..N {
             let t = Instant::now();
             for _ in 0..turns {
@@ -39,13 +45,13 @@ fn times<const N: usize>(calls: [&mut dyn FnMut(); N]) -> [f64; N] {
     least
 }
 
-// Tables that the input just fills: one entry of a list for each node, two references (more where it has more) and eight bytes.
+// Tables that the input just fills: one entry of a list for each node, two references and eight bytes, more where it has more.
 fn tables(input: &[u8]) -> Tables {
     let mut tables = Tables::ample(input.len());
     assert_eq!(tables.load(input, LIMIT).number, 0);
     assert_eq!(tables.used, input.len());
-    let [n, references, ..] = tables.counts;
-    Tables::new(n, references.max(n * 2), n * 8, input.len())
+    let [n, references, bytes, _] = tables.counts;
+    Tables::new(n, references.max(n * 2), bytes.max(n * 8), input.len())
 }
 
 fn load_row(name: &str, input: &[u8]) {
@@ -90,6 +96,75 @@ fn measured_row(name: &str, input: &[u8]) {
     );
 }
 
+// Tables that the input just fills, with so many words of the bucket table for each node.
+fn tables_with_buckets(input: &[u8], words: usize) -> Tables {
+    let mut tables = tables(input);
+    tables.buckets = vec![0; tables.nodes.len() / 7 * words];
+    tables
+}
+
+// The hashed load beside load, with one and with two words of the bucket table for each node.
+fn hashed_row(name: &str, input: &[u8]) {
+    let (mut plain, mut one, mut two) = (tables(input), tables_with_buckets(input, 1), tables_with_buckets(input, 2));
+    let mut load = || {
+        black_box(plain.load(black_box(input), LIMIT));
+    };
+    let mut by_one = || {
+        black_box(one.load_hashed(black_box(input), LIMIT));
+    };
+    let [load, by_one, by_two] = times([&mut load, &mut by_one, &mut || {
+        black_box(two.load_hashed(black_box(input), LIMIT));
+    }]);
+    println!(
+        "{:<24}{:>9}{:>11.2}{:>11.2}{:>8.2}{:>11.2}{:>8.2}{:>9}",
+        name, input.len(), load / 1000.0, by_one / 1000.0, by_one / load, by_two / 1000.0, by_two / load, one.looked
+    );
+}
+
+// Recipes of many names, each written out once, and an array of nothing else, which fills a bucket table of a word a node. load
+// takes seconds for the most, so that few rounds do.
+fn many_names_table() {
+    const FEW: usize = 3;
+    println!(
+        "{:<34}{:>9}{:>9}{:>12}{:>12}{:>8}{:>12}{:>8}{:>11}",
+        "names", "number", "bytes", "load µs", "1 word µs", "looked", "2 words µs", "looked", "Rust µs"
+    );
+    for (place, input_of) in [("recipe", hash_of as fn(&[String]) -> Vec<u8>), ("array", array_of)] {
+        for (kind, name) in MANY {
+            for n in [10, 100, 1000, 8000, 30_000] {
+                let input = input_of(&(0..n).map(name).collect::<Vec<_>>());
+                let mut plain = tables(&input);
+                let mut hashed = [1, 2].map(|words| tables_with_buckets(&input, words));
+                let looked = hashed.each_mut().map(|tables| {
+                    assert_eq!(tables.load_hashed(&input, LIMIT).number, 0);
+                    let Tables { used, looked, .. } = *tables;
+                    assert_eq!(counted(&input, tables.buckets.len()).map(|c| (c.used, c.looked)), Some((used, looked)));
+                    looked as f64 / n as f64
+                });
+                let [one, two] = &mut hashed;
+                let mut load = || {
+                    black_box(plain.load(black_box(&input), LIMIT));
+                };
+                let mut by_one = || {
+                    black_box(one.load_hashed(black_box(&input), LIMIT));
+                };
+                let mut by_two = || {
+                    black_box(two.load_hashed(black_box(&input), LIMIT));
+                };
+                let [by_one, by_two, theirs] = times([&mut by_one, &mut by_two, &mut || {
+                    black_box(ruby_marshal::load(black_box(&input[..])).unwrap());
+                }]);
+                let [load] = times_of(FEW, [&mut load]);
+                println!(
+                    "{:<34}{:>9}{:>9}{:>12.1}{:>12.1}{:>8.2}{:>12.1}{:>8.2}{:>11.1}",
+                    format!("{place}, {kind}"), n, input.len(), load / 1000.0,
+                    by_one / 1000.0, looked[0], by_two / 1000.0, looked[1], theirs / 1000.0
+                );
+            }
+        }
+    }
+}
+
 // The bytes copied and compared where each name stands in two recipes, in the second written out again or by link.
 fn names_table() {
     println!("{:<24}{:>7}{:>12}{:>18}{:>18}", "names", "number", "copied", "compared, by :", "compared, by ;");
@@ -100,7 +175,8 @@ fn names_table() {
                 let input = repeated(&names, linked);
                 let mut tables = Tables::ample(input.len());
                 assert_eq!(tables.load_measured(&input, LIMIT).number, 0);
-                assert_eq!(Some((tables.measures, tables.used)), measures(&input));
+                let Tables { used, measures, .. } = tables;
+                assert!(matches!(counted(&input, tables.buckets.len()), Some(c) if c == Counted { used, measures, ..c }));
                 tables.measures
             });
             assert_eq!(again.copied, linked.copied);
@@ -218,7 +294,8 @@ fn main() {
     if words.len() == 4 && words[1] == "deep" {
         let input = nested(&words[3]);
         let mut tables = Tables::new(400, 800, 3200, 4000);
-        assert_eq!(tables.load(&input, LIMIT).number, 0);
+        let loaded = if words[2] == "hashed" { tables.load_hashed(&input, LIMIT) } else { tables.load(&input, LIMIT) };
+        assert_eq!(loaded.number, 0);
         if words[2] == "dump" {
             assert_eq!(tables.dump(LIMIT).number, 0);
         }
@@ -227,6 +304,9 @@ fn main() {
     }
     if words.len() == 2 && words[1] == "names" {
         return names_table();
+    }
+    if words.len() == 2 && words[1] == "hashed" {
+        return many_names_table();
     }
     if words.len() == 2 && words[1] == "cost" {
         return cost_table();
@@ -251,6 +331,13 @@ fn main() {
     println!("{:<24}{:>9}{:>11}{:>11}{:>8}{:>16}", "load_measured", "bytes", "load µs", "µs", "times", "bytes compared");
     for (name, input) in &inputs {
         measured_row(name, input);
+    }
+    println!(
+        "{:<24}{:>9}{:>11}{:>11}{:>8}{:>11}{:>8}{:>9}",
+        "load_hashed", "bytes", "load µs", "1 word µs", "times", "2 words µs", "times", "looked"
+    );
+    for (name, input) in &inputs {
+        hashed_row(name, input);
     }
     println!("{:<24}{:>9}{:>9}{:>11}{:>11}{:>11}{:>8}{:>8}", "dump", "bytes", "nodes", "ours µs", "its check", "Rust µs", "faster", "less it");
     for (name, input) in &inputs {

@@ -1,5 +1,6 @@
 -- The cycle's measures, what is asked and known of each call, and the loop's invariant.
 use Prim.Native.Nat.{_+_, _-_, _*_}
+use Rattle.loader.specs.Holds.{by-buckets}
 use Rattle.value_reader.proofs.Members.{Turning}
 use Prim.Native.Nat.{ℕ, _<_}
 use borrow.Fn.Kinds.{In}
@@ -35,107 +36,107 @@ use Rattle.loader.proofs.read_symbol_like.Reads as read-symbol-like-reads
 use Rattle.loader.proofs.read_words.Reads as read-words-reads
 use Rattle.loader.proofs.set_variables.Reads as set-variables-reads
 
-abbrev pub μ-read-array : Measures 7 read-array-kinds.ps ℕ
+abbrev pub μ-read-array : Measures 8 read-array-kinds.ps ℕ
 μ-read-array κs a =
-    4 * a .1 .1 .1 .1 .1 .1 .1 .0 + 3
-
-abbrev pub μ-read-hash : Measures 7 read-hash-kinds.ps ℕ
-μ-read-hash κs a =
     4 * a .1 .1 .1 .1 .1 .1 .1 .1 .0 + 3
 
-abbrev pub μ-read-inner : Measures 7 read-inner-kinds.ps ℕ
+abbrev pub μ-read-hash : Measures 8 read-hash-kinds.ps ℕ
+μ-read-hash κs a =
+    4 * a .1 .1 .1 .1 .1 .1 .1 .1 .1 .0 + 3
+
+abbrev pub μ-read-inner : Measures 8 read-inner-kinds.ps ℕ
 μ-read-inner κs a =
-    4 * a .1 .1 .1 .1 .1 .1 .1 .0 + 2
+    4 * a .1 .1 .1 .1 .1 .1 .1 .1 .0 + 2
 
-abbrev pub μ-read-members : Measures 7 read-members-kinds.ps ℕ
+abbrev pub μ-read-members : Measures 8 read-members-kinds.ps ℕ
 μ-read-members κs a =
-    4 * a .1 .1 .1 .1 .1 .1 .1 .1 .1 .1 .1 .0 + 1
+    4 * a .1 .1 .1 .1 .1 .1 .1 .1 .1 .1 .1 .1 .0 + 1
 
-abbrev pub μ-read-object : Measures 7 read-object-kinds.ps ℕ
+abbrev pub μ-read-object : Measures 8 read-object-kinds.ps ℕ
 μ-read-object κs a =
-    4 * a .1 .1 .1 .1 .1 .1 .1 .0 + 3
+    4 * a .1 .1 .1 .1 .1 .1 .1 .1 .0 + 3
 
-abbrev pub μ-read-value : Measures 7 read-value-kinds.ps ℕ
+abbrev pub μ-read-value : Measures 8 read-value-kinds.ps ℕ
 μ-read-value κs a =
-    4 * a .1 .1 .1 .1 .1 .1 .1 .0
+    4 * a .1 .1 .1 .1 .1 .1 .1 .1 .0
 
-abbrev pub μ-read-variables : Measures 7 read-variables-kinds.ps ℕ
+abbrev pub μ-read-variables : Measures 8 read-variables-kinds.ps ℕ
 μ-read-variables κs a =
-    4 * a .1 .1 .1 .1 .1 .1 .1 .0 + 3
+    4 * a .1 .1 .1 .1 .1 .1 .1 .1 .0 + 3
 
-abbrev pub read-array-at : ℕ → In 7 read-array-kinds.ps
+abbrev pub read-array-at : ℕ → In 8 read-array-kinds.ps
 read-array-at t =
-    and 7 read-array-kinds.ps (is 7 read-array-kinds.ps μ-read-array t) read-array.Pre
+    and 8 read-array-kinds.ps (is 8 read-array-kinds.ps μ-read-array t) read-array.Pre
 
-abbrev pub read-array-below : ℕ → In 7 read-array-kinds.ps
+abbrev pub read-array-below : ℕ → In 8 read-array-kinds.ps
 read-array-below t =
-    and 7 read-array-kinds.ps (falls 7 read-array-kinds.ps _<_ μ-read-array t) read-array.Pre
+    and 8 read-array-kinds.ps (falls 8 read-array-kinds.ps _<_ μ-read-array t) read-array.Pre
 
-abbrev pub read-hash-at : ℕ → In 7 read-hash-kinds.ps
-read-hash-at t = and 7 read-hash-kinds.ps (is 7 read-hash-kinds.ps μ-read-hash t) read-hash.Pre
+abbrev pub read-hash-at : ℕ → In 8 read-hash-kinds.ps
+read-hash-at t = and 8 read-hash-kinds.ps (is 8 read-hash-kinds.ps μ-read-hash t) read-hash.Pre
 
-abbrev pub read-hash-below : ℕ → In 7 read-hash-kinds.ps
+abbrev pub read-hash-below : ℕ → In 8 read-hash-kinds.ps
 read-hash-below t =
-    and 7 read-hash-kinds.ps (falls 7 read-hash-kinds.ps _<_ μ-read-hash t) read-hash.Pre
+    and 8 read-hash-kinds.ps (falls 8 read-hash-kinds.ps _<_ μ-read-hash t) read-hash.Pre
 
-abbrev pub read-inner-at : ℕ → In 7 read-inner-kinds.ps
+abbrev pub read-inner-at : ℕ → In 8 read-inner-kinds.ps
 read-inner-at t =
-    and 7 read-inner-kinds.ps (is 7 read-inner-kinds.ps μ-read-inner t) read-inner.Pre
+    and 8 read-inner-kinds.ps (is 8 read-inner-kinds.ps μ-read-inner t) read-inner.Pre
 
-abbrev pub read-inner-below : ℕ → In 7 read-inner-kinds.ps
+abbrev pub read-inner-below : ℕ → In 8 read-inner-kinds.ps
 read-inner-below t =
-    and 7 read-inner-kinds.ps (falls 7 read-inner-kinds.ps _<_ μ-read-inner t) read-inner.Pre
+    and 8 read-inner-kinds.ps (falls 8 read-inner-kinds.ps _<_ μ-read-inner t) read-inner.Pre
 
-abbrev pub read-members-at : ℕ → In 7 read-members-kinds.ps
+abbrev pub read-members-at : ℕ → In 8 read-members-kinds.ps
 read-members-at t =
-    and 7 read-members-kinds.ps (is 7 read-members-kinds.ps μ-read-members t) read-members.Pre
+    and 8 read-members-kinds.ps (is 8 read-members-kinds.ps μ-read-members t) read-members.Pre
 
-abbrev pub read-members-below : ℕ → In 7 read-members-kinds.ps
+abbrev pub read-members-below : ℕ → In 8 read-members-kinds.ps
 read-members-below t =
     and
-    7
+    8
     read-members-kinds.ps
-    (falls 7 read-members-kinds.ps _<_ μ-read-members t)
+    (falls 8 read-members-kinds.ps _<_ μ-read-members t)
     read-members.Pre
 
-abbrev pub read-object-at : ℕ → In 7 read-object-kinds.ps
+abbrev pub read-object-at : ℕ → In 8 read-object-kinds.ps
 read-object-at t =
-    and 7 read-object-kinds.ps (is 7 read-object-kinds.ps μ-read-object t) read-object.Pre
+    and 8 read-object-kinds.ps (is 8 read-object-kinds.ps μ-read-object t) read-object.Pre
 
-abbrev pub read-object-below : ℕ → In 7 read-object-kinds.ps
+abbrev pub read-object-below : ℕ → In 8 read-object-kinds.ps
 read-object-below t =
-    and 7 read-object-kinds.ps (falls 7 read-object-kinds.ps _<_ μ-read-object t) read-object.Pre
+    and 8 read-object-kinds.ps (falls 8 read-object-kinds.ps _<_ μ-read-object t) read-object.Pre
 
-abbrev pub read-value-at : ℕ → In 7 read-value-kinds.ps
+abbrev pub read-value-at : ℕ → In 8 read-value-kinds.ps
 read-value-at t =
-    and 7 read-value-kinds.ps (is 7 read-value-kinds.ps μ-read-value t) read-value.Pre
+    and 8 read-value-kinds.ps (is 8 read-value-kinds.ps μ-read-value t) read-value.Pre
 
-abbrev pub read-value-below : ℕ → In 7 read-value-kinds.ps
+abbrev pub read-value-below : ℕ → In 8 read-value-kinds.ps
 read-value-below t =
-    and 7 read-value-kinds.ps (falls 7 read-value-kinds.ps _<_ μ-read-value t) read-value.Pre
+    and 8 read-value-kinds.ps (falls 8 read-value-kinds.ps _<_ μ-read-value t) read-value.Pre
 
-abbrev pub read-variables-at : ℕ → In 7 read-variables-kinds.ps
+abbrev pub read-variables-at : ℕ → In 8 read-variables-kinds.ps
 read-variables-at t =
     and
-    7
+    8
     read-variables-kinds.ps
-    (is 7 read-variables-kinds.ps μ-read-variables t)
+    (is 8 read-variables-kinds.ps μ-read-variables t)
     read-variables.Pre
 
-abbrev pub read-variables-below : ℕ → In 7 read-variables-kinds.ps
+abbrev pub read-variables-below : ℕ → In 8 read-variables-kinds.ps
 read-variables-below t =
     and
-    7
+    8
     read-variables-kinds.ps
-    (falls 7 read-variables-kinds.ps _<_ μ-read-variables t)
+    (falls 8 read-variables-kinds.ps _<_ μ-read-variables t)
     read-variables.Pre
 
 abbrev pub read-members-Inv-loop : read-members-lts.InvT-loop
-read-members-Inv-loop input nodes₀ references₀ bytes₀ symbols₀ objects₀ c₀ start end more names levels to₀ nodes references bytes symbols objects c to =
-    Turning input nodes₀ references₀ bytes₀ symbols₀ objects₀ c₀ start end names levels nodes references bytes symbols objects c to
+read-members-Inv-loop input nodes₀ references₀ bytes₀ symbols₀ objects₀ buckets₀ c₀ start end more names levels to₀ nodes references bytes symbols objects buckets c to =
+    Turning input nodes₀ references₀ bytes₀ (by-buckets symbols₀ buckets₀) objects₀ c₀ start end names levels nodes references bytes (by-buckets symbols buckets) objects c to
 
 abbrev pub read-members-μ-loop : read-members-lts.MeasureT-loop
-read-members-μ-loop input nodes₀ references₀ bytes₀ symbols₀ objects₀ c₀ start end more names levels to₀ nodes references bytes symbols objects c to =
+read-members-μ-loop input nodes₀ references₀ bytes₀ symbols₀ objects₀ buckets₀ c₀ start end more names levels to₀ nodes references bytes symbols objects buckets c to =
     end + more - to
 
 abbrev pub read-array-calls : ℕ → read-array-lts.Claims
