@@ -42,11 +42,11 @@ kind-test x h l k a b s n c f =
     (λ e. eq-eqb k x (kind-is k a b s n c f x (eqb-true (kind (row-of k a b s n c f)) x e) h))
     (λ e. let q = eqb-true k x e in eq-eqb _ x (kind-of k a b s n c f (omega (arith, q)) ∙ q))
 
-first-word : (t : List ℕ) (i : ℕ) → getD (take width (drop (i * width) t)) 0 0 ≡ getD t (i * 7) 0
-first-word t i = getD-take 7 (drop (i * 7) t) 0 0 (omega arith) ∙ getD-drop (i * 7) t 0 0 ∙ ap (λ (k : ℕ). getD t k 0) (omega arith)
+first-word : (t : List ℕ) (i : ℕ) → getD (take width (drop (i * width) t)) 0 0 ≡ getD t (i * width) 0
+first-word t i = getD-take width (drop (i * width) t) 0 0 (omega arith) ∙ getD-drop (i * width) t 0 0 ∙ ap (λ (k : ℕ). getD t k 0) (omega arith)
 
 -- a name is a node below the count whose word 0 is 3
-pub name-at : (A : Arena) (n : ℕ) (t : List ℕ) (i : ℕ) → A .nodes ≡ rows n t → i < n → eqb (getD t (i * 7) 0) 3 ≡ is-name A i
+pub name-at : (A : Arena) (n : ℕ) (t : List ℕ) (i : ℕ) → A .nodes ≡ rows n t → i < n → eqb (getD t (i * width) 0) 3 ≡ is-name A i
 unfolding is-name node row
 name-at A n t i e h =
     sym (ap (λ (l : List Row). eqb (kind (getD l i nil)) 3) e

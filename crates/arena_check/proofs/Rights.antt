@@ -12,15 +12,15 @@ use lib.ListN.{length, getD, take, drop, length-drop}
 use lib.Seq.{getD-drop, length-take-le, drop-drop, take-take}
 use borrow.Author.Tests.{le-leb, lt-leb, lt-ltb, le-ltb, ne-eqb}
 use Rattle.definition.specs.Run.{pick}
-use Rattle.definition.specs.Node.{Row, row, row-of, vars, is-row}
+use Rattle.definition.specs.Node.{Row, row, row-of, vars, is-row, width, START, LENGTH, LIST, COUNT, NAME, DEFAULT}
 use Rattle.definition.specs.Magnitude.{magnitude, fits as magnitude-fits}
-use Rattle.definition.specs.Arena.{Arena, Tables, arena, range, firsts, all-below, all-names, is-name, bytes-right, list-right, pairs-right, vars-right, number-right, row-right, node-right, faulty, counts-fit, fault, fault-if}
+use Rattle.definition.specs.Arena.{Arena, Tables, arena, range, firsts, all-below, all-names, is-name, bytes-right, list-right, pairs-right, vars-right, number-right, row-right, node-right, faulty, counts-fit, fault, fault-if, counts-of}
 use Rattle.definition.specs.declared.Counts.{Counts}
 use Rattle.definition.specs.declared.Fault.{Fault}
 use Rattle.definition.specs.declared.Fault.the-variants.{Counts as BadCounts, Node}
 use Rattle.arena_check.specs.declared.Checked.{Checked}
 use Rattle.arena_check.specs.declared.Checked.the-variants.{Right, Wrong}
-use Rattle.arena_check.specs.Held.{Held, Fits, FitIf, counted}
+use Rattle.arena_check.specs.Held.{Held, Fits, FitIf}
 use Rattle.arena_check.proofs.Rows.{row-2}
 
 -- ---- ranges and lists
@@ -140,7 +140,7 @@ module _ (A : Arena) (a b s n c f : ℕ) where
 
 -- ---- nodes
 
-seven : (t : List ℕ) → 7 ≤ length t → take 7 t ≡ getD t 0 0 ∷ getD t 1 0 ∷ getD t 2 0 ∷ getD t 3 0 ∷ getD t 4 0 ∷ getD t 5 0 ∷ getD t 6 0 ∷ []
+seven : (t : List ℕ) → width ≤ length t → take width t ≡ getD t 0 0 ∷ getD t 1 0 ∷ getD t 2 0 ∷ getD t 3 0 ∷ getD t 4 0 ∷ getD t 5 0 ∷ getD t 6 0 ∷ []
 seven [] h = absurd (omega arith)
 seven (a ∷ []) h = absurd (omega arith)
 seven (a ∷ b ∷ []) h = absurd (omega arith)
@@ -151,7 +151,7 @@ seven (a ∷ b ∷ c ∷ d ∷ e ∷ f ∷ []) h = absurd (omega arith)
 seven (a ∷ b ∷ c ∷ d ∷ e ∷ f ∷ g ∷ t) h = refl
 
 -- the seven words of node i
-pub node-words : (t : List ℕ) (at : ℕ) → at + 7 ≤ length t → take 7 (drop at t) ≡ getD t at 0 ∷ getD t (at + 1) 0 ∷ getD t (at + 2) 0 ∷ getD t (at + 3) 0 ∷ getD t (at + 4) 0 ∷ getD t (at + 5) 0 ∷ getD t (at + 6) 0 ∷ []
+pub node-words : (t : List ℕ) (at : ℕ) → at + width ≤ length t → take width (drop at t) ≡ getD t at 0 ∷ getD t (at + START) 0 ∷ getD t (at + LENGTH) 0 ∷ getD t (at + LIST) 0 ∷ getD t (at + COUNT) 0 ∷ getD t (at + NAME) 0 ∷ getD t (at + DEFAULT) 0 ∷ []
 node-words t at h =
     let z : at + 0 ≡ at = omega arith in
     seven (drop at t) (rw (length-drop at t) (omega arith))
@@ -178,30 +178,30 @@ node-fixnum A ws k a b s n c f e q =
 
 module _ (A : Arena) (t : List ℕ) (n i : ℕ) where
   abbrev left : ℕ → Option Fault
-  left k = faulty A (n - k) k (drop (k * 7) t)
+  left k = faulty A (n - k) k (drop (k * width) t)
 
-  begin : i < n → left i ≡ pick (node-right A (take 7 (drop (i * 7) t))) (faulty A (n - (i + 1)) (suc i) (drop 7 (drop (i * 7) t))) (some (Node i))
+  begin : i < n → left i ≡ pick (node-right A (take width (drop (i * width) t))) (faulty A (n - (i + 1)) (suc i) (drop width (drop (i * width) t))) (some (Node i))
   unfolding faulty
-  begin h = let z : n - i ≡ suc (n - (i + 1)) = omega arith in ap (λ (k : ℕ). faulty A k i (drop (i * 7) t)) z
+  begin h = let z : n - i ≡ suc (n - (i + 1)) = omega arith in ap (λ (k : ℕ). faulty A k i (drop (i * width) t)) z
 
-  pub faulty-on : i < n → true ≡ node-right A (take 7 (drop (i * 7) t)) → left i ≡ left (i + 1)
+  pub faulty-on : i < n → true ≡ node-right A (take width (drop (i * width) t)) → left i ≡ left (i + 1)
   unfolding pick
   faulty-on h r =
-      let z : i * 7 + 7 ≡ (i + 1) * 7 = omega arith in
+      let z : i * width + width ≡ (i + 1) * width = omega arith in
       begin h
-      ∙ ap (λ (b : Bool). pick b (faulty A (n - (i + 1)) (suc i) (drop 7 (drop (i * 7) t))) (some (Node i))) (sym r)
-      ∙ (λ j. faulty A (n - (i + 1)) (sym (add-one i) j) ((drop-drop 7 (i * 7) t ∙ ap (λ (k : ℕ). drop k t) z) j))
+      ∙ ap (λ (b : Bool). pick b (faulty A (n - (i + 1)) (suc i) (drop width (drop (i * width) t))) (some (Node i))) (sym r)
+      ∙ (λ j. faulty A (n - (i + 1)) (sym (add-one i) j) ((drop-drop width (i * width) t ∙ ap (λ (k : ℕ). drop k t) z) j))
 
-  pub faulty-here : i < n → false ≡ node-right A (take 7 (drop (i * 7) t)) → some (Node i) ≡ left i
+  pub faulty-here : i < n → false ≡ node-right A (take width (drop (i * width) t)) → some (Node i) ≡ left i
   unfolding pick
   faulty-here h r =
-      sym (begin h ∙ ap (λ (b : Bool). pick b (faulty A (n - (i + 1)) (suc i) (drop 7 (drop (i * 7) t))) (some (Node i))) (sym r))
+      sym (begin h ∙ ap (λ (b : Bool). pick b (faulty A (n - (i + 1)) (suc i) (drop width (drop (i * width) t))) (some (Node i))) (sym r))
 
   pub faulty-none : n ≤ i → none ≡ left i
   unfolding faulty
-  faulty-none h = let z : n - i ≡ 0 = omega arith in sym (ap (λ (k : ℕ). faulty A k i (drop (i * 7) t)) z)
+  faulty-none h = let z : n - i ≡ 0 = omega arith in sym (ap (λ (k : ℕ). faulty A k i (drop (i * width) t)) z)
 
-pub faulty-start : (A : Arena) (t : List ℕ) (n : ℕ) → faulty A n 0 t ≡ faulty A (n - 0) 0 (drop (0 * 7) t)
+pub faulty-start : (A : Arena) (t : List ℕ) (n : ℕ) → faulty A n 0 t ≡ faulty A (n - 0) 0 (drop (0 * width) t)
 faulty-start A t n = ap (λ (k : ℕ). faulty A k 0 t) (omega arith)
 
 -- ---- counts
@@ -211,15 +211,15 @@ lengths T n r b = (length (T .nodes) ≡ n) × (length (T .references) ≡ r) ×
 
 -- the five tests in order
 five : ℕ → ℕ → ℕ → ℕ → ℕ → ℕ → ℕ → Bool
-five n r b x y z root = leb 1 x && leb x (n / 7) && leb y r && leb z b && ltb root x
+five n r b x y z root = leb 1 x && leb x (n / width) && leb y r && leb z b && ltb root x
 
-counts-are : (T : Tables) (n r b x y z root : ℕ) → lengths T n r b → five n r b x y z root ≡ counts-fit T (counted x y z root)
+counts-are : (T : Tables) (n r b x y z root : ℕ) → lengths T n r b → five n r b x y z root ≡ counts-fit T (counts-of x y z root)
 unfolding counts-fit five
-counts-are T n r b x y z root (p, q, s) = λ i. leb 1 x && leb x (sym p i / 7) && leb y (sym q i) && leb z (sym s i) && ltb root x
+counts-are T n r b x y z root (p, q, s) = λ i. leb 1 x && leb x (sym p i / width) && leb y (sym q i) && leb z (sym s i) && ltb root x
 
 module _ (n r b x y z root : ℕ) where
   abbrev Is : Bool → Type 0
-  Is t = (T : Tables) → length (T .nodes) ≡ n → length (T .references) ≡ r → length (T .bytes) ≡ b → t ≡ counts-fit T (counted x y z root)
+  Is t = (T : Tables) → length (T .nodes) ≡ n → length (T .references) ≡ r → length (T .bytes) ≡ b → t ≡ counts-fit T (counts-of x y z root)
 
   by : (t : Bool) → t ≡ five n r b x y z root → Is t
   by t e T p q s = e ∙ counts-are T n r b x y z root (p, q, s)
@@ -228,23 +228,23 @@ module _ (n r b x y z root : ℕ) where
   unfolding five
   no-nodes h = by false (sym (rw h refl))
 
-  pub nodes-past : n / 7 < x → Is false
+  pub nodes-past : n / width < x → Is false
   unfolding five
-  nodes-past h = by false (sym (rw (lt-leb x (n / 7) h, and-false (leb 1 x)) refl))
+  nodes-past h = by false (sym (rw (lt-leb x (n / width) h, and-false (leb 1 x)) refl))
 
   pub references-past : r < y → Is false
   unfolding five
-  references-past h = by false (sym (rw (lt-leb y r h, and-false (leb 1 x && leb x (n / 7))) refl))
+  references-past h = by false (sym (rw (lt-leb y r h, and-false (leb 1 x && leb x (n / width))) refl))
 
   pub bytes-past : b < z → Is false
   unfolding five
-  bytes-past h = by false (sym (rw (lt-leb z b h, and-false (leb 1 x && leb x (n / 7) && leb y r)) refl))
+  bytes-past h = by false (sym (rw (lt-leb z b h, and-false (leb 1 x && leb x (n / width) && leb y r)) refl))
 
-  pub counts-in : (x ≡ 0 → ⊥) → x ≤ n / 7 → y ≤ r → z ≤ b → (t : ℕ) → t ≡ root → Is (ltb t x)
+  pub counts-in : (x ≡ 0 → ⊥) → x ≤ n / width → y ≤ r → z ≤ b → (t : ℕ) → t ≡ root → Is (ltb t x)
   unfolding five
-  counts-in h₁ h₂ h₃ h₄ t e = by (ltb t x) (sym (rw (le-leb 1 x (omega arith), le-leb x (n / 7) h₂, le-leb y r h₃, le-leb z b h₄) (ap (λ (k : ℕ). ltb k x) (sym e))))
+  counts-in h₁ h₂ h₃ h₄ t e = by (ltb t x) (sym (rw (le-leb 1 x (omega arith), le-leb x (n / width) h₂, le-leb y r h₃, le-leb z b h₄) (ap (λ (k : ℕ). ltb k x) (sym e))))
 
-  pub fits : x ≤ n / 7 → y ≤ r → z ≤ b → (t : ℕ) → t ≡ root → t < x → Fits n r b (counted x y z root)
+  pub fits : x ≤ n / width → y ≤ r → z ≤ b → (t : ℕ) → t ≡ root → t < x → Fits n r b (counts-of x y z root)
   fits h₁ h₂ h₃ t e l = record { nodes-fit = omega arith; references-fit = h₂; bytes-fit = h₃; root-fits = omega arith }
 
 -- ---- the whole check

@@ -5,7 +5,7 @@ use mathlib.Core.List.{List}
 use mathlib.Core.Option.{Option, none, some}
 use lib.ListN.{length, take}
 use Rattle.definition.specs.Node.{width, rows}
-use Rattle.definition.specs.Arena.{Arena, Tables}
+use Rattle.definition.specs.Arena.{Arena}
 use Rattle.definition.specs.declared.Counts.{Counts}
 use Rattle.definition.specs.declared.Fault.{Fault}
 use Rattle.arena_check.specs.declared.Checked.{Checked}
@@ -16,9 +16,6 @@ pub record Held (A : Arena) (nodes references : List ℕ) (node-count reference-
   pub nodes-same : A .nodes ≡ rows node-count nodes
   pub references-same : A .references ≡ take reference-count references
   pub bytes-same : length (A .bytes) ≡ byte-count
-
-abbrev pub tables : List ℕ → List ℕ → List ℕ → Tables
-tables n r b = record { nodes = n; references = r; bytes = b }
 
 abbrev pub checked : Checked → Option Fault
 checked Right = none
@@ -34,6 +31,3 @@ pub record Fits (nodes references bytes : ℕ) (c : Counts) : Type 0 where
 abbrev pub FitIf : Checked → ℕ → ℕ → ℕ → Counts → Type 0
 FitIf Right n r b c = Fits n r b c
 FitIf (Wrong f) n r b c = Unit {0}
-
-abbrev pub counted : ℕ → ℕ → ℕ → ℕ → Counts
-counted n r b root = record { nodes = n; references = r; bytes = b; root = root }

@@ -4,6 +4,7 @@ use definition::Bignum;
 use definition::Counts;
 use definition::Fault;
 use definition::Node;
+use definition::Slice;
 ghost use mathlib.Core.Path.{_≡_};
 ghost use mathlib.Core.Bool.{true};
 ghost use mathlib.Core.List.{[], _∷_};
@@ -13,9 +14,10 @@ ghost use lib.ListN.{length, take, drop};
 ghost use Rattle.definition.specs.Node.{width, is-row, row-of, rows, vars};
 ghost use Rattle.definition.specs.Magnitude.{magnitude};
 ghost use Rattle.definition.specs.Run.{pick};
-ghost use Rattle.definition.specs.Arena.{Arena, Tables, too-long, bad-nodes, range, firsts, all-below, all-names, is-name, bytes-right, list-right, pairs-right, vars-right, number-right, row-right, node-right, faulty, counts-fit, fault};
+ghost use Rattle.definition.specs.Arena.{Arena, Tables, too-long, bad-nodes, range, firsts, all-below, all-names, is-name, bytes-right, list-right, pairs-right, vars-right, number-right, row-right, node-right, faulty, counts-fit, fault, tables-of, counts-of};
+ghost use Rattle.definition.specs.Slice.{greatest-length};
 ghost use Rattle.lists.specs.Slices.{Named, Small};
-ghost use Rattle.arena_check.specs.Held.{Held, checked, tables, Fits, FitIf, counted};
+ghost use Rattle.arena_check.specs.Held.{Held, checked, Fits, FitIf};
 
 pub enum Checked {
     Right,
@@ -27,7 +29,7 @@ pub enum Checked {
 pub fn too_long(n: usize) -> bool
     ensures { λ r. ⌜ r ≡ too-long n ⌝ }
 {
-    2147483647 < n
+    Slice::GREATEST < n
 }
 
 fn wrong_nodes(n: usize) -> bool
@@ -49,12 +51,12 @@ pub fn wrong_table(nodes: usize, references: usize, bytes: usize, more: u32) -> 
     ensures { λ r. ⌜ (r ≡ 0 → Small nodes references bytes × (more ≡ 0)) ⌝ }
 {
     first_wrong(
-        1,
+        Slice::NODES,
         wrong_nodes(nodes),
         first_wrong(
-            2,
+            Slice::REFERENCES,
             too_long(references),
-            first_wrong(3, too_long(bytes), more),
+            first_wrong(Slice::BYTES, too_long(bytes), more),
         ),
     )
 }
@@ -350,7 +352,7 @@ fn first_faulty(
     used: usize,
     stored: usize,
 ) -> Checked
-    requires { ⌜ (length (now nodes) ≤ 2147483647) × (count * width ≤ length (now nodes)) × (used ≤ length (now references)) ⌝ }
+    requires { ⌜ (length (now nodes) ≤ greatest-length) × (count * width ≤ length (now nodes)) × (used ≤ length (now references)) ⌝ }
     ensures { λ r. ⌜ ((A : Arena) → Held A (now (nodes .entry)) (now (references .entry)) count used stored → checked r ≡ faulty A count 0 (now (nodes .entry))) ⌝ }
 {
     let mut i = 0;
@@ -373,8 +375,8 @@ fn counts_fit_at(
     stored: usize,
     root: u32,
 ) -> bool
-    ensures { λ r. ⌜ ((T : Tables) → length (T .nodes) ≡ nodes → length (T .references) ≡ references → length (T .bytes) ≡ bytes → r ≡ counts-fit T (counted count used stored root)) ⌝ }
-    ensures { λ r. ⌜ (r ≡ true → Fits nodes references bytes (counted count used stored root)) ⌝ }
+    ensures { λ r. ⌜ ((T : Tables) → length (T .nodes) ≡ nodes → length (T .references) ≡ references → length (T .bytes) ≡ bytes → r ≡ counts-fit T (counts-of count used stored root)) ⌝ }
+    ensures { λ r. ⌜ (r ≡ true → Fits nodes references bytes (counts-of count used stored root)) ⌝ }
 {
     if count == 0 {
         return false;
@@ -393,8 +395,8 @@ fn counts_fit_at(
 
 // BAD-ARENA: what is not well formed, counts before nodes.
 pub fn check(nodes: &[u32], references: &[u32], bytes: &[u8], counts: Counts) -> Checked
-    requires { ⌜ length (now nodes) ≤ 2147483647 ⌝ }
-    ensures { λ r. ⌜ checked r ≡ fault (tables (now (nodes .entry)) (now (references .entry)) (now (bytes .entry))) counts ⌝ }
+    requires { ⌜ length (now nodes) ≤ greatest-length ⌝ }
+    ensures { λ r. ⌜ checked r ≡ fault (tables-of (now (nodes .entry)) (now (references .entry)) (now (bytes .entry))) counts ⌝ }
     ensures { λ r. ⌜ FitIf r (length (now (nodes .entry))) (length (now (references .entry))) (length (now (bytes .entry))) counts ⌝ }
 {
     let count = counts.nodes;

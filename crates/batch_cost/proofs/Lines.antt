@@ -10,7 +10,7 @@ use mathlib.Core.Option.{Option, none, some}
 use lib.ListN.{length, getD, take, drop, drop-of-length-le}
 use lib.Seq.{drop-cons, take-suc, take-all, length-take-le}
 use Rattle.definition.specs.Run.{ok, refused, pure, refuse, next, _>>=_, pick}
-use Rattle.definition.specs.Node.{equal}
+use Rattle.definition.specs.Node.{equal, START}
 use Rattle.definition.specs.Build.{Lent}
 use Rattle.definition.specs.Cost.{Line, has-name, surviving, price, line-cost, priced, sum}
 use Rattle.definition.specs.declared.Refusal.the-variants.{NoPrice}
@@ -244,12 +244,12 @@ module _ (nodes bytes recipe prices : List ℕ) (i : ℕ) (h : i * 2 + 2 ≤ len
   unpriced-costs e z = record { unpriced = λ _ total L. no-price R P i _ at-i total L e z; added = λ n. absurd (n refl); most = λ n. absurd (n refl) }
 
   pub line-costs : last name R ≡ i + 1 → (j : ℕ) → last name P ≡ j → (j ≡ 0 → ⊥) → j * 2 ≤ length prices
-      → (r : ℕ) → r ≡ line-cost (word nodes (getD recipe (i * 2 + 1) 0) 1) (word nodes (getD prices (j * 2 - 1) 0) 1) → r ≤ 4611686014132421 → Costs R P i k r
+      → (r : ℕ) → r ≡ line-cost (word nodes (getD recipe (i * 2 + 1) 0) START) (word nodes (getD prices (j * 2 - 1) 0) START) → r ≤ 4611686014132421 → Costs R P i k r
   line-costs e j z n l r c m =
       let s : j ≡ suc (j - 1) = omega (arith, n) in
       let w : (j - 1) * 2 + 1 ≡ j * 2 - 1 = omega (arith, n) in
-      let part : (total : ℕ) (L : Lent) → sum (surviving P) total (surviving (drop i R)) L ≡ sum (surviving P) (total + line-cost (word nodes (getD recipe (i * 2 + 1) 0) 1) (word nodes (getD prices ((j - 1) * 2 + 1) 0) 1)) (surviving (drop (i + 1) R)) L =
+      let part : (total : ℕ) (L : Lent) → sum (surviving P) total (surviving (drop i R)) L ≡ sum (surviving P) (total + line-cost (word nodes (getD recipe (i * 2 + 1) 0) START) (word nodes (getD prices ((j - 1) * 2 + 1) 0) 1)) (surviving (drop (i + 1) R)) L =
       λ total L. its-part R P i _ at-i total L e (j - 1) _ (z ∙ s) (line-here nodes bytes prices (j - 1) (omega (arith, n, l)))
       in
-      let q : line-cost (word nodes (getD recipe (i * 2 + 1) 0) 1) (word nodes (getD prices ((j - 1) * 2 + 1) 0) 1) ≡ r = ap (λ (x : ℕ). line-cost (word nodes (getD recipe (i * 2 + 1) 0) 1) (word nodes (getD prices x 0) 1)) w ∙ sym c in
+      let q : line-cost (word nodes (getD recipe (i * 2 + 1) 0) START) (word nodes (getD prices ((j - 1) * 2 + 1) 0) 1) ≡ r = ap (λ (x : ℕ). line-cost (word nodes (getD recipe (i * 2 + 1) 0) START) (word nodes (getD prices x 0) START)) w ∙ sym c in
       record { unpriced = λ x. absurd (omega (arith, x, m)); added = λ _ total L. part total L ∙ ap (λ (x : ℕ). sum (surviving P) (total + x) (surviving (drop (i + 1) R)) L) q; most = λ _. m }

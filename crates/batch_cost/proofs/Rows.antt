@@ -10,7 +10,7 @@ use lib.Dec.{eqb, ltb, leb}
 use lib.ListN.{length, getD, take, drop}
 use borrow.Author.Tests.{eqb-true, le-leb, lt-leb, lt-ltb, le-ltb, ltb-true}
 use Rattle.definition.specs.Run.{ok, pick}
-use Rattle.definition.specs.Node.{Row, fixnum, symbol, hash, kind, row-of, rows, equal}
+use Rattle.definition.specs.Node.{Row, fixnum, symbol, hash, kind, row-of, rows, equal, width, START, LENGTH, LIST, COUNT, NAME, DEFAULT, words}
 use Rattle.definition.specs.Arena.{Arena, arena, node, range, name-of, is-name}
 use Rattle.definition.specs.Build.{Lent, held, check}
 use Rattle.definition.specs.Cost.{entries, amount, is-amount, line, lines, pairs, check-entries}
@@ -30,21 +30,21 @@ use Rattle.batch_cost.specs.Tables.{word, Named, Amount, Judged, Listed,
 
 module _ (A : Arena) (count : ℕ) (t : List ℕ) (e : A .nodes ≡ rows count t) (h : ℕ) where
   abbrev first : ℕ
-  first = getD t (h * 7) 0
+  first = getD t (h * width) 0
 
   module _ (l : h < count) where
-    by-first : (k : ℕ) → first ≡ k → node A h ≡ row-of k (word t h 1) (word t h 2) (word t h 3) (word t h 4) (word t h 5) (word t h 6)
-    by-first k q = node-row A count t e h l ∙ ap (λ (x : ℕ). row-of x (word t h 1) (word t h 2) (word t h 3) (word t h 4) (word t h 5) (word t h 6)) q
+    by-first : (k : ℕ) → first ≡ k → node A h ≡ row-of k (word t h START) (word t h LENGTH) (word t h LIST) (word t h COUNT) (word t h NAME) (word t h DEFAULT)
+    by-first k q = node-row A count t e h l ∙ ap (λ (x : ℕ). row-of x (word t h START) (word t h LENGTH) (word t h LIST) (word t h COUNT) (word t h NAME) (word t h DEFAULT)) q
 
-    pub is-fixnum : first ≡ 2 → node A h ≡ fixnum (word t h 1)
+    pub is-fixnum : first ≡ 2 → node A h ≡ fixnum (word t h START)
     unfolding row-of pick
     is-fixnum = by-first 2
 
-    pub is-symbol : first ≡ 3 → node A h ≡ symbol (word t h 1) (word t h 2)
+    pub is-symbol : first ≡ 3 → node A h ≡ symbol (word t h START) (word t h LENGTH)
     unfolding row-of pick
     is-symbol = by-first 3
 
-    pub is-hash : first ≡ 5 → node A h ≡ hash (word t h 3) (word t h 4) (word t h 6)
+    pub is-hash : first ≡ 5 → node A h ≡ hash (word t h LIST) (word t h COUNT) (word t h DEFAULT)
     unfolding row-of pick
     is-hash = by-first 5
 
@@ -52,8 +52,8 @@ module _ (A : Arena) (count : ℕ) (t : List ℕ) (e : A .nodes ≡ rows count t
     kind-is x p q = ap (λ (r : Row). eqb (kind r) x) (node-row A count t e h l) ∙ kind-test x p q _ _ _ _ _ _ _
 
     -- a Fixnum from zero up
-    pub amount-test : eqb first 2 && leb (word t h 1) 2147483647 ≡ is-amount (node A h)
-    unfolding is-amount amount
+    pub amount-test : eqb first 2 && leb (word t h START) 2147483647 ≡ is-amount (node A h)
+    unfolding is-amount amount kind words pick
     amount-test = sym (ap (λ (b : Bool). b && ltb (amount (node A h)) 2147483648) (kind-is 2 (omega arith) (omega arith)) ∙ go (eqb first 2) refl)
       where
         most : (w : ℕ) → ltb w 2147483648 ≡ leb w 2147483647
@@ -63,12 +63,12 @@ module _ (A : Arena) (count : ℕ) (t : List ℕ) (e : A .nodes ≡ rows count t
             decide (yes p) = lt-ltb w 2147483648 p ∙ sym (le-leb w 2147483647 (omega (arith, p)))
             decide (no p) = le-ltb w 2147483648 (omega (arith, p)) ∙ sym (lt-leb w 2147483647 (omega (arith, p)))
 
-        go : (b : Bool) → eqb first 2 ≡ b → b && ltb (amount (node A h)) 2147483648 ≡ b && leb (word t h 1) 2147483647
-        go true q = ap (λ (r : Row). ltb (amount r) 2147483648) (is-fixnum (eqb-true first 2 q)) ∙ most (word t h 1)
+        go : (b : Bool) → eqb first 2 ≡ b → b && ltb (amount (node A h)) 2147483648 ≡ b && leb (word t h START) 2147483647
+        go true q = ap (λ (r : Row). ltb (amount r) 2147483648) (is-fixnum (eqb-true first 2 q)) ∙ most (word t h START)
         go false q = refl
 
   pub no-amount : count ≤ h → false ≡ is-amount (node A h)
-  unfolding is-amount kind
+  unfolding is-amount kind words pick
   no-amount l = sym (ap is-amount (node-past A count t e h l))
 
   -- a node of another kind than nil's is there
@@ -86,9 +86,9 @@ module _ (A : Arena) (count : ℕ) (t : List ℕ) (e : A .nodes ≡ rows count t
 -- ---- two names
 
 module _ (t b : List ℕ) (h k : ℕ) where
-  pub names-differ : Named t b h → Named t b k → (word t h 2 ≡ word t k 2 → ⊥) → false ≡ equal (name-at t b h) (name-at t b k)
+  pub names-differ : Named t b h → Named t b k → (word t h LENGTH ≡ word t k LENGTH → ⊥) → false ≡ equal (name-at t b h) (name-at t b k)
   unfolding range
-  names-differ p q n = sym (same-length _ _ λ e. n (sym (length-range b (word t h 1) (word t h 2) (p .stored)) ∙ e ∙ length-range b (word t k 1) (word t k 2) (q .stored)))
+  names-differ p q n = sym (same-length _ _ λ e. n (sym (length-range b (word t h START) (word t h LENGTH) (p .stored)) ∙ e ∙ length-range b (word t k START) (word t k LENGTH) (q .stored)))
 
   pub name-self : h ≡ k → true ≡ equal (name-at t b h) (name-at t b k)
   name-self e = sym (ap (λ (x : ℕ). equal (name-at t b h) (name-at t b x)) (sym e) ∙ equal-self (name-at t b h))
@@ -102,14 +102,14 @@ value-before t b l j c n h =
 -- ---- a hash's list
 
 module _ (t r : List ℕ) (h : ℕ) where
-  pub list-is : {start end : ℕ} → start ≡ word t h 3 → end ≡ word t h 3 + word t h 4 * 2 → take (end - start) (drop start r) ≡ list-at t r h
+  pub list-is : {start end : ℕ} → start ≡ word t h LIST → end ≡ word t h LIST + word t h COUNT * 2 → take (end - start) (drop start r) ≡ list-at t r h
   list-is {start = start} {end = end} e f =
-      let m : end - start ≡ word t h 4 * 2 = omega (arith, e, f) in
+      let m : end - start ≡ word t h COUNT * 2 = omega (arith, e, f) in
       λ j. take (m j) (drop (e j) r)
 
-  pub length-list : Listed t r h → length (list-at t r h) ≡ word t h 4 * 2
+  pub length-list : Listed t r h → length (list-at t r h) ≡ word t h COUNT * 2
   unfolding range
-  length-list l = length-range r (word t h 3) (word t h 4 * 2) (l .list)
+  length-list l = length-range r (word t h LIST) (word t h COUNT * 2) (l .list)
 
   pub even-list : Listed t r h → length (list-at t r h) / 2 * 2 ≡ length (list-at t r h)
   even-list l = let e = length-list l in omega (arith, e)
@@ -135,7 +135,7 @@ module _ (L : Lent) (e : check [] L ≡ ok tt L) where
   fit : R.Fit (L .tables) (L .counts)
   fit = R.fault-fit (L .tables) (L .counts) (checked [] L L tt e .0)
 
-  pub in-table : count * 7 ≤ length nodes
+  pub in-table : count * width ≤ length nodes
   in-table = omega (arith, fit .nodes-fit)
 
   rows-are : held L .nodes ≡ rows count nodes
@@ -151,65 +151,65 @@ module _ (L : Lent) (e : check [] L ≡ ok tt L) where
     unfolding is-name
     k-there = is-there (held L) count nodes rows-are k 3 (omega arith) p
 
-    k-three : getD nodes (k * 7) 0 ≡ 3
+    k-three : getD nodes (k * width) 0 ≡ 3
     unfolding is-name
-    k-three = eqb-true (getD nodes (k * 7) 0) 3 (sym (kind-is (held L) count nodes rows-are k k-there 3 (omega arith) (omega arith)) ∙ p)
+    k-three = eqb-true (getD nodes (k * width) 0) 3 (sym (kind-is (held L) count nodes rows-are k k-there 3 (omega arith) (omega arith)) ∙ p)
 
-    k-symbol : node (held L) k ≡ symbol (word nodes k 1) (word nodes k 2)
+    k-symbol : node (held L) k ≡ symbol (word nodes k START) (word nodes k LENGTH)
     k-symbol = is-symbol (held L) count nodes rows-are k k-there k-three
 
-    k-stored : word nodes k 1 + word nodes k 2 ≤ L .counts .bytes
-    k-stored = omega (arith, row-right k (symbol (word nodes k 1) (word nodes k 2)) k-there k-symbol, fit .bytes)
+    k-stored : word nodes k START + word nodes k LENGTH ≤ L .counts .bytes
+    k-stored = omega (arith, row-right k (symbol (word nodes k START) (word nodes k LENGTH)) k-there k-symbol, fit .bytes)
 
     pub named : Named nodes bytes k
     named = record { inside = omega (arith, k-there, in-table); stored = omega (arith, k-stored, fit .bytes-fit) }
 
     pub name-is : name-of (held L .bytes) (node (held L) k) ≡ name-at nodes bytes k
-    unfolding name-of range arena
-    name-is = ap (name-of (held L .bytes)) k-symbol ∙ range-take bytes (L .counts .bytes) (word nodes k 1) (word nodes k 2) k-stored
+    unfolding name-of range arena kind words pick
+    name-is = ap (name-of (held L .bytes)) k-symbol ∙ range-take bytes (L .counts .bytes) (word nodes k START) (word nodes k LENGTH) k-stored
 
   -- an amount
   module _ (v : ℕ) (p : is-amount (node (held L) v) ≡ true) where
     v-kind : eqb (kind (node (held L) v)) 2 ≡ true
-    unfolding is-amount
+    unfolding is-amount kind words pick
     v-kind = and-left (eqb (kind (node (held L) v)) 2) _ p
 
     v-there : v < count
     v-there = is-there (held L) count nodes rows-are v 2 (omega arith) v-kind
 
-    v-fixnum : node (held L) v ≡ fixnum (word nodes v 1)
-    v-fixnum = is-fixnum (held L) count nodes rows-are v v-there (eqb-true (getD nodes (v * 7) 0) 2 (sym (kind-is (held L) count nodes rows-are v v-there 2 (omega arith) (omega arith)) ∙ v-kind))
+    v-fixnum : node (held L) v ≡ fixnum (word nodes v START)
+    v-fixnum = is-fixnum (held L) count nodes rows-are v v-there (eqb-true (getD nodes (v * width) 0) 2 (sym (kind-is (held L) count nodes rows-are v v-there 2 (omega arith) (omega arith)) ∙ v-kind))
 
-    pub amount-is : amount (node (held L) v) ≡ word nodes v 1
-    unfolding amount
+    pub amount-is : amount (node (held L) v) ≡ word nodes v START
+    unfolding amount kind words pick
     amount-is = ap amount v-fixnum
 
     v-most : amount (node (held L) v) < 2147483648
-    unfolding is-amount
+    unfolding is-amount kind words pick
     v-most = ltb-true _ _ (and-right (eqb (kind (node (held L) v)) 2) _ p)
 
     pub amounts : Amount nodes v
     amounts = record { inside = omega (arith, v-there, in-table); most = omega (arith, v-most, amount-is) }
 
   -- a hash
-  module _ (h : ℕ) (l : h < count) (p : getD nodes (h * 7) 0 ≡ 5) where
-    h-hash : node (held L) h ≡ hash (word nodes h 3) (word nodes h 4) (word nodes h 6)
+  module _ (h : ℕ) (l : h < count) (p : getD nodes (h * width) 0 ≡ 5) where
+    h-hash : node (held L) h ≡ hash (word nodes h LIST) (word nodes h COUNT) (word nodes h DEFAULT)
     h-hash = is-hash (held L) count nodes rows-are h l p
 
-    h-list : word nodes h 3 + word nodes h 4 * 2 ≤ L .counts .references
-    h-list = omega (arith, row-right h (hash (word nodes h 3) (word nodes h 4) (word nodes h 6)) l h-hash .0 .inside, fit .references)
+    h-list : word nodes h LIST + word nodes h COUNT * 2 ≤ L .counts .references
+    h-list = omega (arith, row-right h (hash (word nodes h LIST) (word nodes h COUNT) (word nodes h DEFAULT)) l h-hash .0 .inside, fit .references)
 
     pub listed : Listed nodes (L .tables .references) h
     listed = record { inside = omega (arith, l, in-table); list = omega (arith, h-list, fit .references-fit) }
 
     pub entries-are : entries (held L) (node (held L) h) ≡ list-at nodes (L .tables .references) h
-    unfolding entries range arena
-    entries-are = ap (entries (held L)) h-hash ∙ range-take (L .tables .references) (L .counts .references) (word nodes h 3) (word nodes h 4 * 2) h-list
+    unfolding entries range arena kind words pick
+    entries-are = ap (entries (held L)) h-hash ∙ range-take (L .tables .references) (L .counts .references) (word nodes h LIST) (word nodes h COUNT * 2) h-list
 
-    pub pairs-are : length (pairs (held L) h) ≡ word nodes h 4
+    pub pairs-are : length (pairs (held L) h) ≡ word nodes h COUNT
     unfolding pairs
     pairs-are =
-        let q : length (lines (held L) (entries (held L) (node (held L) h))) ≡ word nodes h 4 * 2 / 2 = lines-count (held L) _ ∙ ap (λ (x : List ℕ). length x / 2) entries-are ∙ ap (λ (n : ℕ). n / 2) (length-list nodes (L .tables .references) h listed) in
+        let q : length (lines (held L) (entries (held L) (node (held L) h))) ≡ word nodes h COUNT * 2 / 2 = lines-count (held L) _ ∙ ap (λ (x : List ℕ). length x / 2) entries-are ∙ ap (λ (n : ℕ). n / 2) (length-list nodes (L .tables .references) h listed) in
         q ∙ omega arith
 
   -- pairs that were judged

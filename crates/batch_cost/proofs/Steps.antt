@@ -14,7 +14,7 @@ use Rattle.definition.specs.Build.{Lent, held, handles-checked}
 use Rattle.definition.specs.Cost.{entries, is-amount, pairs, right-if, check-kind, check-number, check-entries, check-pairs, check-recipe, check-prices, surviving, sum, cost-nodes, batch-cost}
 use Rattle.definition.specs.declared.Refusal.{Refusal}
 use Rattle.definition.specs.declared.Refusal.the-variants.{NotARecipe}
-use Rattle.value_arena.proofs.Calls.{on, stop}
+use Rattle.call_check.proofs.Answers.{on, stop}
 
 -- a test that holds goes on, another is 20
 on-right : {A : Type 0} (h : ℕ) (L : Lent) (k : Unit {0} → Run Lent A) {b : Bool} → true ≡ b → next (right-if b h L) k ≡ k tt L

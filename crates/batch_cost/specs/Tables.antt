@@ -5,7 +5,7 @@ use mathlib.Core.Bool.{Bool, true, false}
 use mathlib.Core.List.{List, [], _∷_}
 use lib.ListN.{length, getD, take, drop}
 use Rattle.definition.specs.Run.{ok, refused}
-use Rattle.definition.specs.Node.{width, equal}
+use Rattle.definition.specs.Node.{width, equal, START, LENGTH, LIST, COUNT}
 use Rattle.definition.specs.Build.{Lent, check}
 use Rattle.definition.specs.Cost.{Line, surviving, sum}
 use Rattle.definition.specs.declared.Refusal.the-variants.{NoPrice}
@@ -17,12 +17,12 @@ word nodes h k = getD nodes (h * width + k) 0
 -- node h is in the table, and its bytes are in the byte table
 pub record Named (nodes bytes : List ℕ) (h : ℕ) : Type 0 where
   pub inside : h * width + width ≤ length nodes
-  pub stored : word nodes h 1 + word nodes h 2 ≤ length bytes
+  pub stored : word nodes h START + word nodes h LENGTH ≤ length bytes
 
 -- node h is in the table, and its value is no more than the greatest Fixnum
 pub record Amount (nodes : List ℕ) (h : ℕ) : Type 0 where
   pub inside : h * width + width ≤ length nodes
-  pub most : word nodes h 1 ≤ 2147483647
+  pub most : word nodes h START ≤ 2147483647
 
 -- keys and values in turn
 abbrev pub Judged : List ℕ → List ℕ → List ℕ → Type 0
@@ -31,18 +31,18 @@ Judged nodes bytes l = (i : ℕ) → i * 2 + 2 ≤ length l → Named nodes byte
 -- node h is in the table, and its list of pairs in the references
 pub record Listed (nodes references : List ℕ) (h : ℕ) : Type 0 where
   pub inside : h * width + width ≤ length nodes
-  pub list : word nodes h 3 + word nodes h 4 * 2 ≤ length references
+  pub list : word nodes h LIST + word nodes h COUNT * 2 ≤ length references
 
 -- that list
 abbrev pub list-at : List ℕ → List ℕ → ℕ → List ℕ
-list-at nodes references h = take (word nodes h 4 * 2) (drop (word nodes h 3) references)
+list-at nodes references h = take (word nodes h COUNT * 2) (drop (word nodes h LIST) references)
 
 -- a name, a pair and pairs
 abbrev pub name-at : List ℕ → List ℕ → ℕ → List ℕ
-name-at nodes bytes h = take (word nodes h 2) (drop (word nodes h 1) bytes)
+name-at nodes bytes h = take (word nodes h LENGTH) (drop (word nodes h START) bytes)
 
 abbrev pub line-at : List ℕ → List ℕ → ℕ → ℕ → Line
-line-at nodes bytes k v = record { key = k; name = name-at nodes bytes k; amount = word nodes v 1 }
+line-at nodes bytes k v = record { key = k; name = name-at nodes bytes k; amount = word nodes v START }
 
 unfoldable pub lines-at : List ℕ → List ℕ → List ℕ → List Line
 lines-at nodes bytes [] = []

@@ -1,6 +1,7 @@
 // What a recipe costs at given prices, in cents.
 use arena_check::is_name_at;
 use arena_check::size;
+use call_check::begin_handles;
 use definition::Answer;
 use definition::Costed;
 use definition::Counts;
@@ -8,7 +9,6 @@ use definition::Node;
 use definition::Recipe;
 use definition::Refusal;
 use store::same_bytes;
-use value_arena::begin_handles;
 ghost use mathlib.Core.Path.{_≡_};
 ghost use mathlib.Core.List.{List, []};
 ghost use Prim.Native.Nat.{ℕ, _+_, _*_, _/_, _<_, _≤_};
@@ -21,7 +21,7 @@ ghost use Rattle.definition.specs.Build.{Lent, lent};
 ghost use Rattle.definition.specs.Build as B;
 ghost use Rattle.definition.specs.Cost.{is-amount, check-entries, check-recipe, check-prices, surviving, sum, cost-nodes, batch-cost, cost-done};
 ghost use Rattle.definition.specs.Cost as C;
-ghost use Rattle.value_arena.specs.Calls.{Says};
+ghost use Rattle.call_check.specs.Tests.{Says};
 ghost use Rattle.batch_cost.specs.Tables.{word, Named, Amount, Judged, Listed, list-at, name-at, lines-at, last, Held, Costs};
 
 // What a pair without a price costs: more than any other.

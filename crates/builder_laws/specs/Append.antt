@@ -10,7 +10,7 @@ use lib.Seq.{sets, length-sets}
 use native.Mathlib.Omega.{arith}
 use borrow.Author.Tests.{leb-true, ltb-false}
 use Rattle.definition.specs.Run.{pick}
-use Rattle.definition.specs.Node.{Row, nil, words, row, rows, is-row}
+use Rattle.definition.specs.Node.{Row, nil, words, row, rows, is-row, width}
 use Rattle.definition.specs.Arena.{Tables, Arena, arena, row-right, node-right, faulty, fault, zeroed}
 use Rattle.definition.specs.Build.{Lent, lent, held, wrong, words-at, new-if, new-call}
 use Rattle.definition.specs.declared.Answer.the-variants.{Accepted}
@@ -34,12 +34,12 @@ fault-words T c e = faulty-words (arena T c) (c .nodes) 0 (T .nodes) (no-fault T
 pub record Room (L : Lent) (bs ms : List ℕ) : Type 0 where
   pub bytes : L .counts .bytes + length bs ≤ length (L .tables .bytes)
   pub references : L .counts .references + length ms ≤ length (L .tables .references)
-  pub nodes : L .counts .nodes + 1 ≤ length (L .tables .nodes) / 7
+  pub nodes : L .counts .nodes + 1 ≤ length (L .tables .nodes) / width
 
 -- what append leaves
 abbrev pub appended : Lent → List ℕ → List ℕ → Row → Lent
 appended L bs ms r =
-    lent (sets (L .tables .nodes) (L .counts .nodes * 7) (words r)) (sets (L .tables .references) (L .counts .references) ms) (sets (L .tables .bytes) (L .counts .bytes) bs)
+    lent (sets (L .tables .nodes) (L .counts .nodes * width) (words r)) (sets (L .tables .references) (L .counts .references) ms) (sets (L .tables .bytes) (L .counts .bytes) bs)
     (record { nodes = L .counts .nodes + 1; references = L .counts .references + length ms; bytes = L .counts .bytes + length bs; root = L .counts .root })
 
 module _ (L : Lent) (bs ms : List ℕ) (r : Row) (ρ : Room L bs ms) where
@@ -87,7 +87,7 @@ module _ (L : Lent) (bs ms : List ℕ) (r : Row) (ρ : Room L bs ms) where
   pub fault-appended : fault (L .tables) (L .counts) ≡ none → row-right G r ≡ true → fault (M .tables) (M .counts) ≡ none
   fault-appended e h =
       let f = fault-fit (L .tables) (L .counts) e in
-      let n = length-sets (L .tables .nodes) (L .counts .nodes * 7) (words r) in
+      let n = length-sets (L .tables .nodes) (L .counts .nodes * width) (words r) in
       let p = length-sets (L .tables .references) (L .counts .references) ms in
       let b = length-sets (L .tables .bytes) (L .counts .bytes) bs in
       let z = counts-fit-yes (M .tables) (M .counts) (omega arith) (omega (arith, n, ρ .nodes)) (omega (arith, p, ρ .references)) (omega (arith, b, ρ .bytes)) (omega (arith, f .root-below)) in
@@ -95,16 +95,16 @@ module _ (L : Lent) (bs ms : List ℕ) (r : Row) (ρ : Room L bs ms) where
 
 -- ---- new
 
-zeros : (m : ℕ) → take 7 (replicate (suc (suc (suc (suc (suc (suc (suc m))))))) 0) ≡ words nil
+zeros : (m : ℕ) → take width (replicate (suc (suc (suc (suc (suc (suc (suc m))))))) 0) ≡ words nil
 unfolding words
 zeros m = refl
 
-seven-zeros : (n : ℕ) → 7 ≤ n → take 7 (replicate n 0) ≡ words nil
+seven-zeros : (n : ℕ) → width ≤ n → take width (replicate n 0) ≡ words nil
 seven-zeros n h =
-    let z : n ≡ suc (suc (suc (suc (suc (suc (suc (n - 7))))))) = omega arith in
-    ap (λ (k : ℕ). take 7 (replicate k 0)) z ∙ zeros (n - 7)
+    let z : n ≡ suc (suc (suc (suc (suc (suc (suc (n - width))))))) = omega arith in
+    ap (λ (k : ℕ). take width (replicate k 0)) z ∙ zeros (n - width)
 
-one-nil : (A : Arena) (n : ℕ) → 7 ≤ n → faulty A 1 0 (replicate n 0) ≡ none
+one-nil : (A : Arena) (n : ℕ) → width ≤ n → faulty A 1 0 (replicate n 0) ≡ none
 unfolding faulty node-right row-right pick
 one-nil A n h = rw (seven-zeros n h, is-row-words nil, row-words-back nil)
 
@@ -115,11 +115,11 @@ first-counts = record { nodes = 1; references = 0; bytes = 0; root = 0 }
 abbrev pub zeroed-tables : Tables → Tables
 zeroed-tables T = record { nodes = zeroed (T .nodes); references = zeroed (T .references); bytes = zeroed (T .bytes) }
 
-some-nodes : (T : Tables) → wrong T [] ≡ 0 → 1 ≤ length (T .nodes) / 7
+some-nodes : (T : Tables) → wrong T [] ≡ 0 → 1 ≤ length (T .nodes) / width
 unfolding wrong
 some-nodes T e = tables-right _ _ _ _ e .0 .one
 
-zeroed-fault : (T : Tables) → 1 ≤ length (T .nodes) / 7 → fault (zeroed-tables T) first-counts ≡ none
+zeroed-fault : (T : Tables) → 1 ≤ length (T .nodes) / width → fault (zeroed-tables T) first-counts ≡ none
 unfolding zeroed
 zeroed-fault T h =
     let n = length-replicate {A = ℕ} (length (T .nodes)) 0 in

@@ -8,11 +8,12 @@ use lib.ListN.{length, take}
 use lib.Seq.{length-sets}
 use native.Mathlib.Omega.{arith}
 use Rattle.definition.specs.Run.{ok}
-use Rattle.definition.specs.Node.{Row, symbol, words, row, is-row}
+use Rattle.definition.specs.Node.{Row, symbol, words, row, is-row, width}
 use Rattle.definition.specs.Arena.{Arena, arena, node, range, row-right, node-right, fault, find-symbol}
+use Rattle.definition.specs.State.{State}
+use Rattle.definition.specs.Load.{begin}
 use Rattle.definition.specs.Build.{Lent, held, words-at, exchange-root}
 use Rattle.definition.specs.Graph.{header, links}
-use Rattle.definition.specs.Load.{State, begin}
 use Rattle.lists.specs.Lists.{At, at-lt}
 use Rattle.lists.specs.Tables.{words-faulty, counts-fit-yes, fault-none}
 use Rattle.graph.specs.View.{arena-of}
@@ -152,7 +153,7 @@ module _ (L : Lent) (bs ms : List ℕ) (r : Row) (e : fault (L .tables) (L .coun
     nodes-grow = omega arith;
     references-grow = omega arith;
     bytes-grow = omega arith;
-    nodes-length = length-sets (L .tables .nodes) (L .counts .nodes * 7) (words r);
+    nodes-length = length-sets (L .tables .nodes) (L .counts .nodes * width) (words r);
     references-length = length-sets (L .tables .references) (L .counts .references) ms;
     bytes-length = length-sets (L .tables .bytes) (L .counts .bytes) bs;
   }

@@ -8,11 +8,11 @@ use lib.ListN.{length}
 use native.Mathlib.Omega.{arith}
 use borrow.Author.Tests.{leb-true}
 use Rattle.definition.specs.Run.{Run, ok, refused, pure, refuse, next, _>>=_, look, pick}
-use Rattle.definition.specs.Node.{Row}
+use Rattle.definition.specs.Node.{Row, width}
 use Rattle.definition.specs.Arena.{is-name, all-names}
 use Rattle.definition.specs.Magnitude.{fits}
 use Rattle.definition.specs.Build.{Lent, held, check-names, check-magnitude, check-space, append, add}
-use Rattle.definition.specs.declared.Refusal.{Refusal}
+use Rattle.definition.specs.Slice.{BYTES, NODES, REFERENCES}
 use Rattle.definition.specs.declared.Refusal.the-variants.{WrongKind, NoSpace, TooBig}
 use Rattle.lists.specs.Runs.{no-ok}
 use Rattle.builder_laws.specs.Append.{Room, appended}
@@ -43,15 +43,15 @@ after-space : {A : Type 0} (bs ms : List ℕ) (k : Unit {0} → Run Lent A) (L M
     → (check-space bs ms >>= k) L ≡ ok a M → Room L bs ms × (k tt L ≡ ok a M)
 unfolding _>>=_ check-space next pick
 after-space bs ms k L M a b r e =
-    go (leb (length bs) (length (L .tables .bytes) - L .counts .bytes)) (leb (length ms) (length (L .tables .references) - L .counts .references)) (ltb (L .counts .nodes) (length (L .tables .nodes) / 7)) refl refl refl e
+    go (leb (length bs) (length (L .tables .bytes) - L .counts .bytes)) (leb (length ms) (length (L .tables .references) - L .counts .references)) (ltb (L .counts .nodes) (length (L .tables .nodes) / width)) refl refl refl e
   where
-    go : (x y z : Bool) → leb (length bs) (length (L .tables .bytes) - L .counts .bytes) ≡ x → leb (length ms) (length (L .tables .references) - L .counts .references) ≡ y → ltb (L .counts .nodes) (length (L .tables .nodes) / 7) ≡ z
-        → next (pick x (pick y (pick z (ok tt L) (refused (NoSpace 1))) (refused (NoSpace 2))) (refused (NoSpace 3))) k ≡ ok a M → Room L bs ms × (k tt L ≡ ok a M)
+    go : (x y z : Bool) → leb (length bs) (length (L .tables .bytes) - L .counts .bytes) ≡ x → leb (length ms) (length (L .tables .references) - L .counts .references) ≡ y → ltb (L .counts .nodes) (length (L .tables .nodes) / width) ≡ z
+        → next (pick x (pick y (pick z (ok tt L) (refused (NoSpace NODES))) (refused (NoSpace REFERENCES))) (refused (NoSpace BYTES))) k ≡ ok a M → Room L bs ms × (k tt L ≡ ok a M)
     go true true true p q s e = (
       record {
         bytes = omega (arith, leb-true (length bs) (length (L .tables .bytes) - L .counts .bytes) p);
         references = omega (arith, leb-true (length ms) (length (L .tables .references) - L .counts .references) q);
-        nodes = omega (arith, leb-true (suc (L .counts .nodes)) (length (L .tables .nodes) / 7) s);
+        nodes = omega (arith, leb-true (suc (L .counts .nodes)) (length (L .tables .nodes) / width) s);
       },
       e,
     )

@@ -7,16 +7,17 @@ use lib.Dec.{leb}
 use lib.ListN.{length, length-append}
 use native.Mathlib.Omega.{arith}
 use borrow.Author.Tests.{le-leb}
-use Rattle.definition.specs.Node.{Row, Vars, nil, bool, fixnum, symbol, array, hash, object, string, user, float, bignum, absent, present}
+use Rattle.definition.specs.Node.{Row, Vars, nil, bool, fixnum, symbol, array, hash, object, string, user, float, bignum, absent, present, kind}
 use Rattle.definition.specs.Arena.{Arena, node, range, firsts, all-below, is-name, all-names, bytes-right, list-right, pairs-right, row-right}
 use Rattle.definition.specs.Graph.{header, vars-links, links}
 use Rattle.lists.specs.Joined.{yes-and}
 use Rattle.lists.specs.Lists.{At, no-at, at-app, at-snoc, len-snoc, below-up}
 use Rattle.lists.specs.Ranges.{range-more, range-last}
 use Rattle.well_formed.specs.Nodes.{node-at, at-node, Name}
-use Rattle.states.specs.Rows.{bytes-start, bytes-length, list-start, list-length, vars-start, vars-length, row-words, Within, links-same, header-same}
-use Rattle.states.specs.Right.{row-names, RightIn, names-first, Onward, row-onward, is-name-yes, all-names-yes, list-right-yes, right-yes}
+use Rattle.states.specs.Rows.{bytes-start, bytes-length, list-start, list-length, vars-start, vars-length, row-words, Within, links-same, header-same, ranges}
+use Rattle.states.specs.Right.{row-names, RightIn, names-first, Onward, row-onward, is-name-yes, all-names-yes, list-right-yes, right-yes, names-by-kind, own-names}
 use Rattle.well_formed.specs.Right.{VarsRight, RowRight, below-of, name-of-test, names-of, right-of, links-below}
+use Rattle.definition.specs.Run.{pick}
 
 abbrev pub grown : Arena → List ℕ → List ℕ → Row → Arena
 grown A bs ms r = record { nodes = A .nodes ++ (r ∷ []); references = A .references ++ ms; bytes = A .bytes ++ bs; root = A .root }
@@ -36,7 +37,7 @@ module _ (A : Arena) where
   vars-in (present s n) h = h .list .inside
 
   row-in : (r : Row) → RowRight A r → Within (A .references) (A .bytes) r
-  unfolding bytes-start bytes-length list-start list-length
+  unfolding bytes-start bytes-length list-start list-length ranges
   row-in nil h = record { bytes-inside = omega arith; list-inside = omega arith }
   row-in (bool b) h = record { bytes-inside = omega arith; list-inside = omega arith }
   row-in (fixnum w) h = record { bytes-inside = omega arith; list-inside = omega arith }
@@ -55,7 +56,7 @@ module _ (A : Arena) where
   vars-names (present s n) h k c a = h .names k c a
 
   names-in : (r : Row) → RowRight A r → (k c : ℕ) → At (row-names A r) k c → Name A c
-  unfolding row-names
+  unfolding row-names names-by-kind own-names kind links pick
   names-in nil h k c a = no-at k c a
   names-in (bool b) h k c a = no-at k c a
   names-in (fixnum w) h k c a = no-at k c a

@@ -5,7 +5,7 @@ use mathlib.Core.List.{List, [], _∷_, _++_, append-assoc}
 use lib.ListN.{length, set, take, drop, length-append}
 use lib.Seq.{take-set-le, length-take-le, sets, sets-eq, take-at, drop-at}
 use native.Mathlib.Omega.{arith}
-use Rattle.definition.specs.Node.{Row, words, row, rows}
+use Rattle.definition.specs.Node.{Row, words, row, rows, width}
 use Rattle.definition.specs.Arena.{range}
 use Rattle.definition.specs.Build.{words-at}
 use Rattle.lists.specs.Words.{length-words}
@@ -45,13 +45,13 @@ range-stored vs l i n e h =
 
 -- ---- a node's words
 
-pub words-before : (r : Row) (t : List ℕ) (n i : ℕ) → i < n → words-at (sets t (n * 7) (words r)) i ≡ words-at t i
+pub words-before : (r : Row) (t : List ℕ) (n i : ℕ) → i < n → words-at (sets t (n * width) (words r)) i ≡ words-at t i
 unfolding words-at range
-words-before r t n i h = range-before (words r) t (i * 7) 7 (n * 7) (omega arith)
+words-before r t n i h = range-before (words r) t (i * width) width (n * width) (omega arith)
 
-pub words-stored : (r : Row) (t : List ℕ) (n : ℕ) → n * 7 + 7 ≤ length t → words-at (sets t (n * 7) (words r)) n ≡ words r
+pub words-stored : (r : Row) (t : List ℕ) (n : ℕ) → n * width + width ≤ length t → words-at (sets t (n * width) (words r)) n ≡ words r
 unfolding words-at range
-words-stored r t n h = range-stored (words r) t (n * 7) 7 (length-words r) h
+words-stored r t n h = range-stored (words r) t (n * width) width (length-words r) h
 
 -- ---- rows
 
@@ -59,8 +59,8 @@ pub rows-same : (n : ℕ) (t u : List ℕ) → ((i : ℕ) → i < n → words-at
 unfolding rows words-at
 rows-same zero t u e = refl
 rows-same (suc n) t u e =
-    let h : row (take 7 u) ≡ row (take 7 t) = ap row (e 0 (omega arith)) in
-    let k : rows n (drop 7 u) ≡ rows n (drop 7 t) = rows-same n (drop 7 t) (drop 7 u) (λ i l. words-next u i ∙ e (suc i) (omega arith) ∙ sym (words-next t i)) in
+    let h : row (take width u) ≡ row (take width t) = ap row (e 0 (omega arith)) in
+    let k : rows n (drop width u) ≡ rows n (drop width t) = rows-same n (drop width t) (drop width u) (λ i l. words-next u i ∙ e (suc i) (omega arith) ∙ sym (words-next t i)) in
     λ i. h i ∷ k i
 
 pub rows-last : (n : ℕ) (t : List ℕ) → rows (n + 1) t ≡ rows n t ++ (row (words-at t n) ∷ [])
@@ -68,5 +68,5 @@ unfolding rows words-at
 rows-last zero t = refl
 rows-last (suc n) t =
     let z : suc n + 1 ≡ suc (n + 1) = omega arith in
-    let k : rows (n + 1) (drop 7 t) ≡ rows n (drop 7 t) ++ (row (words-at t (suc n)) ∷ []) = rows-last n (drop 7 t) ∙ ap (λ (ws : List ℕ). rows n (drop 7 t) ++ (row ws ∷ [])) (words-next t n) in
-    ap (λ (m : ℕ). rows m t) z ∙ ap (λ (l : List Row). row (take 7 t) ∷ l) k
+    let k : rows (n + 1) (drop width t) ≡ rows n (drop width t) ++ (row (words-at t (suc n)) ∷ []) = rows-last n (drop width t) ∙ ap (λ (ws : List ℕ). rows n (drop width t) ++ (row ws ∷ [])) (words-next t n) in
+    ap (λ (m : ℕ). rows m t) z ∙ ap (λ (l : List Row). row (take width t) ∷ l) k

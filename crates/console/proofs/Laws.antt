@@ -1,8 +1,9 @@
--- What the programs' load leaves, by the input's length.
+-- What the programs' load leaves, by the input's length; a number of a list's first entries.
 use Prim.Native.Nat.{ℕ, _≤_, _<_}
-use mathlib.Core.Path.{_≡_, refl, _∙_}
+use mathlib.Core.Path.{_≡_, refl, sym, _∙_}
 use mathlib.Core.List.{List}
-use lib.ListN.{length}
+use lib.ListN.{length, take}
+use lib.Seq.{length-take-le}
 use borrow.Author.Tests.{lt-ltb, le-ltb}
 use Rattle.definition.specs.Run.{pick}
 use Rattle.definition.specs.Load.{Lists, LoadCall, load-call}
@@ -16,3 +17,6 @@ module _ (input : List ℕ) (T : Lists) where
   pub loaded : {k : LoadCall} → length input ≤ 16384 → k ≡ load-call input T 64 → k ≡ input-call input T
   unfolding input-call pick
   loaded h e = rw (le-ltb 16384 (length input) h) e
+
+pub counted : (n : ℕ) (l : List ℕ) → n ≤ length l → (n ≤ length l) × (n ≡ length (take n l))
+counted n l h = (h, sym (length-take-le n l h))

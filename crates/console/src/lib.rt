@@ -7,12 +7,12 @@ use definition::Counts;
 use definition::Loaded;
 use definition::Node;
 use definition::Refusal;
+use definition::Slice;
 use load::load;
 use refusal::answer_numbers;
 ghost use mathlib.Core.Path.{_≡_};
-ghost use Prim.Native.Nat.{_<_};
-ghost use Rattle.definition.specs.Load.{lists};
-ghost use Rattle.load.specs.Call.{call};
+ghost use Rattle.definition.specs.Load.{lists, load-call-of};
+ghost use Rattle.io.specs.Counts as counts;
 ghost use Rattle.console.specs.Call.{input-call};
 
 // The longest input that is taken.
@@ -188,36 +188,11 @@ pub fn read_input(input: &mut [u8]) -> Input {
     Input::Read(at)
 }
 
-fn wide(x: u8) -> usize
-    ensures { λ r. ⌜ r < 256 ⌝ }
+// n, or the length where that is less.
+pub fn within(n: usize, bytes: &[u8]) -> usize
+    ensures { λ r. ⌜ counts.Counts r (now (bytes .entry)) ⌝ }
 {
-    x as usize
-}
-
-fn length_of(head: &[u8; 4]) -> usize {
-    wide(head[0]) + wide(head[1]) * 256
-}
-
-// The next n bytes, into the buffer's first; whether they were there.
-fn read_part(data: &mut [u8], n: usize) -> bool {
-    if n <= data.len() {
-        return io::read_full(0, &mut data[..n]) == n;
-    }
-    false
-}
-
-// The next of several inputs: its length in four bytes, low byte first, of which the two low ones count, and its bytes.
-// Failed where it is not there.
-pub fn read_next(data: &mut [u8]) -> Input {
-    let mut head = [0u8; 4];
-    if io::read_full(0, &mut head) < 4 {
-        return Input::Failed;
-    }
-    let n = length_of(&head);
-    if read_part(data, n) {
-        return Input::Read(n);
-    }
-    Input::Failed
+    if n <= bytes.len() { n } else { bytes.len() }
 }
 
 // An input loaded under the programs' limit, if it is not too long.
@@ -229,11 +204,11 @@ pub fn load_input(
     symbols: &mut [u32],
     objects: &mut [u32],
 ) -> Loaded
-    ensures { λ r. ⌜ call r (lists (now (nodes .exit)) (now (references .exit)) (now (bytes .exit)) (now (symbols .exit)) (now (objects .exit))) ≡ input-call (now (input .entry)) (lists (now (nodes .entry)) (now (references .entry)) (now (bytes .entry)) (now (symbols .entry)) (now (objects .entry))) ⌝ }
+    ensures { λ r. ⌜ load-call-of r (lists (now (nodes .exit)) (now (references .exit)) (now (bytes .exit)) (now (symbols .exit)) (now (objects .exit))) ≡ input-call (now (input .entry)) (lists (now (nodes .entry)) (now (references .entry)) (now (bytes .entry)) (now (symbols .entry)) (now (objects .entry))) ⌝ }
 {
     if LONGEST < input.len() {
         return Loaded {
-            answer: Answer::Refused(Refusal::NoSpace(8)),
+            answer: Answer::Refused(Refusal::NoSpace(Slice::INPUT)),
             counts: Counts {
                 nodes: 0,
                 references: 0,

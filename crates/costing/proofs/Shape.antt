@@ -9,7 +9,7 @@ use mathlib.Core.Path.{_≡_, refl, sym, ap, _∙_, subst}
 use lib.Dec.{eqb}
 use lib.ListN.{length, getD}
 use Rattle.definition.specs.Run.{Outcome, refused, refuse, look, pick}
-use Rattle.definition.specs.Node.{Row, nil, bool, fixnum, symbol, array, hash, object, string, user, float, bignum, kind, row-of, rows}
+use Rattle.definition.specs.Node.{Row, nil, bool, fixnum, symbol, array, hash, object, string, user, float, bignum, kind, row-of, rows, width}
 use Rattle.definition.specs.Arena.{Arena, arena, node, range, fault}
 use Rattle.definition.specs.Build.{Lent, held}
 use Rattle.definition.specs.Cost.{batch-cost, cost-done}
@@ -27,7 +27,7 @@ use Rattle.costing.specs.Batch.{elements, is-hash, other-shape, cost-pai
 -- ---- a hash by its word 0
 
 module _ (A : Arena) (n : ℕ) (t : List ℕ) (i : ℕ) (e : A .nodes ≡ rows n t) where
-  pub hash-at : i < n → eqb (getD t (i * 7) 0) 5 ≡ is-hash A i
+  pub hash-at : i < n → eqb (getD t (i * width) 0) 5 ≡ is-hash A i
   unfolding is-hash
   hash-at h = sym (ap (λ (r : Row). eqb (kind r) 5) (node-row A n t e i h) ∙ kind-test 5 (omega arith) (omega arith) _ _ _ _ _ _ _)
 
@@ -88,25 +88,25 @@ range-two l s h =
 -- i is the root
 module _ (L : Lent) (e : fault (L .tables) (L .counts) ≡ none) (i : ℕ) (q : i ≡ L .counts .root) where
   abbrev word : ℕ → ℕ
-  word k = getD (L .tables .nodes) (i * 7 + k) 0
+  word k = getD (L .tables .nodes) (i * width + k) 0
 
   fit : Fit (L .tables) (L .counts)
   fit = fault-fit (L .tables) (L .counts) e
 
   -- its words are in the table
-  pub root-inside : i * 7 + 7 ≤ length (L .tables .nodes)
+  pub root-inside : i * width + width ≤ length (L .tables .nodes)
   root-inside = omega (arith, fit .nodes-fit, fit .root-below, q)
 
-  root-row : node (held L) (L .counts .root) ≡ row-of (getD (L .tables .nodes) (i * 7) 0) (word 1) (word 2) (word 3) (word 4) (word 5) (word 6)
+  root-row : node (held L) (L .counts .root) ≡ row-of (getD (L .tables .nodes) (i * width) 0) (word 1) (word 2) (word 3) (word 4) (word 5) (word 6)
   unfolding arena
   root-row = ap (node (held L)) (sym q) ∙ node-row (held L) (L .counts .nodes) (L .tables .nodes) refl i (omega (arith, fit .root-below, q))
 
-  pub not-array : {r : Costed} → r ≡ cost-done (refused (NotARecipe (L .counts .root))) → (getD (L .tables .nodes) (i * 7) 0 ≡ 4 → ⊥) → r ≡ cost-done (cost-root L)
+  pub not-array : {r : Costed} → r ≡ cost-done (refused (NotARecipe (L .counts .root))) → (getD (L .tables .nodes) (i * width) 0 ≡ 4 → ⊥) → r ≡ cost-done (cost-root L)
   unfolding cost-root cost-elements other-shape look refuse
   not-array h n =
       h ∙ sym (ap (λ (l : List ℕ). cost-done (cost-elements l L)) (no-elements (held L) (node (held L) (L .counts .root)) (λ k. n (kind-is _ _ _ _ _ _ _ 4 (sym (ap kind root-row) ∙ k) (omega arith)))))
 
-  module _ (k : getD (L .tables .nodes) (i * 7) 0 ≡ 4) where
+  module _ (k : getD (L .tables .nodes) (i * width) 0 ≡ 4) where
     array-row : node (held L) (L .counts .root) ≡ array (word 3) (word 4)
     array-row = root-row ∙ row-4 _ _ _ _ _ _ _ k
 
@@ -150,5 +150,5 @@ module _ (L : Lent) (e : fault (L .tables) (L .counts) ≡ none) (i : ℕ) (q : 
       two-elements h = h ∙ sym (ap (λ (l : List ℕ). cost-done (cost-elements l L)) (listed ∙ two-listed))
 
 -- the node table holds the nodes counted
-pub nodes-inside : (L : Lent) → fault (L .tables) (L .counts) ≡ none → L .counts .nodes * 7 ≤ length (L .tables .nodes)
+pub nodes-inside : (L : Lent) → fault (L .tables) (L .counts) ≡ none → L .counts .nodes * width ≤ length (L .tables .nodes)
 nodes-inside L e = let f = fault-fit (L .tables) (L .counts) e in omega (arith, f .nodes-fit)

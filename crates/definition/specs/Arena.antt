@@ -6,7 +6,8 @@ use mathlib.Core.Option.{Option, none, some}
 use lib.Dec.{ltb, leb, eqb}
 use lib.ListN.{length, getD, take, drop, replicate}
 use Rattle.definition.specs.Run.{Run, pure, refuse, pick}
-use Rattle.definition.specs.Node.{Row, Vars, nil, bool, fixnum, symbol, array, hash, object, string, user, float, bignum, absent, present, width, kind, row, rows, is-row, equal}
+use Rattle.definition.specs.Node.{Row, Vars, nil, bool, fixnum, symbol, array, hash, object, string, user, float, bignum, absent, present, width, START, LENGTH, symbol-kind, kind, word, row, rows, is-row, equal}
+use Rattle.definition.specs.Slice.{greatest-length}
 use Rattle.definition.specs.Magnitude.{fits, magnitude}
 use Rattle.definition.specs.declared.Counts.{Counts}
 use Rattle.definition.specs.declared.Fault.{Fault}
@@ -15,9 +16,9 @@ use Rattle.definition.specs.declared.Refusal.the-variants.{BadTables, Ba
 
 -- ---- slices that are lent
 
--- "No lent slice in this paper has more than 2,147,483,647 entries"
+-- "No lent slice in this paper .. has more than 2,147,483,647 entries"
 unfoldable pub too-long : ℕ → Bool
-too-long n = ltb 2147483647 n
+too-long n = ltb greatest-length n
 
 -- nodes: "a whole number of nodes, at least one"
 unfoldable pub bad-nodes : ℕ → Bool
@@ -49,6 +50,14 @@ pub record Tables : Type 0 where
   pub references : List ℕ
   pub bytes : List ℕ
 
+-- the three put together
+abbrev pub tables-of : List ℕ → List ℕ → List ℕ → Tables
+tables-of n r b = record { nodes = n; references = r; bytes = b }
+
+-- "Four counts travel by value: nodes, references, bytes, root"
+abbrev pub counts-of : ℕ → ℕ → ℕ → ℕ → Counts
+counts-of n r b root = record { nodes = n; references = r; bytes = b; root = root }
+
 -- the used part of the tables
 pub record Arena : Type 0 where
   pub nodes : List Row
@@ -70,17 +79,7 @@ range l start n = take n (drop start l)
 
 -- a symbol's name
 unfoldable pub name-of : List ℕ → Row → List ℕ
-name-of bytes nil = []
-name-of bytes (bool b) = []
-name-of bytes (fixnum w) = []
-name-of bytes (symbol s l) = range bytes s l
-name-of bytes (array s n) = []
-name-of bytes (hash s n d) = []
-name-of bytes (object s n c) = []
-name-of bytes (string s l v) = []
-name-of bytes (user s l c v) = []
-name-of bytes (float s l) = []
-name-of bytes (bignum low high m) = []
+name-of bytes r = pick (eqb (kind r) symbol-kind) (range bytes (word r START) (word r LENGTH)) []
 
 -- the first of each pair
 unfoldable pub firsts : List ℕ → List ℕ
@@ -97,7 +96,7 @@ all-below n (m ∷ ms) = pick (ltb m n) (all-below n ms) false
 
 -- "names of kind 3"
 unfoldable pub is-name : Arena → ℕ → Bool
-is-name A i = eqb (kind (node A i)) 3
+is-name A i = eqb (kind (node A i)) symbol-kind
 
 -- each of these is a name of kind 3
 unfoldable pub all-names : Arena → List ℕ → Bool
@@ -170,7 +169,7 @@ sound (some f) = refuse (BadArena f)
 
 -- a symbol with that name?
 unfoldable pub named : List ℕ → List ℕ → Row → Bool
-named bytes name r = eqb (kind r) 3 && equal name (name-of bytes r)
+named bytes name r = eqb (kind r) symbol-kind && equal name (name-of bytes r)
 
 -- "the lowest symbol node with that name", of nodes that are numbered from i on
 unfoldable pub find-symbol : List ℕ → List ℕ → List Row → ℕ → Option ℕ
@@ -187,7 +186,7 @@ bytes-compared (x ∷ xs) (y ∷ ys) = suc (pick (eqb x y) (bytes-compared xs ys
 
 -- of a name and a node's, if that is a "symbol node of its length"
 unfoldable pub compared-with : List ℕ → List ℕ → Row → ℕ
-compared-with bytes name r = pick (eqb (kind r) 3 && eqb (length name) (length (name-of bytes r))) (bytes-compared name (name-of bytes r)) 0
+compared-with bytes name r = pick (eqb (kind r) symbol-kind && eqb (length name) (length (name-of bytes r))) (bytes-compared name (name-of bytes r)) 0
 
 -- "with every symbol node .. from the lowest to its match or the last"
 unfoldable pub compared-among : List ℕ → List ℕ → List Row → ℕ

@@ -100,14 +100,16 @@ module _ {P Q : Arena} {R : ℕ → ℕ → Type 0} (p : Pairing P Q R) (a b low
   bignum-no-fixnum w f = let z : _≡_ {A = ℕ} 10 2 = ap (λ (h : Header). h .kind) (sym (ap (header P) e) ∙ p .headers a b r ∙ ap (header Q) f) in omega (arith, z)
 
 -- and two Bignums that are the roots, equal in sign and magnitude, are the same graph
-pub same-bignums : (P Q : Arena) (low high low′ high′ : ℕ) (m : Bool) → node P (P .root) ≡ bignum low high m → node Q (Q .root) ≡ bignum low′ high′ m → magnitude low high ≡ magnitude low′ high′ → SameGraph P Q
+pub same-bignums : (P Q : Arena) (low high low′ high′ : ℕ) (m : Bool) → node P (P .root) ≡ bignum low high m → node Q (Q .root) ≡ bignum low′ high′ m
+    → magnitude low high ≡ magnitude low′ high′ → SameGraph P Q
 unfolding header links
 same-bignums P Q low high low′ high′ m e f v = (
   λ x y. (x ≡ P .root) × (y ≡ Q .root),
   record {
     reachable = λ x y r. (rw (r .0) root, rw (r .1) root);
     roots = (refl, refl);
-    headers = λ x y r. ap (λ (i : ℕ). header P (node P i)) (r .0) ∙ ap (header P) e ∙ ap (λ (n : ℕ). header-of 10 n [] 0 m) v ∙ sym (ap (λ (i : ℕ). header Q (node Q i)) (r .1) ∙ ap (header Q) f);
+    headers = λ x y r. ap (λ (i : ℕ). header P (node P i)) (r .0) ∙ ap (header P) e
+        ∙ ap (λ (n : ℕ). header-of 10 n [] 0 m) v ∙ sym (ap (λ (i : ℕ). header Q (node Q i)) (r .1) ∙ ap (header Q) f);
     members = λ x y r. rw (r .0, r .1, e, f) no-pairs;
     left = λ x y z q r k. q .1 ∙ sym (r .1);
     right = λ x y z q r k. q .0 ∙ sym (r .0);

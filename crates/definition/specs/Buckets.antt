@@ -29,22 +29,22 @@ pub record Buckets : Type 0 where
   pub looked : ℕ
 
 -- "goes up, wrapping": the i-th word, counted round
-unfoldable pub word : List ℕ → ℕ → ℕ
-word ws i = getD ws (i % length ws) 0
+unfoldable pub bucket : List ℕ → ℕ → ℕ
+bucket ws i = getD ws (i % length ws) 0
 
 -- "to its node or a zero word"
 unfoldable pub ends : ℕ → ℕ → Bool
 ends h w = eqb w h || eqb w 0
 
 -- how many words stand before that one, from the i-th on, of n at most; whether the i-th is it is given
-unfoldable pub passed : ℕ → Bool → List ℕ → ℕ → ℕ → ℕ
-passed zero end? ws h i = 0
-passed (suc n) true ws h i = 0
-passed (suc n) false ws h i = suc (passed n (ends h (word ws (suc i))) ws h (suc i))
+unfoldable pub words-passed : ℕ → Bool → List ℕ → ℕ → ℕ → ℕ
+words-passed zero end? ws h i = 0
+words-passed (suc n) true ws h i = 0
+words-passed (suc n) false ws h i = suc (words-passed n (ends h (bucket ws (suc i))) ws h (suc i))
 
 -- the search for node h "starts at the word numbered hash modulo the table's words": how many words it passes
 unfoldable pub distance : List ℕ → ℕ → ℕ → ℕ
-distance ws k h = passed (length ws) (ends h (word ws k)) ws h k
+distance ws k h = words-passed (length ws) (ends h (bucket ws k)) ws h k
 
 -- the search for node h, whose name's hash is k: where it ends h stands, "a new name is put" there; "the last included"
 unfoldable pub search : ℕ → ℕ → Buckets → Buckets

@@ -10,7 +10,8 @@ use lib.Seq.{sets}
 use Rattle.definition.specs.Run.{Run, Outcome, ok, refused, pure, refuse, _>>=_, look, pick}
 use Rattle.definition.specs.Node.{Row, nil, bool, fixnum, symbol, array, hash, object, string, user, float, bignum, absent, width, words}
 use Rattle.definition.specs.Magnitude.{fits, sign, magnitude}
-use Rattle.definition.specs.Arena.{Tables, Arena, arena, firsts, is-name, too-long, bad-nodes, lowest, allowed, fault, sound, zeroed, find-symbol}
+use Rattle.definition.specs.Slice.{NODES, REFERENCES, BYTES, INPUT, MEMBERS}
+use Rattle.definition.specs.Arena.{Tables, Arena, tables-of, counts-of, arena, firsts, is-name, too-long, bad-nodes, lowest, allowed, fault, sound, zeroed, find-symbol}
 use Rattle.definition.specs.declared.Answer.the-variants.{Accepted, Refused}
 use Rattle.definition.specs.declared.Begun.{Begun}
 use Rattle.definition.specs.declared.Counts.{Counts}
@@ -27,7 +28,7 @@ pub record Lent : Type 0 where
 
 -- tables and counts put together
 abbrev pub lent : List ℕ → List ℕ → List ℕ → Counts → Lent
-lent n r b c = record { tables = record { nodes = n; references = r; bytes = b }; counts = c }
+lent n r b c = record { tables = tables-of n r b; counts = c }
 
 -- the arena that they hold
 abbrev pub held : Lent → Arena
@@ -37,7 +38,7 @@ held L = arena (L .tables) (L .counts)
 
 -- the three tables, and what a call takes besides
 unfoldable pub wrong : Tables → List (ℕ × Bool) → ℕ
-wrong T more = lowest ((1, bad-nodes (length (T .nodes))) ∷ (2, too-long (length (T .references))) ∷ (3, too-long (length (T .bytes))) ∷ more)
+wrong T more = lowest ((NODES, bad-nodes (length (T .nodes))) ∷ (REFERENCES, too-long (length (T .references))) ∷ (BYTES, too-long (length (T .bytes))) ∷ more)
 
 -- "arena checked": 1, then 2
 unfoldable pub check : List (ℕ × Bool) → Run Lent (Unit {0})
@@ -58,9 +59,9 @@ unfoldable pub check-space : List ℕ → List ℕ → Run Lent (Unit {0})
 check-space bs ms L =
     pick (leb (length bs) (length (L .tables .bytes) - L .counts .bytes))
     (pick (leb (length ms) (length (L .tables .references) - L .counts .references))
-    (pick (ltb (L .counts .nodes) (length (L .tables .nodes) / width)) (ok tt L) (refused (NoSpace 1)))
-    (refused (NoSpace 2)))
-    (refused (NoSpace 3))
+    (pick (ltb (L .counts .nodes) (length (L .tables .nodes) / width)) (ok tt L) (refused (NoSpace NODES)))
+    (refused (NoSpace REFERENCES)))
+    (refused (NoSpace BYTES))
 
 -- ---- getters
 
@@ -90,7 +91,7 @@ get-root = check [] >>= λ _. look λ L. pure (L .counts .root)
 
 -- "`replace_root` the old root and the counts with the new one"
 unfoldable pub set-root : ℕ → Run Lent ℕ
-set-root h L = ok (L .counts .root) (record { tables = L .tables; counts = record { nodes = L .counts .nodes; references = L .counts .references; bytes = L .counts .bytes; root = h } })
+set-root h L = ok (L .counts .root) (record { tables = L .tables; counts = counts-of (L .counts .nodes) (L .counts .references) (L .counts .bytes) h })
 
 -- `replace_root`: the handle is tested, then the root replaced
 unfoldable pub exchange-root : ℕ → Run Lent ℕ
@@ -105,7 +106,7 @@ append bs ms row L =
     (lent (sets (L .tables .nodes) (L .counts .nodes * width) (words (row (L .counts .bytes) (L .counts .references))))
     (sets (L .tables .references) (L .counts .references) ms)
     (sets (L .tables .bytes) (L .counts .bytes) bs)
-    (record { nodes = L .counts .nodes + 1; references = L .counts .references + length ms; bytes = L .counts .bytes + length bs; root = L .counts .root }))
+    (counts-of (L .counts .nodes + 1) (L .counts .references + length ms) (L .counts .bytes + length bs) (L .counts .root)))
 
 -- where there is room
 unfoldable pub add : List ℕ → List ℕ → (ℕ → ℕ → Row) → Run Lent ℕ
@@ -113,15 +114,15 @@ add bs ms row = check-space bs ms >>= λ _. append bs ms row
 
 -- a builder's byte string is slice 8; its list is slice 9, where an "odd pair list" is wrong too
 unfoldable pub byte-slice : List ℕ → ℕ × Bool
-byte-slice bs = (8, too-long (length bs))
+byte-slice bs = (INPUT, too-long (length bs))
 
 -- a list of members: slice 9
 unfoldable pub member-slice : List ℕ → ℕ × Bool
-member-slice ms = (9, too-long (length ms))
+member-slice ms = (MEMBERS, too-long (length ms))
 
 -- a list of pairs: slice 9, and "odd pair list"
 unfoldable pub pair-slice : List ℕ → ℕ × Bool
-pair-slice ps = (9, too-long (length ps) || not (eqb (length ps % 2) 0))
+pair-slice ps = (MEMBERS, too-long (length ps) || not (eqb (length ps % 2) 0))
 
 -- `create_nil`
 unfoldable pub create-nil : Run Lent ℕ
@@ -201,6 +202,10 @@ pub record BuildCall : Type 0 where
   pub answer : Created
   pub tables : Tables
 
+-- its answer and the three tables put together
+abbrev pub build-call-of : Created → List ℕ → List ℕ → List ℕ → BuildCall
+build-call-of a n r b = record { answer = a; tables = tables-of n r b }
+
 -- the answer of a builder by its outcome
 unfoldable pub build-done : Lent → Outcome Lent ℕ → BuildCall
 build-done L (ok h M) = record { answer = record { answer = Accepted; handle = h; counts = M .counts }; tables = M .tables }
@@ -230,11 +235,15 @@ pub record NewCall : Type 0 where
   pub answer : Begun
   pub tables : Tables
 
+-- its answer and the three tables put together
+abbrev pub new-call-of : Begun → List ℕ → List ℕ → List ℕ → NewCall
+new-call-of a n r b = record { answer = a; tables = tables-of n r b }
+
 -- by the lowest wrong slice, or 0
 unfoldable pub new-if : ℕ → Tables → NewCall
-new-if zero T = record { answer = record { answer = Accepted; counts = record { nodes = 1; references = 0; bytes = 0; root = 0 } }; tables = record { nodes = zeroed (T .nodes); references = zeroed (T .references); bytes = zeroed (T .bytes) } }
-new-if (suc slice) T = record { answer = record { answer = Refused (BadTables (suc slice)); counts = record { nodes = 0; references = 0; bytes = 0; root = 0 } }; tables = T }
+new-if zero T = new-call-of (record { answer = Accepted; counts = counts-of 1 0 0 0 }) (zeroed (T .nodes)) (zeroed (T .references)) (zeroed (T .bytes))
+new-if (suc slice) T = record { answer = record { answer = Refused (BadTables (suc slice)); counts = counts-of 0 0 0 0 }; tables = T }
 
--- `new`: "1 2 3" are the slices it takes
+-- `new` takes slices 1, 2 and 3
 unfoldable pub new-call : Tables → NewCall
 new-call T = new-if (wrong T []) T

@@ -6,7 +6,7 @@ use mathlib.Core.Option.{Option, none, some}
 use lib.Dec.{ltb, leb, eqb}
 use lib.ListN.{length}
 use Rattle.definition.specs.Run.{Run, Outcome, ok, refused, pure, refuse, _>>=_, look, pick}
-use Rattle.definition.specs.Node.{Row, nil, bool, fixnum, symbol, array, hash, object, string, user, float, bignum, kind, equal}
+use Rattle.definition.specs.Node.{Row, START, LIST, COUNT, fixnum-kind, hash-kind, kind, word, equal}
 use Rattle.definition.specs.Arena.{Arena, node, range, name-of, is-name}
 use Rattle.definition.specs.Build.{Lent, held, handles-checked}
 use Rattle.definition.specs.declared.Answer.the-variants.{Accepted, Refused}
@@ -17,31 +17,11 @@ use Rattle.definition.specs.declared.Refusal.the-variants.{NotARecipe, N
 
 -- its keys and values in turn; "Hash defaults play no part"
 unfoldable pub entries : Arena → Row → List ℕ
-entries A nil = []
-entries A (bool b) = []
-entries A (fixnum w) = []
-entries A (symbol s l) = []
-entries A (array s n) = []
-entries A (hash s n d) = range (A .references) s (n * 2)
-entries A (object s n c) = []
-entries A (string s l v) = []
-entries A (user s l c v) = []
-entries A (float s l) = []
-entries A (bignum low high m) = []
+entries A r = pick (eqb (kind r) hash-kind) (range (A .references) (word r LIST) (word r COUNT * 2)) []
 
 -- the kilograms or the cents per tonne that a node gives: a Fixnum's
 unfoldable pub amount : Row → ℕ
-amount nil = 0
-amount (bool b) = 0
-amount (fixnum w) = w
-amount (symbol s l) = 0
-amount (array s n) = 0
-amount (hash s n d) = 0
-amount (object s n c) = 0
-amount (string s l v) = 0
-amount (user s l c v) = 0
-amount (float s l) = 0
-amount (bignum low high m) = 0
+amount r = pick (eqb (kind r) fixnum-kind) (word r START) 0
 
 -- "Fixnums from zero up"
 unfoldable pub is-amount : Row → Bool

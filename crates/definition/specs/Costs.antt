@@ -59,7 +59,8 @@ result (refused r) = refused-with (numbers r)
 costed : Case → Result
 unfolding result C.batch-cost C.cost-nodes C.sum C.priced C.line-cost C.rounded C.price C.surviving C.has-name C.check-prices C.check-recipe C.check-pairs C.check-entries C.check-number C.check-kind C.right-if C.pairs C.lines C.line C.is-amount C.amount C.entries B.handles-checked B.check B.check-handles B.wrong A.allowed A.lowest A.bad-nodes A.too-long A.sound A.fault A.fault-if A.faulty A.counts-fit A.node-right A.row-right A.number-right A.bytes-right A.list-right A.all-below A.vars-right A.pairs-right A.all-names A.is-name A.name-of A.firsts A.range A.node A.arena N.is-row N.equal N.rows N.row N.row-of N.vars N.words N.flat N.kind fits magnitude signed numbers pure refuse next _>>=_ look pick
 costed c =
-    result (C.batch-cost (c .recipe) (c .prices) (B.lent (N.flat (c .rows)) (c .references) (c .bytes) (record { nodes = length (c .rows); references = length (c .references); bytes = length (c .bytes); root = 0 })))
+    result (C.batch-cost (c .recipe) (c .prices) (B.lent (N.flat (c .rows)) (c .references) (c .bytes)
+    (A.counts-of (length (c .rows)) (length (c .references)) (length (c .bytes)) 0)))
 
 -- nodes 1 and 2 are the names a and b, 3 is a again, 4 A, 5 a NUL, 6 the empty name; 7 to 11 are 500, 1, 1500, 0 and −1; from 12 on stand the recipe and the prices
 abbrev basis : Row → Row → List Row

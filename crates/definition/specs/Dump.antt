@@ -10,6 +10,7 @@ use Rattle.definition.specs.Integer.{integer-bytes}
 use Rattle.definition.specs.Kind.{NIL, TRUE, FALSE, FIXNUM, SYMBOL, SYMBOL-LINK, OBJECT-LINK, INSTANCE-VARIABLES, ARRAY, HASH, HASH-DEFAULT, OBJECT, STRING, USER-DEFINED, FLOAT, BIGNUM}
 use Rattle.definition.specs.Node.{Row, Vars, nil, bool, fixnum, symbol, array, hash, object, string, user, float, bignum, absent, present, width}
 use Rattle.definition.specs.Magnitude.{magnitude, bignum-bytes}
+use Rattle.definition.specs.Slice.{NODES, REFERENCES, BYTES, OUTPUT, LIMIT, SCRATCH, greatest-limit}
 use Rattle.definition.specs.Arena.{Tables, Arena, arena, node, range, name-of, too-long, bad-nodes, lowest, allowed, fault, sound, padded, zeroed}
 use Rattle.definition.specs.declared.Answer.{Answer}
 use Rattle.definition.specs.declared.Answer.the-variants.{Accepted, Refused}
@@ -34,7 +35,7 @@ _>>_ m n = m >>= λ _. n
 
 -- bytes, where the output of the size given has room for them
 unfoldable pub write : ℕ → List ℕ → Writer
-write size bs s = pick (leb (length bs) (size - length (s .bytes))) (ok tt (record { bytes = s .bytes ++ bs; symbols = s .symbols; objects = s .objects })) (refused (NoSpace 6))
+write size bs s = pick (leb (length bs) (size - length (s .bytes))) (ok tt (record { bytes = s .bytes ++ bs; symbols = s .symbols; objects = s .objects })) (refused (NoSpace OUTPUT))
 
 -- the next symbol number, the next object number
 unfoldable pub number-symbol : ℕ → Writer
@@ -112,7 +113,8 @@ module _ (size : ℕ) (A : Arena) where
   write-row level inner h (hash s n d) = write-object-or-link size h (write size (hash-byte d ∷ integer-bytes n) >> write-elements inner (range (A .references) s (n * 2)) >> write-default inner d)
   write-row level inner h (object s n c) = write-object-or-link size h (write size (OBJECT ∷ []) >> write-name c >> write-instance-variables inner s n)
   write-row level inner h (string s l v) = write-object-or-link size h (write-variables level inner (write size (STRING ∷ byte-string-bytes (range (A .bytes) s l))) v)
-  write-row level inner h (user s l c v) = write-object-or-link size h (write-variables level inner (write size (USER-DEFINED ∷ []) >> write-name c >> write size (byte-string-bytes (range (A .bytes) s l))) v)
+  write-row level inner h (user s l c v) =
+      write-object-or-link size h (write-variables level inner (write size (USER-DEFINED ∷ []) >> write-name c >> write size (byte-string-bytes (range (A .bytes) s l))) v)
   write-row level inner h (float s l) = write-object-or-link size h (write size (FLOAT ∷ byte-string-bytes (range (A .bytes) s l)))
   write-row level inner h (bignum low high m) = write-object-or-link size h (write size (BIGNUM ∷ bignum-bytes m (magnitude low high)))
 
@@ -134,7 +136,10 @@ dump size A limit = (write size (0x04 ∷ 0x08 ∷ []) >> write-value size A lim
 
 -- BAD-TABLES: the lowest wrong slice, or 0; scratch has "at least one word for each node the table can hold"
 unfoldable pub dump-wrong : Tables → List ℕ → List ℕ → ℕ → ℕ
-dump-wrong T scratch output limit = lowest ((1, bad-nodes (length (T .nodes))) ∷ (2, too-long (length (T .references))) ∷ (3, too-long (length (T .bytes))) ∷ (6, too-long (length output)) ∷ (7, ltb 128 limit) ∷ (10, too-long (length scratch) || ltb (length scratch) (length (T .nodes) / width)) ∷ [])
+dump-wrong T scratch output limit =
+    lowest
+    ((NODES, bad-nodes (length (T .nodes))) ∷ (REFERENCES, too-long (length (T .references))) ∷ (BYTES, too-long (length (T .bytes))) ∷ (OUTPUT, too-long (length output))
+    ∷ (LIMIT, ltb greatest-limit limit) ∷ (SCRATCH, too-long (length scratch) || ltb (length scratch) (length (T .nodes) / width)) ∷ [])
 
 -- a call's answer, and output and scratch as they then stand
 pub record DumpCall : Type 0 where

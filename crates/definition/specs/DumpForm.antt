@@ -1,9 +1,16 @@
 -- Which bytes 02, 2.2 says are in dump form, computed from the definitions.
-use Prim.Native.Nat.{ℕ}
+use Prim.Native.Nat.{ℕ, zero, suc, _*_}
 use mathlib.Core.Bool.{Bool, true, false}
-use mathlib.Core.Path.{refl}
+use mathlib.Core.Path.{_≡_, refl}
 use mathlib.Core.List.{List, [], _∷_}
-use Rattle.definition.specs.Starred.{in-dump-form, holds}
+use lib.ListN.{replicate}
+use Rattle.definition.specs.Node.{width}
+use Rattle.definition.specs.Arena.{tables-of}
+use Rattle.definition.specs.Load.{LoadCall, lists}
+use Rattle.definition.specs.Starred.{in-dump-form, holds, load-with, dump-with}
+use Rattle.definition.specs.declared.Answer.{Answer}
+use Rattle.definition.specs.declared.Answer.the-variants.{Accepted, Refused}
+use Rattle.definition.specs.declared.Refusal.the-variants.{TooDeep}
 
 abbrev forms : List (List ℕ × Bool)
 forms =
@@ -64,3 +71,26 @@ forms =
 dump-forms : holds in-dump-form forms
 unfolding holds in-dump-form
 dump-forms = refl
+
+-- ---- a graph without a form: loaded at 128 levels, it would take 129 to be dumped
+
+-- n arrays of one member, one in the other, before the rest
+unfoldable arrays : ℕ → List ℕ → List ℕ
+arrays zero rest = rest
+arrays (suc n) rest = 0x5B ∷ 0x06 ∷ arrays n rest
+
+-- the second member gives variables to the string that is the first's innermost
+abbrev deep : List ℕ
+deep = 0x04 ∷ 0x08 ∷ 0x5B ∷ 0x07 ∷ arrays 126 (0x22 ∷ 0x00 ∷ 0x49 ∷ 0x40 ∷ 0x01 ∷ 0x7F ∷ 0x00 ∷ [])
+
+-- what load answers under a limit, and then dump under it
+answers : ℕ → Answer × Answer
+unfolding load-with dump-with arrays
+answers limit = (loaded .answer .answer, dump-with (tables-of (loaded .lent .nodes) (loaded .lent .references) (loaded .lent .bytes)) (loaded .answer .counts) (replicate 200 9) (replicate 300 9) limit .answer .answer)
+  where
+    loaded : LoadCall
+    loaded = load-with deep (lists (replicate (200 * width) 9) (replicate 200 9) [] [] (replicate 200 9)) limit
+
+no-form : answers 128 ≡ (Accepted, Refused (TooDeep 128))
+unfolding answers
+no-form = refl

@@ -51,7 +51,8 @@ same-floats P Q s l t m e f b = (
   record {
     reachable = λ x y r. (rw (r .0) root, rw (r .1) root);
     roots = (refl, refl);
-    headers = λ x y r. ap (λ (i : ℕ). header P (node P i)) (r .0) ∙ ap (header P) e ∙ ap (λ (bs : List ℕ). header-of 9 0 bs 0 false) b ∙ sym (ap (λ (i : ℕ). header Q (node Q i)) (r .1) ∙ ap (header Q) f);
+    headers = λ x y r. ap (λ (i : ℕ). header P (node P i)) (r .0) ∙ ap (header P) e
+        ∙ ap (λ (bs : List ℕ). header-of 9 0 bs 0 false) b ∙ sym (ap (λ (i : ℕ). header Q (node Q i)) (r .1) ∙ ap (header Q) f);
     members = λ x y r. rw (r .0, r .1, e, f) no-pairs;
     left = λ x y z q r k. q .1 ∙ sym (r .1);
     right = λ x y z q r k. q .0 ∙ sym (r .0);

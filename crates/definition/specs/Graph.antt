@@ -9,7 +9,8 @@ use Rattle.definition.specs.Node.{Row, Vars, nil, bool, fixnum, symbol, 
 use Rattle.definition.specs.Magnitude.{magnitude}
 use Rattle.definition.specs.Arena.{Arena, node, range}
 
--- "kinds, bool and fixnum values, byte strings, counts and presence of defaults and variables"; "Values equal in sign and magnitude": of a Bignum the magnitude is the value, and a minus is present or not
+-- "kinds, bool and fixnum values, byte strings, counts and presence of defaults and variables"
+-- "Values equal in sign and magnitude": of a Bignum the magnitude is the value, and a minus is present or not
 pub record Header : Type 0 where
   pub kind : ℕ
   pub value : ℕ

@@ -13,7 +13,7 @@ pub data Form : Type 0 where
   value : ℕ → Form
   data-bytes : ℕ → ℕ → Form
 
--- "First byte 00 is 0; 05 to 7F is signed byte − 5; 80 to FB is signed byte + 5. 01 to 04: that many bytes over zeros; FF to FC: 1 to 4 bytes over all ones"
+-- "First byte 00 is 0; 05 to 7F is signed byte − 5; 80 to FB is signed byte + 5. 01 to 04: that many little-endian bytes over zeros; FF to FC: 1 to 4 bytes over all ones"
 unfoldable pub form : ℕ → Form
 form b =
     pick (eqb b 0) (value 0)

@@ -1,92 +1,32 @@
--- What load answers and what it leaves in the tables: a reader over growing lists (01, "load"; 02, 2.1 to 2.4, 2.6 and 2.8).
+-- What load answers and what it leaves in the tables: a reader over growing lists (01, "load"; 02, 2.1 to 2.4 and 2.6).
 use Prim.Native.Nat.{ℕ, zero, suc, _+_, _-_, _*_, _/_}
 use mathlib.Core.Bool.{Bool, true, false, _&&_, _||_}
 use mathlib.Core.List.{List, [], _∷_, _++_}
 use mathlib.Core.Option.{Option, none, some}
 use lib.Dec.{ltb, leb, eqb}
 use lib.ListN.{length, getD, set, replicate}
-use Rattle.definition.specs.Run.{Run, Outcome, ok, refused, pure, refuse, _>>=_, look, pick}
+use Rattle.definition.specs.Run.{Outcome, ok, refused, pure, refuse, _>>=_, look, pick}
 use Rattle.definition.specs.Integer.{Form, value as form-value, data-bytes, form, little, wrong-sign, integer-bytes}
-use Rattle.definition.specs.Kind.{NIL, TRUE, FALSE, FIXNUM, SYMBOL, SYMBOL-LINK, OBJECT-LINK, INSTANCE-VARIABLES, ARRAY, HASH, HASH-DEFAULT, OBJECT, STRING, USER-DEFINED, FLOAT, BIGNUM, PLUS, MINUS}
-use Rattle.definition.specs.Node.{Row, nil, bool, fixnum, symbol, array, hash, object, string, user, float, bignum, absent, present, width, flat, equal}
+use Rattle.definition.specs.Kind.{NIL, TRUE, FALSE, FIXNUM, SYMBOL, SYMBOL-LINK, OBJECT-LINK, INSTANCE-VARIABLES}
+use Rattle.definition.specs.Kind.{ARRAY, HASH, HASH-DEFAULT, OBJECT, STRING, USER-DEFINED, FLOAT, BIGNUM, PLUS, MINUS}
+use Rattle.definition.specs.Node.{Row, nil, bool, fixnum, symbol, array, hash, object, string, user, float, absent, width, START, LENGTH, NAME, string-kind, user-kind, kind, word, flat, row-of, equal}
 use Rattle.definition.specs.Magnitude.{fits, sign, sign-byte, unit-bytes, bignum-row}
-use Rattle.definition.specs.Arena.{range, name-of, too-long, bad-nodes, lowest, padded, zeroed, find-symbol, compared-among}
-use Rattle.definition.specs.Buckets.{fnv-1a, searches, empty}
+use Rattle.definition.specs.Slice.{NODES, REFERENCES, BYTES, SYMBOLS, OBJECTS, LIMIT, INPUT, greatest-limit}
+use Rattle.definition.specs.Arena.{range, too-long, bad-nodes, lowest, padded, zeroed, counts-of, find-symbol, compared-among}
+use Rattle.definition.specs.State.{Room, State, Reader, at-set, nodes-set, references-set, bytes-set, symbols-set, objects-set, noted, copied-more, compared-more}
 use Rattle.definition.specs.declared.Answer.the-variants.{Accepted, Refused}
-use Rattle.definition.specs.declared.Counts.{Counts}
-use Rattle.definition.specs.declared.Hashed.{Hashed}
 use Rattle.definition.specs.declared.Loaded.{Loaded}
-use Rattle.definition.specs.declared.Measured.{Measured}
 use Rattle.definition.specs.declared.Refusal.{Refusal}
-use Rattle.definition.specs.declared.Refusal.the-variants.{BadTables, InvalidVersion, ShortInput, InvalidKind, NegativeCount, MissingSymbol, MissingObject, NotASymbol, NotAnObject, TooDeep, NoSpace, BadSign, TooBig, WrongSign}
-
--- how many nodes, references, bytes and entries of the two lists there is room for
-pub record Room : Type 0 where
-  pub nodes : ℕ
-  pub references : ℕ
-  pub bytes : ℕ
-  pub symbols : ℕ
-  pub objects : ℕ
-
--- what load notes that no table holds: is all that was read so far as dump writes it; how many bytes were copied to the byte table, and how many compared
-pub record Notes : Type 0 where
-  pub form : Bool
-  pub copied : ℕ
-  pub compared : ℕ
-
--- the offset in the input, what the tables and lists hold so far, and what is noted
-pub record State : Type 0 where
-  pub at : ℕ
-  pub nodes : List Row
-  pub references : List ℕ
-  pub bytes : List ℕ
-  pub symbols : List ℕ
-  pub objects : List ℕ
-  pub notes : Notes
-
--- a step of load that gives an A
-abbrev pub Reader : Type 0 → Type 0
-Reader A = Run State A
-
--- a state with one part changed: the offset, the nodes, the references, the bytes, either list, the notes
-abbrev pub at-set : ℕ → State → State
-at-set x s = record { at = x; nodes = s .nodes; references = s .references; bytes = s .bytes; symbols = s .symbols; objects = s .objects; notes = s .notes }
-
-abbrev pub nodes-set : List Row → State → State
-nodes-set x s = record { at = s .at; nodes = x; references = s .references; bytes = s .bytes; symbols = s .symbols; objects = s .objects; notes = s .notes }
-
-abbrev pub references-set : List ℕ → State → State
-references-set x s = record { at = s .at; nodes = s .nodes; references = x; bytes = s .bytes; symbols = s .symbols; objects = s .objects; notes = s .notes }
-
-abbrev pub bytes-set : List ℕ → State → State
-bytes-set x s = record { at = s .at; nodes = s .nodes; references = s .references; bytes = x; symbols = s .symbols; objects = s .objects; notes = s .notes }
-
-abbrev pub symbols-set : List ℕ → State → State
-symbols-set x s = record { at = s .at; nodes = s .nodes; references = s .references; bytes = s .bytes; symbols = x; objects = s .objects; notes = s .notes }
-
-abbrev pub objects-set : List ℕ → State → State
-objects-set x s = record { at = s .at; nodes = s .nodes; references = s .references; bytes = s .bytes; symbols = s .symbols; objects = x; notes = s .notes }
-
-abbrev pub notes-set : Notes → State → State
-notes-set x s = record { at = s .at; nodes = s .nodes; references = s .references; bytes = s .bytes; symbols = s .symbols; objects = s .objects; notes = x }
+use Rattle.definition.specs.declared.Refusal.the-variants.{BadTables, InvalidVersion, ShortInput, InvalidKind, NegativeCount, MissingSymbol, MissingObject, NotASymbol, NotAnObject}
+use Rattle.definition.specs.declared.Refusal.the-variants.{TooDeep, NoSpace, BadSign, TooBig, WrongSign}
 
 -- ---- what is noted
 
--- as dump writes it so far, if the test holds too
-abbrev pub noted : Bool → State → State
-noted b s = notes-set (record { form = b && s .notes .form; copied = s .notes .copied; compared = s .notes .compared }) s
-
+-- is what was read as dump writes it?
 unfoldable pub note : Bool → Reader (Unit {0})
 note b s = ok tt (noted b s)
 
--- n bytes more are copied
-abbrev pub copied-more : ℕ → State → State
-copied-more n s = notes-set (record { form = s .notes .form; copied = s .notes .copied + n; compared = s .notes .compared }) s
-
--- n bytes more are compared
-abbrev pub compared-more : ℕ → State → State
-compared-more n s = notes-set (record { form = s .notes .form; copied = s .notes .copied; compared = s .notes .compared + n }) s
-
+-- n bytes are compared
 unfoldable pub compare : ℕ → Reader (Unit {0})
 compare n s = ok tt (compared-more n s)
 
@@ -104,14 +44,15 @@ read-bytes input n s = pick (leb n (length input - s .at)) (ok (range input (s .
 unfoldable pub read-header : List ℕ → Reader (Unit {0})
 read-header input = read-byte input >>= λ major. read-byte input >>= λ minor. pick (eqb major 4 && leb minor 8) (note (eqb minor 8)) (refuse (InvalidVersion major minor))
 
--- the word that an integer's first byte and data bytes say; "19 WRONG-SIGN, with the size byte, once all four data bytes are present and before 6"; "The integer reader must therefore tell whether its form was the one dump writes"
-unfoldable pub tell : ℕ → List ℕ → ℕ → Reader ℕ
-tell b bs w = pick (wrong-sign b w) (refuse (WrongSign b)) (note (equal (b ∷ bs) (integer-bytes w)) >>= λ _. pure w)
+-- the word that an integer's first byte and data bytes say; "19 WRONG-SIGN, with the size byte, once all four data bytes are present and before 6"
+-- "The integer reader must therefore tell whether its form was the one dump writes"
+unfoldable pub integer-of : ℕ → List ℕ → ℕ → Reader ℕ
+integer-of b bs w = pick (wrong-sign b w) (refuse (WrongSign b)) (note (equal (b ∷ bs) (integer-bytes w)) >>= λ _. pure w)
 
 -- "Integer": after the first byte, which is given
 unfoldable pub read-form : List ℕ → ℕ → Form → Reader ℕ
-read-form input b (form-value w) = tell b [] w
-read-form input b (data-bytes n above) = read-bytes input n >>= λ bs. tell b bs (little bs above)
+read-form input b (form-value w) = integer-of b [] w
+read-form input b (data-bytes n above) = read-bytes input n >>= λ bs. integer-of b bs (little bs above)
 
 -- "Integer": the first byte and what it asks for
 unfoldable pub read-integer : List ℕ → Reader ℕ
@@ -129,23 +70,23 @@ read-byte-string input = read-count input >>= read-bytes input
 
 -- a node, and its handle: "handle = order of insertion"
 unfoldable pub add-node : Room → Row → Reader ℕ
-add-node room r s = pick (ltb (length (s .nodes)) (room .nodes)) (ok (length (s .nodes)) (nodes-set (s .nodes ++ (r ∷ [])) s)) (refused (NoSpace 1))
+add-node room r s = pick (ltb (length (s .nodes)) (room .nodes)) (ok (length (s .nodes)) (nodes-set (s .nodes ++ (r ∷ [])) s)) (refused (NoSpace NODES))
 
 -- n reference words, and where they start
 unfoldable pub reserve : Room → ℕ → Reader ℕ
-reserve room n s = pick (leb n (room .references - length (s .references))) (ok (length (s .references)) (references-set (s .references ++ replicate n 0) s)) (refused (NoSpace 2))
+reserve room n s = pick (leb n (room .references - length (s .references))) (ok (length (s .references)) (references-set (s .references ++ replicate n 0) s)) (refused (NoSpace REFERENCES))
 
 -- bytes, and where they start; they are copied
 unfoldable pub add-bytes : Room → List ℕ → Reader ℕ
-add-bytes room bs s = pick (leb (length bs) (room .bytes - length (s .bytes))) (ok (length (s .bytes)) (copied-more (length bs) (bytes-set (s .bytes ++ bs) s))) (refused (NoSpace 3))
+add-bytes room bs s = pick (leb (length bs) (room .bytes - length (s .bytes))) (ok (length (s .bytes)) (copied-more (length bs) (bytes-set (s .bytes ++ bs) s))) (refused (NoSpace BYTES))
 
 -- an entry of the symbol list
 unfoldable pub add-symbol : Room → ℕ → Reader ℕ
-add-symbol room h s = pick (ltb (length (s .symbols)) (room .symbols)) (ok h (symbols-set (s .symbols ++ (h ∷ [])) s)) (refused (NoSpace 4))
+add-symbol room h s = pick (ltb (length (s .symbols)) (room .symbols)) (ok h (symbols-set (s .symbols ++ (h ∷ [])) s)) (refused (NoSpace SYMBOLS))
 
 -- an entry of the object list
 unfoldable pub add-object : Room → ℕ → Reader ℕ
-add-object room h s = pick (ltb (length (s .objects)) (room .objects)) (ok h (objects-set (s .objects ++ (h ∷ [])) s)) (refused (NoSpace 5))
+add-object room h s = pick (ltb (length (s .objects)) (room .objects)) (ok h (objects-set (s .objects ++ (h ∷ [])) s)) (refused (NoSpace OBJECTS))
 
 -- a node, put on the object list
 unfoldable pub add-object-node : Room → Row → Reader ℕ
@@ -170,7 +111,7 @@ intern-as room name none = add-bytes room name >>= λ start. add-node room (symb
 unfoldable pub intern : Room → List ℕ → Reader ℕ
 intern room name = look λ s. compare (compared-among (s .bytes) name (s .nodes)) >>= λ _. intern-as room name (find-symbol (s .bytes) name (s .nodes) 0)
 
--- `:` "byte string, interned; appended to the symbol list each time, repeats too"
+-- `:` "byte string, interned ..; appended to the symbol list each time, repeats too"
 unfoldable pub read-symbol : List ℕ → Room → Reader ℕ
 read-symbol input room = read-byte-string input >>= λ name. intern room name >>= add-symbol room
 
@@ -216,7 +157,7 @@ head k =
 unfoldable pub read-symbol-like : List ℕ → Room → Reader ℕ
 read-symbol-like input room = read-byte input >>= λ k. pick (eqb k SYMBOL) (read-symbol input room) (pick (eqb k SYMBOL-LINK) (read-symbol-link input) (refuse (NotASymbol k)))
 
--- "the integer count; negative is 6; reference words are reserved", each entry taking as many as given; then the rest, which knows where they start and the count
+-- "the integer count ..; negative is 6; reference words are reserved", each entry taking as many as given; then the rest, which knows where they start and the count
 unfoldable pub counted : {A : Type 0} → List ℕ → Room → ℕ → (ℕ → ℕ → Reader A) → Reader A
 counted input room each rest = read-count input >>= λ n. reserve room (n * each) >>= λ start. rest start n
 
@@ -291,27 +232,21 @@ read-magnitude input room b n = read-bytes input (n * 2) >>= λ bs. pick (fits (
 unfoldable pub read-bignum : List ℕ → Room → Reader ℕ
 read-bignum input room = read-sign input >>= λ b. read-unit-count input >>= read-magnitude input room b
 
--- "10 unless the value is string or user-defined. It replaces earlier variables"; "`I` on a Float is still NOT-AN-OBJECT", and so on a Bignum
+-- "10 unless the value is string or user-defined. It replaces earlier variables": the row with this list in its words 3, 4 and 6
+-- "`I` on a Float is still NOT-AN-OBJECT", and so on a Bignum
 unfoldable pub set-variables : ℕ → ℕ → ℕ → Row → Reader ℕ
-set-variables h start n (string s l v) = fill h (string s l (present start n))
-set-variables h start n (user s l c v) = fill h (user s l c (present start n))
-set-variables h start n nil = refuse NotAnObject
-set-variables h start n (bool b) = refuse NotAnObject
-set-variables h start n (fixnum w) = refuse NotAnObject
-set-variables h start n (symbol s l) = refuse NotAnObject
-set-variables h start n (array s m) = refuse NotAnObject
-set-variables h start n (hash s m d) = refuse NotAnObject
-set-variables h start n (object s m c) = refuse NotAnObject
-set-variables h start n (float s l) = refuse NotAnObject
-set-variables h start n (bignum low high m) = refuse NotAnObject
+set-variables h start n r =
+    pick (eqb (kind r) string-kind || eqb (kind r) user-kind) (fill h (row-of (kind r) (word r START) (word r LENGTH) start n (word r NAME) 1)) (refuse NotAnObject)
 
 -- dump writes `I` directly before `"` or `u`: "an `I` on `I` or on `@`" is not dump's, and on any other kind it is refused
 unfoldable pub takes-variables : ℕ → Bool
 takes-variables k = eqb k STRING || eqb k USER-DEFINED
 
--- `I`: "a value, then a count, its reference words reserved, pairs of symbol-like name and value, then 10 unless .."
+-- `I`: "a value, then a count .., its reference words reserved, pairs of symbol-like name and value, then 10 unless .."
 unfoldable pub read-variables : List ℕ → Room → Reader ℕ → Reader ℕ
-read-variables input room inner = look λ s. note (takes-variables (getD input (s .at) 0)) >>= λ _. inner >>= λ h. read-instance-variables input room inner λ start n. look λ s. set-variables h start n (getD (s .nodes) h nil)
+read-variables input room inner =
+    look λ s. note (takes-variables (getD input (s .at) 0)) >>= λ _. inner >>= λ h.
+    read-instance-variables input room inner λ start n. look λ s. set-variables h start n (getD (s .nodes) h nil)
 
 -- a value after its kind byte; inner is a value one level deeper
 unfoldable pub value-of : List ℕ → Room → Reader ℕ → ℕ → Head → Reader ℕ
@@ -366,7 +301,9 @@ room-of T = record { nodes = length (T .nodes) / width; references = length (T .
 
 -- what is wrong with each slice lent, by their numbers
 abbrev pub load-tests : List ℕ → Lists → ℕ → List (ℕ × Bool)
-load-tests input T limit = (1, bad-nodes (length (T .nodes))) ∷ (2, too-long (length (T .references))) ∷ (3, too-long (length (T .bytes))) ∷ (4, too-long (length (T .symbols))) ∷ (5, too-long (length (T .objects))) ∷ (7, ltb 128 limit) ∷ (8, too-long (length input)) ∷ []
+load-tests input T limit =
+    (NODES, bad-nodes (length (T .nodes))) ∷ (REFERENCES, too-long (length (T .references))) ∷ (BYTES, too-long (length (T .bytes)))
+    ∷ (SYMBOLS, too-long (length (T .symbols))) ∷ (OBJECTS, too-long (length (T .objects))) ∷ (LIMIT, ltb greatest-limit limit) ∷ (INPUT, too-long (length input)) ∷ []
 
 -- BAD-TABLES: the lowest wrong slice, or 0
 unfoldable pub load-wrong : List ℕ → Lists → ℕ → ℕ
@@ -377,87 +314,24 @@ pub record LoadCall : Type 0 where
   pub answer : Loaded
   pub lent : Lists
 
--- counts by their fields
-abbrev pub counts : ℕ → ℕ → ℕ → ℕ → Counts
-counts n r b root = record { nodes = n; references = r; bytes = b; root = root }
+-- the two put together
+abbrev pub load-call-of : Loaded → Lists → LoadCall
+load-call-of a T = record { answer = a; lent = T }
 
 -- "otherwise 1, 0, 0, 0 over zeroed tables; bytes used are then 0", "A refused load says no"; accepted: the lists laid out, then zeros, and "both lists are zero at the end"
 unfoldable pub load-done : Lists → Outcome State ℕ → LoadCall
-load-done T (refused r) = record { answer = record { answer = Refused r; counts = counts 1 0 0 0; used = 0; form = false }; lent = lists (zeroed (T .nodes)) (zeroed (T .references)) (zeroed (T .bytes)) (zeroed (T .symbols)) (zeroed (T .objects)) }
-load-done T (ok h s) = record { answer = record { answer = Accepted; counts = counts (length (s .nodes)) (length (s .references)) (length (s .bytes)) h; used = s .at; form = s .notes .form }; lent = lists (padded (T .nodes) (flat (s .nodes))) (padded (T .references) (s .references)) (padded (T .bytes) (s .bytes)) (zeroed (T .symbols)) (zeroed (T .objects)) }
+load-done T (refused r) =
+    load-call-of (record { answer = Refused r; counts = counts-of 1 0 0 0; used = 0; form = false })
+    (lists (zeroed (T .nodes)) (zeroed (T .references)) (zeroed (T .bytes)) (zeroed (T .symbols)) (zeroed (T .objects)))
+load-done T (ok h s) =
+    load-call-of (record { answer = Accepted; counts = counts-of (length (s .nodes)) (length (s .references)) (length (s .bytes)) h; used = s .at; form = s .notes .form })
+    (lists (padded (T .nodes) (flat (s .nodes))) (padded (T .references) (s .references)) (padded (T .bytes) (s .bytes)) (zeroed (T .symbols)) (zeroed (T .objects)))
 
 -- "After 1, nothing is touched"; "A load refused with 1 returns counts 0, 0, 0, 0"
 unfoldable pub load-if : ℕ → List ℕ → Lists → ℕ → LoadCall
 load-if zero input T limit = load-done T (load input (room-of T) limit)
-load-if (suc slice) input T limit = record { answer = record { answer = Refused (BadTables (suc slice)); counts = counts 0 0 0 0; used = 0; form = false }; lent = T }
+load-if (suc slice) input T limit = load-call-of (record { answer = Refused (BadTables (suc slice)); counts = counts-of 0 0 0 0; used = 0; form = false }) T
 
 -- load's whole call
 unfoldable pub load-call : List ℕ → Lists → ℕ → LoadCall
 load-call input T limit = load-if (load-wrong input T limit) input T limit
-
--- ---- the measuring load
-
--- its answer, and everything lent as it then stands
-pub record MeasuredCall : Type 0 where
-  pub answer : Measured
-  pub lent : Lists
-
--- "adds two counts to load's answer": the bytes copied and the bytes compared
-abbrev pub adding : ℕ → ℕ → LoadCall → MeasuredCall
-adding copied compared c = record { answer = record { load = c .answer; copied = copied; compared = compared }; lent = c .lent }
-
--- "0 when refused"
-unfoldable pub measured-done : Lists → Outcome State ℕ → MeasuredCall
-measured-done T (refused r) = adding 0 0 (load-done T (refused r))
-measured-done T (ok h s) = adding (s .notes .copied) (s .notes .compared) (load-done T (ok h s))
-
--- and 0 after 1
-unfoldable pub measured-if : ℕ → List ℕ → Lists → ℕ → MeasuredCall
-measured-if zero input T limit = measured-done T (load input (room-of T) limit)
-measured-if (suc slice) input T limit = adding 0 0 (load-if (suc slice) input T limit)
-
--- the measuring load's whole call
-unfoldable pub measured-call : List ℕ → Lists → ℕ → MeasuredCall
-measured-call input T limit = measured-if (load-wrong input T limit) input T limit
-
--- ---- the hashed load
-
--- its answer, and everything lent as it then stands, the bucket table too
-pub record HashedCall : Type 0 where
-  pub answer : Hashed
-  pub lent : Lists
-  pub buckets : List ℕ
-
--- "adds the number of words looked at" to load's answer
-abbrev pub looking : ℕ → List ℕ → LoadCall → HashedCall
-looking looked buckets c = record { answer = record { load = c .answer; looked = looked }; lent = c .lent; buckets = buckets }
-
--- the hash of a symbol's name
-unfoldable pub hash-at : State → ℕ → ℕ
-hash-at s h = fnv-1a (name-of (s .bytes) (getD (s .nodes) h nil))
-
--- the words of m looked at: each `:` name is searched for once, in the order of the symbol list, to which its node is then appended
-unfoldable pub words-looked : ℕ → State → ℕ
-words-looked m s = searches (hash-at s) (s .symbols) (empty m) .looked
-
--- "one word or more for each node of the table", and 01's greatest length
-unfoldable pub bad-buckets : ℕ → ℕ → Bool
-bad-buckets nodes m = ltb m nodes || too-long m
-
--- "a shorter one is BAD-TABLES, slice 11"
-unfoldable pub hashed-wrong : List ℕ → Lists → List ℕ → ℕ → ℕ
-hashed-wrong input T B limit = lowest (load-tests input T limit ++ ((11, bad-buckets (length (T .nodes) / width) (length B)) ∷ []))
-
--- "After any answer but BAD-TABLES it is zero"; "0 when refused"
-unfoldable pub hashed-done : Lists → List ℕ → Outcome State ℕ → HashedCall
-hashed-done T B (refused r) = looking 0 (zeroed B) (load-done T (refused r))
-hashed-done T B (ok h s) = looking (words-looked (length B) s) (zeroed B) (load-done T (ok h s))
-
--- after 1 nothing is touched
-unfoldable pub hashed-if : ℕ → List ℕ → Lists → List ℕ → ℕ → HashedCall
-hashed-if zero input T B limit = hashed-done T B (load input (room-of T) limit)
-hashed-if (suc slice) input T B limit = looking 0 B (load-if (suc slice) input T limit)
-
--- the hashed load's whole call
-unfoldable pub hashed-call : List ℕ → Lists → List ℕ → ℕ → HashedCall
-hashed-call input T B limit = hashed-if (hashed-wrong input T B limit) input T B limit

@@ -10,12 +10,54 @@ use Rattle.definition.specs.Run.{pick}
 abbrev pub width : ℕ
 width = 7
 
+-- the places of its words: "kind"; "byte start", "byte length"; "list start", "count"; "name node"; "hash default", which for kinds 7 and 8 tells of variables
+abbrev pub KIND : ℕ
+KIND = 0
+
+abbrev pub START : ℕ
+START = 1
+
+abbrev pub LENGTH : ℕ
+LENGTH = 2
+
+abbrev pub LIST : ℕ
+LIST = 3
+
+abbrev pub COUNT : ℕ
+COUNT = 4
+
+abbrev pub NAME : ℕ
+NAME = 5
+
+abbrev pub DEFAULT : ℕ
+DEFAULT = 6
+
+-- kinds that a definition asks for by their number
+abbrev pub fixnum-kind : ℕ
+fixnum-kind = 2
+
+abbrev pub symbol-kind : ℕ
+symbol-kind = 3
+
+abbrev pub hash-kind : ℕ
+hash-kind = 5
+
+abbrev pub string-kind : ℕ
+string-kind = 7
+
+abbrev pub user-kind : ℕ
+user-kind = 8
+
+abbrev pub float-kind : ℕ
+float-kind = 9
+
 -- the variable list of kinds 7 and 8: none, or its start and its number of pairs
 pub data Vars : Type 0 where
   absent : Vars
   present : ℕ → ℕ → Vars
 
--- a row for each kind: array start count, hash start pairs default, object start pairs name, string start length variables, user-defined start length name variables, float start length, bignum low high minus; a default is 0 for none, else node + 1
+-- a row for each kind: array start count, hash start pairs default, object start pairs name, string start length variables,
+-- user-defined start length name variables, float start length, bignum low high minus; a default is 0 for none, else node + 1
 pub data Row : Type 0 where
   nil : Row
   bool : Bool → Row
@@ -43,23 +85,41 @@ kind (user s l c v) = 8
 kind (float s l) = 9
 kind (bignum low high m) = 10
 
+-- a yes or no as a word
+abbrev pub flag : Bool → ℕ
+flag false = 0
+flag true = 1
+
+-- words 3, 4 and 6 of a variable list: "1 if a variable list is present, even an empty one"
+abbrev pub vars-start : Vars → ℕ
+vars-start absent = 0
+vars-start (present p n) = p
+
+abbrev pub vars-pairs : Vars → ℕ
+vars-pairs absent = 0
+vars-pairs (present p n) = n
+
+abbrev pub vars-flag : Vars → ℕ
+vars-flag absent = 0
+vars-flag (present p n) = 1
+
 -- the seven words; "unused words are zero"; a Bignum's are "the magnitude in words 1 (low) and 2 (high) and the sign in word 4, 1 for minus"
 unfoldable pub words : Row → List ℕ
 words nil = 0 ∷ 0 ∷ 0 ∷ 0 ∷ 0 ∷ 0 ∷ 0 ∷ []
-words (bool false) = 1 ∷ 0 ∷ 0 ∷ 0 ∷ 0 ∷ 0 ∷ 0 ∷ []
-words (bool true) = 1 ∷ 1 ∷ 0 ∷ 0 ∷ 0 ∷ 0 ∷ 0 ∷ []
+words (bool b) = 1 ∷ flag b ∷ 0 ∷ 0 ∷ 0 ∷ 0 ∷ 0 ∷ []
 words (fixnum w) = 2 ∷ w ∷ 0 ∷ 0 ∷ 0 ∷ 0 ∷ 0 ∷ []
 words (symbol s l) = 3 ∷ s ∷ l ∷ 0 ∷ 0 ∷ 0 ∷ 0 ∷ []
 words (array s n) = 4 ∷ 0 ∷ 0 ∷ s ∷ n ∷ 0 ∷ 0 ∷ []
 words (hash s n d) = 5 ∷ 0 ∷ 0 ∷ s ∷ n ∷ 0 ∷ d ∷ []
 words (object s n c) = 6 ∷ 0 ∷ 0 ∷ s ∷ n ∷ c ∷ 0 ∷ []
-words (string s l absent) = 7 ∷ s ∷ l ∷ 0 ∷ 0 ∷ 0 ∷ 0 ∷ []
-words (string s l (present p n)) = 7 ∷ s ∷ l ∷ p ∷ n ∷ 0 ∷ 1 ∷ []
-words (user s l c absent) = 8 ∷ s ∷ l ∷ 0 ∷ 0 ∷ c ∷ 0 ∷ []
-words (user s l c (present p n)) = 8 ∷ s ∷ l ∷ p ∷ n ∷ c ∷ 1 ∷ []
+words (string s l v) = 7 ∷ s ∷ l ∷ vars-start v ∷ vars-pairs v ∷ 0 ∷ vars-flag v ∷ []
+words (user s l c v) = 8 ∷ s ∷ l ∷ vars-start v ∷ vars-pairs v ∷ c ∷ vars-flag v ∷ []
 words (float s l) = 9 ∷ s ∷ l ∷ 0 ∷ 0 ∷ 0 ∷ 0 ∷ []
-words (bignum low high false) = 10 ∷ low ∷ high ∷ 0 ∷ 0 ∷ 0 ∷ 0 ∷ []
-words (bignum low high true) = 10 ∷ low ∷ high ∷ 0 ∷ 1 ∷ 0 ∷ 0 ∷ []
+words (bignum low high m) = 10 ∷ low ∷ high ∷ 0 ∷ flag m ∷ 0 ∷ 0 ∷ []
+
+-- one of a row's words
+abbrev pub word : Row → ℕ → ℕ
+word r place = getD (words r) place 0
 
 -- the rows' words, one row after the other
 unfoldable pub flat : List Row → List ℕ
@@ -68,7 +128,7 @@ flat (r ∷ rs) = words r ++ flat rs
 
 -- ---- and back
 
--- word 6 of kinds 7 and 8: "1 if a variable list is present, even an empty one"
+-- the variable list that words 6, 3 and 4 say
 unfoldable pub vars : ℕ → ℕ → ℕ → Vars
 vars zero p n = absent
 vars (suc present?) p n = present p n
@@ -89,7 +149,7 @@ row-of k a b s n c f =
 
 -- a node's words as a row
 unfoldable pub row : List ℕ → Row
-row ws = row-of (getD ws 0 0) (getD ws 1 0) (getD ws 2 0) (getD ws 3 0) (getD ws 4 0) (getD ws 5 0) (getD ws 6 0)
+row ws = row-of (getD ws KIND 0) (getD ws START 0) (getD ws LENGTH 0) (getD ws LIST 0) (getD ws COUNT 0) (getD ws NAME 0) (getD ws DEFAULT 0)
 
 -- n nodes of a table
 unfoldable pub rows : ℕ → List ℕ → List Row

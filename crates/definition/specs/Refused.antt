@@ -1,13 +1,16 @@
 -- The number and the two details of each refusal (01, "Refused calls"; 02, 2.4 to 2.7).
-use Prim.Native.Nat.{ℕ, _-_}
+use Prim.Native.Nat.{ℕ, _+_, _-_}
+use mathlib.Core.Bool.{Bool, true, false}
 use lib.Dec.{ltb}
 use lib.IntN.{ℤ, pos, negsuc}
 use Rattle.definition.specs.Run.{pick}
 use Rattle.definition.specs.declared.Fault.{Fault}
 use Rattle.definition.specs.declared.Fault.the-variants.{Counts, Node}
 use Rattle.definition.specs.declared.Refusal.{Refusal}
-use Rattle.definition.specs.declared.Refusal.the-variants.{BadTables, BadArena, InvalidVersion, ShortInput, InvalidKind, NegativeCount, MissingSymbol, MissingObject, NotASymbol, NotAnObject, TooDeep, NoSpace, BadHandle, WrongKind, BadSign, TooBig, NotAWeight, BadMoisture, WrongSign, NotARecipe, NoPrice}
+use Rattle.definition.specs.declared.Refusal.the-variants.{BadTables, BadArena, InvalidVersion, ShortInput, InvalidKind, NegativeCount, MissingSymbol, MissingObject, NotASymbol, NotAnObject}
+use Rattle.definition.specs.declared.Refusal.the-variants.{TooDeep, NoSpace, BadHandle, WrongKind, BadSign, TooBig, NotAWeight, BadMoisture, WrongSign, NotARecipe, NoPrice}
 use Rattle.definition.specs.declared.Answer.{Answer}
+use Rattle.definition.specs.declared.Numbers.{Numbers}
 use Rattle.definition.specs.declared.Answer.the-variants.{Accepted, Refused}
 
 -- "the 32 bits read as signed"
@@ -47,3 +50,25 @@ numbers (NoPrice handle) = (21, pos handle, pos 0)
 unfoldable pub answer-numbers : Answer → ℕ × ℤ × ℤ
 answer-numbers Accepted = (0, pos 0, pos 0)
 answer-numbers (Refused r) = numbers r
+
+-- ---- as programs take them: the first detail's sign apart
+
+-- is an integer below zero, and how far is it from zero?
+unfoldable pub below : ℤ → Bool
+below (pos n) = false
+below (negsuc n) = true
+
+unfoldable pub size : ℤ → ℕ
+size (pos n) = n
+size (negsuc n) = n + 1
+
+-- the number and the two details, of which the second is never below zero
+unfoldable pub told : ℕ × ℤ × ℤ → Numbers
+told (n, first, second) = record { number = n; below = below first; first = size first; second = size second }
+
+-- a refusal's, and an answer's
+unfoldable pub numbers-told : Refusal → Numbers
+numbers-told q = told (numbers q)
+
+unfoldable pub answer-told : Answer → Numbers
+answer-told a = told (answer-numbers a)

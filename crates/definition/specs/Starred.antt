@@ -13,10 +13,14 @@ use Rattle.definition.specs.Node as N
 use Rattle.definition.specs.Magnitude.{fits, sign, magnitude, bignum-row, fewest-units, sign-byte, unit-bytes, bignum-bytes}
 use Rattle.definition.specs.Arena as A
 use Rattle.definition.specs.Buckets as B
+use Rattle.definition.specs.State.{State}
 use Rattle.definition.specs.Load as L
+use Rattle.definition.specs.LoadMeasured as LM
+use Rattle.definition.specs.LoadHashed as LH
 use Rattle.definition.specs.Dump as D
 use Rattle.definition.specs.declared.Answer.{Answer}
 use Rattle.definition.specs.declared.Answer.the-variants.{Accepted, Refused}
+use Rattle.definition.specs.declared.Counts.{Counts}
 
 -- ---- integers
 
@@ -25,12 +29,12 @@ data Said : Type 0 where
   number : ℤ → Said
   not-read : ℕ × ℤ × ℤ → Said
 
-said : Outcome L.State ℕ → Said
+said : Outcome State ℕ → Said
 said (ok w s) = number (signed w)
 said (refused r) = not-read (numbers r)
 
 read : List ℕ → Said
-unfolding said numbers signed L.read-integer L.read-form L.tell L.note L.read-bytes L.read-byte A.range N.equal form little wrong-sign integer-bytes low-bytes fewest leadingZeros pure refuse next _>>=_ pick
+unfolding said numbers signed L.read-integer L.read-form L.integer-of L.note L.read-bytes L.read-byte A.range N.equal form little wrong-sign integer-bytes low-bytes fewest leadingZeros pure refuse next _>>=_ pick
 read bytes = said (L.read-integer bytes L.begin)
 
 abbrev integers : List (List ℕ × Said)
@@ -58,18 +62,30 @@ pub data Result : Type 0 where
 lent : L.Lists
 lent = L.lists (replicate 35 9) (replicate 5 9) (replicate 5 9) (replicate 5 9) (replicate 5 9)
 
-dump-of : L.LoadCall → D.DumpCall
+-- a call of dump, computed
+unfoldable pub dump-with : A.Tables → Counts → List ℕ → List ℕ → ℕ → D.DumpCall
 unfolding D.dump-call D.dump-wrong D.dump-checked D.dump-done D.dump D.write-value D.write-level D.write-row D.hash-byte D.write-default D.write-variables D.write-instance-variables D.write-name D.write-pairs D.write-elements D.write-object-or-link D.write-symbol D.byte-string-bytes D.link-or D.number-in D.number-object D.number-symbol D.write D._>>_ A.allowed A.lowest A.bad-nodes A.too-long A.sound A.fault A.fault-if A.faulty A.counts-fit A.node-right A.row-right A.number-right A.vars-right A.pairs-right A.list-right A.bytes-right A.all-names A.is-name A.all-below A.firsts A.name-of A.range A.node A.arena A.zeroed A.padded N.is-row N.equal N.rows N.row N.row-of N.vars N.words N.kind fits sign magnitude fewest-units sign-byte unit-bytes bignum-bytes integer-bytes low-bytes fewest leadingZeros pure refuse next _>>=_ look pick
-dump-of c = D.dump-call (record { nodes = c .lent .nodes; references = c .lent .references; bytes = c .lent .bytes }) (c .answer .counts) (replicate 5 9) (replicate 20 9) 64
+dump-with T c scratch output limit = D.dump-call T c scratch output limit
+
+dump-of : L.LoadCall → D.DumpCall
+unfolding dump-with
+dump-of c = dump-with (A.tables-of (c .lent .nodes) (c .lent .references) (c .lent .bytes)) (c .answer .counts) (replicate 5 9) (replicate 20 9) 64
 
 result : L.LoadCall → Answer → Result
 unfolding dump-of numbers signed place pick
-result c Accepted = dumped (take (c .answer .counts .nodes * N.width) (c .lent .nodes)) (take (c .answer .counts .references) (c .lent .references)) (take (c .answer .counts .bytes) (c .lent .bytes)) (c .answer .used) (take (dump-of c .answer .written) (dump-of c .output))
+result c Accepted =
+    dumped (take (c .answer .counts .nodes * N.width) (c .lent .nodes)) (take (c .answer .counts .references) (c .lent .references))
+    (take (c .answer .counts .bytes) (c .lent .bytes)) (c .answer .used) (take (dump-of c .answer .written) (dump-of c .output))
 result c (Refused r) = not-loaded (numbers r)
 
+-- a call of load, computed
+unfoldable pub load-with : List ℕ → L.Lists → ℕ → L.LoadCall
+unfolding L.load-call L.load-if L.load-done L.load-wrong L.room-of L.load L.read-header L.read-value L.value-of L.read-variables L.set-variables L.read-bignum L.read-magnitude L.add-bignum L.read-unit-count L.read-sign L.read-float L.read-user-defined L.read-string L.read-text L.read-object L.read-hash L.read-default L.read-array L.read-fixnum L.read-instance-variables L.read-pairs L.read-elements L.counted L.read-symbol-like L.head L.read-object-link L.read-symbol-link L.entry L.read-symbol L.intern L.intern-as L.put-reference L.fill L.add-object-node L.add-object L.add-symbol L.add-bytes L.reserve L.add-node L.read-byte-string L.read-count L.read-integer L.read-form L.integer-of L.read-bytes L.read-byte L.takes-variables L.compare L.note A.compared-among A.compared-with A.bytes-compared A.find-symbol A.named A.name-of A.lowest A.bad-nodes A.too-long A.range A.zeroed A.padded N.equal N.flat N.words N.kind fits sign bignum-row fewest-units sign-byte unit-bytes form little wrong-sign integer-bytes low-bytes fewest leadingZeros pure refuse next _>>=_ look pick N.row-of N.vars
+load-with input T limit = L.load-call input T limit
+
 call : List ℕ → L.LoadCall
-unfolding lent L.load-call L.load-if L.load-done L.load-wrong L.room-of L.load L.read-header L.read-value L.value-of L.read-variables L.set-variables L.read-bignum L.read-magnitude L.add-bignum L.read-unit-count L.read-sign L.read-float L.read-user-defined L.read-string L.read-text L.read-object L.read-hash L.read-default L.read-array L.read-fixnum L.read-instance-variables L.read-pairs L.read-elements L.counted L.read-symbol-like L.head L.read-object-link L.read-symbol-link L.entry L.read-symbol L.intern L.intern-as L.put-reference L.fill L.add-object-node L.add-object L.add-symbol L.add-bytes L.reserve L.add-node L.read-byte-string L.read-count L.read-integer L.read-form L.tell L.read-bytes L.read-byte L.takes-variables L.compare L.note A.compared-among A.compared-with A.bytes-compared A.find-symbol A.named A.name-of A.lowest A.bad-nodes A.too-long A.range A.zeroed A.padded N.equal N.flat N.words N.kind fits sign bignum-row fewest-units sign-byte unit-bytes form little wrong-sign integer-bytes low-bytes fewest leadingZeros pure refuse next _>>=_ look pick
-call input = L.load-call input lent 64
+unfolding lent load-with
+call input = load-with input lent 64
 
 unfoldable pub load-and-dump : List ℕ → Result
 unfolding result call
@@ -82,19 +98,19 @@ in-dump-form input = call input .answer .form
 
 -- the two counts that the measuring load adds
 unfoldable pub measures : List ℕ → ℕ × ℕ
-unfolding call L.measured-call L.measured-if L.measured-done
+unfolding lent load-with LM.measured-call LM.measured-if LM.measured-done
 measures input = (measured input .answer .copied, measured input .answer .compared)
   where
-    measured : List ℕ → L.MeasuredCall
-    measured input = L.measured-call input lent 64
+    measured : List ℕ → LM.MeasuredCall
+    measured input = LM.measured-call input lent 64
 
 -- what the hashed load answers with room for so many nodes and so many bucket words, and the words looked at
 unfoldable pub looks : ℕ × ℕ × List ℕ → (ℕ × ℤ × ℤ) × ℕ
-unfolding call answer-numbers numbers signed place L.hashed-call L.hashed-if L.hashed-done L.hashed-wrong L.bad-buckets L.words-looked L.hash-at B.searches B.search B.distance B.passed B.ends B.word B.fnv-1a B.fnv-from B.exclusive-or
+unfolding load-with answer-numbers numbers signed place LH.hashed-call LH.hashed-if LH.hashed-done LH.hashed-wrong LH.bad-buckets LH.words-looked LH.hash-at B.searches B.search B.distance B.words-passed B.ends B.bucket B.fnv-1a B.fnv-from B.exclusive-or
 looks (n, m, input) = (answer-numbers (hashed .answer .load .answer), hashed .answer .looked)
   where
-    hashed : L.HashedCall
-    hashed = L.hashed-call input (L.lists (replicate (n * N.width) 9) (replicate 5 9) (replicate 5 9) (replicate 5 9) (replicate 5 9)) (replicate m 9) 64
+    hashed : LH.HashedCall
+    hashed = LH.hashed-call input (L.lists (replicate (n * N.width) 9) (replicate 5 9) (replicate 5 9) (replicate 5 9) (replicate 5 9)) (replicate m 9) 64
 
 abbrev outcomes : List (List ℕ × Result)
 outcomes =

@@ -13,7 +13,7 @@ use lib.Ieee.Positive.{num, den}
 use lib.Ieee.Scale.{finite}
 use Rattle.definition.specs.Run.{Run, Outcome, ok, refused, pure, refuse, _>>=_, look, pick}
 use Rattle.definition.specs.Refused.{signed}
-use Rattle.definition.specs.Node.{Row, nil, bool, fixnum, symbol, array, hash, object, string, user, float, bignum}
+use Rattle.definition.specs.Node.{Row, START, LENGTH, fixnum-kind, float-kind, kind, word}
 use Rattle.definition.specs.Arena.{node, range}
 use Rattle.definition.specs.Build.{Lent, held, handles-checked}
 use Rattle.definition.specs.declared.Answer.the-variants.{Accepted, Refused}
@@ -93,17 +93,9 @@ text-reading none = NotANumber
 
 -- "A Fixnum reads whole. A Float reads as a double when its text is" a number's
 unfoldable pub row-reading : List ℕ → Row → Reading
-row-reading bytes nil = NotANumber
-row-reading bytes (bool b) = NotANumber
-row-reading bytes (fixnum w) = Whole (signed w)
-row-reading bytes (symbol s l) = NotANumber
-row-reading bytes (array s n) = NotANumber
-row-reading bytes (hash s n d) = NotANumber
-row-reading bytes (object s n c) = NotANumber
-row-reading bytes (string s l v) = NotANumber
-row-reading bytes (user s l c v) = NotANumber
-row-reading bytes (float s l) = text-reading (decimal (range bytes s l))
-row-reading bytes (bignum low high m) = NotANumber
+row-reading bytes r =
+    pick (eqb (kind r) fixnum-kind) (Whole (signed (word r START)))
+    (pick (eqb (kind r) float-kind) (text-reading (decimal (range bytes (word r START) (word r LENGTH)))) NotANumber)
 
 -- "Read a node as a number"
 unfoldable pub node-reading : ℕ → Run Lent Reading
@@ -185,7 +177,7 @@ Nearest x a c = T (finite x) × ((y : Float) → T (fits binary64 y) → T (fini
 abbrev pub Ordinary : Float → Type 0
 Ordinary x = T (finite x) × T (le positive-zero x) × ((num x ≡ 0) ⊎ (den x ≤ num x * 2 ^ 1022))
 
--- "In exact fractions, wet times (1 − moisture) lies within dry ÷ 2^k of dry"; 02's k is 51
+-- "In exact fractions, wet times (1 − moisture) lies within dry ÷ 2^51 of dry": here with 2^k
 abbrev pub Within : ℕ → Weighing → Type 0
 Within k w =
     let dried = num (w .wet) * (den (w .moisture) - num (w .moisture)) * den (w .dry) in

@@ -147,6 +147,40 @@ impl Node {
     pub const BIGNUM: u32 = 10;
 }
 
+// The greatest level limit.
+pub const LIMIT: u32 = 128;
+
+// The slices' numbers, as BAD-TABLES and NO-SPACE name them, and the most entries that a slice may have.
+pub struct Slice {}
+
+impl Slice {
+    pub const NODES: u32 = 1;
+
+    pub const REFERENCES: u32 = 2;
+
+    pub const BYTES: u32 = 3;
+
+    pub const SYMBOLS: u32 = 4;
+
+    pub const OBJECTS: u32 = 5;
+
+    pub const OUTPUT: u32 = 6;
+
+    pub const LIMIT: u32 = 7;
+
+    // the input, or a builder's byte string
+    pub const INPUT: u32 = 8;
+
+    // a builder's member or pair list
+    pub const MEMBERS: u32 = 9;
+
+    pub const SCRATCH: u32 = 10;
+
+    pub const BUCKETS: u32 = 11;
+
+    pub const GREATEST: usize = 2147483647;
+}
+
 // What is not well formed: the counts, or this node.
 pub enum Fault {
     Counts,
@@ -182,6 +216,14 @@ pub enum Refusal {
 pub enum Answer {
     Accepted,
     Refused(Refusal),
+}
+
+// An answer's number and two details, for programs. Where `below` says so the first detail is below 0, and `first` is how far.
+pub struct Numbers {
+    pub number: u32,
+    pub below: bool,
+    pub first: u32,
+    pub second: u32,
 }
 
 // How much of the three tables is used, and the root's node.

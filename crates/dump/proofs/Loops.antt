@@ -6,15 +6,16 @@ use mathlib.Core.List.{List}
 use lib.ListN.{length, getD}
 use borrow.Author.Tests.{eq-eqb, ne-eqb}
 use Rattle.definition.specs.Run.{pure, pick}
-use Rattle.definition.specs.Node.{width}
+use Rattle.definition.specs.Node.{width, LIST, COUNT, DEFAULT}
 use Rattle.definition.specs.Arena.{Arena, node, range}
 use Rattle.definition.specs.Dump.{Writer, _>>_, write-elements, write-default, write-row, write-level, write-value}
 use Rattle.well_formed.specs.Right.{ListIn}
 use Rattle.writer.specs.Held.{buffers, Noded, Lent, Listed, Ready, Goes, Leads, Meets}
 use Rattle.writer.specs.Laws.{then, still, goes-as, goes-to, went, lead-as, lead-after, lead-first, lead-goes, lead-stop, ready-goes, ready, ready-as}
 use Rattle.writer.proofs.Members.{list-rest, member-below, element-next, elements-begin, elements-end, value-deep, value-row}
-use Rattle.dumper.specs.Values.{Heads, listed, default-of, members-of, MembersIn}
-use Rattle.dumper.specs.Laws.{head-goes, deep, ready-head}
+use Rattle.object_writer.specs.Values.{Heads}
+use Rattle.dumper.specs.Members.{listed, default-of, members-of, MembersIn}
+use Rattle.object_writer.specs.Laws.{head-goes, deep, ready-head}
 
 -- ---- elements
 
@@ -107,26 +108,26 @@ module _ (room : ℕ) (A : Arena) (inner : ℕ → Writer) (k f : ℕ) where
       let z : f ≡ suc (x - 1) = omega arith in
       rw (eq-eqb k 5 e, z) refl
 
-default-below : {A : Arena} (t : List ℕ) (v x : ℕ) → getD t (v * width) 0 ≡ 5 → (getD t (v * width + 6) 0 ≡ 0 → ⊥) → x ≡ getD t (v * width + 6) 0 → MembersIn A t v → x - 1 < length (A .nodes)
+default-below : {A : Arena} (t : List ℕ) (v x : ℕ) → getD t (v * width) 0 ≡ 5 → (getD t (v * width + DEFAULT) 0 ≡ 0 → ⊥) → x ≡ getD t (v * width + DEFAULT) 0 → MembersIn A t v → x - 1 < length (A .nodes)
 unfolding default-of pick
 default-below {A} t v x e n q M =
-    let z : getD t (v * width + 6) 0 ≤ length (A .nodes) = subst (λ (y : ℕ). y ≤ length (A .nodes)) (rw (eq-eqb (getD t (v * width) 0) 5 e) refl) (M .1) in
+    let z : getD t (v * width + DEFAULT) 0 ≤ length (A .nodes) = subst (λ (y : ℕ). y ≤ length (A .nodes)) (rw (eq-eqb (getD t (v * width) 0) 5 e) refl) (M .1) in
     omega arith
 
 -- node v was begun; its list is the n references from `start` on
-module _ {no re by sc out c sc₁ out₁ c₁ : List ℕ} {w : ℕ} (v levels start n : ℕ) (some : levels ≡ 0 → ⊥) (done : w ≡ 0) (at : start ≡ getD no (v * width + 3) 0) (count : n ≡ listed (getD no (v * width) 0) (getD no (v * width + 4) 0)) (begun : (A : Arena) (room limit : ℕ) → Lent A no by → Listed A re → v < length (A .nodes) → Heads A room limit (write-row room A (write-level limit (levels - 1)) (write-value room A limit (levels - 1)) v (node A v)) (members-of room A (write-value room A limit (levels - 1)) (getD no (v * width) 0) (getD no (v * width + 3) 0) (getD no (v * width + 4) 0) (getD no (v * width + 6) 0)) (buffers sc out) c w (buffers sc₁ out₁) c₁) (inside : (A : Arena) → Lent A no by → v < length (A .nodes) → w ≡ 0 → MembersIn A no v) where
+module _ {no re by sc out c sc₁ out₁ c₁ : List ℕ} {w : ℕ} (v levels start n : ℕ) (some : levels ≡ 0 → ⊥) (done : w ≡ 0) (at : start ≡ getD no (v * width + LIST) 0) (count : n ≡ listed (getD no (v * width) 0) (getD no (v * width + COUNT) 0)) (begun : (A : Arena) (room limit : ℕ) → Lent A no by → Listed A re → v < length (A .nodes) → Heads A room limit (write-row room A (write-level limit (levels - 1)) (write-value room A limit (levels - 1)) v (node A v)) (members-of room A (write-value room A limit (levels - 1)) (getD no (v * width) 0) (getD no (v * width + LIST) 0) (getD no (v * width + COUNT) 0) (getD no (v * width + DEFAULT) 0)) (buffers sc out) c w (buffers sc₁ out₁) c₁) (inside : (A : Arena) → Lent A no by → v < length (A .nodes) → w ≡ 0 → MembersIn A no v) where
   list-in : {A : Arena} → Lent A no by → v < length (A .nodes) → ListIn A start n
-  list-in {A} L b = subst (λ (x : ℕ). ListIn A x n) (sym at) (subst (λ (x : ℕ). ListIn A (getD no (v * width + 3) 0) x) (sym count) (inside A L b done .0))
+  list-in {A} L b = subst (λ (x : ℕ). ListIn A x n) (sym at) (subst (λ (x : ℕ). ListIn A (getD no (v * width + LIST) 0) x) (sym count) (inside A L b done .0))
 
   pub list-ready : Ready (λ A. Lent A no by × Listed A re × (v < length (A .nodes))) (buffers sc out) c → Ready (λ A. Lent A no by × Listed A re × ListIn A start n) (buffers sc₁ out₁) c₁
   list-ready R = ready-as (λ A f. (f .0, f .1, list-in (f .0) (f .2))) (ready-head _ _ R done (λ A room f. begun A room 0 (f .0) (f .1) (f .2)))
 
   -- its list was written
   module _ {sc₂ out₂ c₂ : List ℕ} {x : ℕ} (elements : (A : Arena) (room limit : ℕ) → Lent A no by → Listed A re → ListIn A start n → Meets A room limit (write-elements (write-value room A limit (levels - 1)) (range (A .references) start n)) (buffers sc₁ out₁) c₁ x (buffers sc₂ out₂) c₂) where
-    leads-default : (A : Arena) (room limit : ℕ) → Lent A no by → Listed A re → v < length (A .nodes) → Leads A room limit (write-value room A limit levels v) (write-default room A (write-value room A limit (levels - 1)) (default-of (getD no (v * width) 0) (getD no (v * width + 6) 0))) (buffers sc out) c x (buffers sc₂ out₂) c₂
+    leads-default : (A : Arena) (room limit : ℕ) → Lent A no by → Listed A re → v < length (A .nodes) → Leads A room limit (write-value room A limit levels v) (write-default room A (write-value room A limit (levels - 1)) (default-of (getD no (v * width) 0) (getD no (v * width + DEFAULT) 0))) (buffers sc out) c x (buffers sc₂ out₂) c₂
     leads-default A room limit L l b =
         let inner = write-value room A limit (levels - 1) in
-        let last = write-default room A inner (default-of (getD no (v * width) 0) (getD no (v * width + 6) 0)) in
+        let last = write-default room A inner (default-of (getD no (v * width) 0) (getD no (v * width + DEFAULT) 0)) in
         lead-as (value-row room A limit levels v some)
         (lead-after
         (goes-to (λ i. write-elements inner (range (A .references) (sym at i) (sym count i)) >> last) (head-goes done (begun A room limit L l b)))
@@ -140,11 +141,11 @@ module _ {no re by sc out c sc₁ out₁ c₁ : List ℕ} {w : ℕ} (v levels st
       no-default k A room limit L l b = went (goes-to (default-absent room A _ _ _ k) (lead-goes whole (leads-default A room limit L l b)))
 
       module _ (hash : getD no (v * width) 0 ≡ 5) where
-        pub zero-default : getD no (v * width + 6) 0 ≡ 0 → (A : Arena) (room limit : ℕ) → Lent A no by → Listed A re → v < length (A .nodes) → Meets A room limit (write-value room A limit levels v) (buffers sc out) c 0 (buffers sc₂ out₂) c₂
+        pub zero-default : getD no (v * width + DEFAULT) 0 ≡ 0 → (A : Arena) (room limit : ℕ) → Lent A no by → Listed A re → v < length (A .nodes) → Meets A room limit (write-value room A limit levels v) (buffers sc out) c 0 (buffers sc₂ out₂) c₂
         zero-default d A room limit L l b = went (goes-to (default-none room A _ _ _ hash d) (lead-goes whole (leads-default A room limit L l b)))
 
         -- and its default is node d - 1
-        module _ (d : ℕ) (some-default : getD no (v * width + 6) 0 ≡ 0 → ⊥) (is : d ≡ getD no (v * width + 6) 0) where
+        module _ (d : ℕ) (some-default : getD no (v * width + DEFAULT) 0 ≡ 0 → ⊥) (is : d ≡ getD no (v * width + DEFAULT) 0) where
           default-in : {A : Arena} → Lent A no by → v < length (A .nodes) → d - 1 < length (A .nodes)
           default-in {A} L b = default-below no v d hash some-default is (inside A L b done)
 

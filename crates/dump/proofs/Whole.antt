@@ -6,15 +6,16 @@ use mathlib.Core.Path.{_≡_, refl, sym, ap, _∙_}
 use mathlib.Core.List.{List, [], _∷_, _++_}
 use lib.ListN.{length, getD, take, replicate, length-replicate, getD-replicate}
 use Rattle.definition.specs.Run.{refused, pure, refuse, next, _>>=_}
-use Rattle.definition.specs.Arena.{Tables, Arena, arena, node, allowed, sound, fault, padded, zeroed}
+use Rattle.definition.specs.Arena.{Tables, Arena, arena, node, allowed, sound, fault, padded, zeroed, tables-of}
 use Rattle.definition.specs.Dump.{Written, Writer, _>>_, write, write-value, number-in, dump-wrong, dump-call, dump-call-of, dump-checked, dump-done}
 use Rattle.definition.specs.Dump as D
+use Rattle.definition.specs.Slice.{OUTPUT}
 use Rattle.definition.specs.declared.Answer.the-variants.{Accepted, Refused as Turned-down}
 use Rattle.definition.specs.declared.Counts.{Counts}
 use Rattle.definition.specs.declared.Fault.{Fault}
 use Rattle.definition.specs.declared.Refusal.{Refusal}
 use Rattle.definition.specs.declared.Refusal.the-variants.{BadTables, BadArena, TooDeep, NoSpace}
-use Rattle.arena_check.specs.Held.{tables, checked}
+use Rattle.arena_check.specs.Held.{checked}
 use Rattle.arena_check.specs.declared.Checked.{Checked}
 use Rattle.arena_check.specs.declared.Checked.the-variants.{Right, Wrong}
 use Rattle.lists.specs.Tables.{words-row}
@@ -46,10 +47,10 @@ module _ (T : Tables) (k : Counts) (sc out : List ℕ) (limit : ℕ) where
 pub record Sound (no re by : List ℕ) (k : Counts) (sc out : List ℕ) (limit x : ℕ) : Type 0 where
   pub tables-right : 0 ≡ wrong (length no) (length re) (length by) (length out) limit (length sc)
   pub lengths : Allowed (length no) (length re) (length by) (length out) (length sc)
-  pub arena-right : fault (tables no re by) k ≡ none
+  pub arena-right : fault (tables-of no re by) k ≡ none
   pub root : x ≡ k .root
 
-pub past : {no re by : List ℕ} {k : Counts} {sc out : List ℕ} {limit w x : ℕ} {r : Checked} → w ≡ wrong (length no) (length re) (length by) (length out) limit (length sc) → (w ≡ 0 → Allowed (length no) (length re) (length by) (length out) (length sc)) → w ≡ 0 → checked r ≡ fault (tables no re by) k → r ≡ Right → x ≡ k .root → Sound no re by k sc out limit x
+pub past : {no re by : List ℕ} {k : Counts} {sc out : List ℕ} {limit w x : ℕ} {r : Checked} → w ≡ wrong (length no) (length re) (length by) (length out) limit (length sc) → (w ≡ 0 → Allowed (length no) (length re) (length by) (length out) (length sc)) → w ≡ 0 → checked r ≡ fault (tables-of no re by) k → r ≡ Right → x ≡ k .root → Sound no re by k sc out limit x
 past e W z f q x = record { tables-right = sym z ∙ e; lengths = W z; arena-right = sym f ∙ ap checked q; root = x }
 
 -- ---- the start
@@ -69,10 +70,10 @@ start = record { bytes = []; symbols = []; objects = [] }
 
 module _ {no re by : List ℕ} {k : Counts} {sc out : List ℕ} {limit x : ℕ} (S : Sound no re by k sc out limit x) where
   abbrev A : Arena
-  A = arena (tables no re by) k
+  A = arena (tables-of no re by) k
 
-  fit : Fit (tables no re by) k
-  fit = fault-fit (tables no re by) k (S .arena-right)
+  fit : Fit (tables-of no re by) k
+  fit = fault-fit (tables-of no re by) k (S .arena-right)
 
   lent : Lent A no by
   unfolding arena node
@@ -84,7 +85,7 @@ module _ {no re by : List ℕ} {k : Counts} {sc out : List ℕ} {limit x : ℕ} 
     };
     bytes-fit = omega (arith, fit .bytes, fit .bytes-fit);
     bytes-same = ap (λ (n : ℕ). take n by) (sym (fit .bytes));
-    right = fault-right (tables no re by) k (S .arena-right);
+    right = fault-right (tables-of no re by) k (S .arena-right);
   }
 
   listed : Listed A re
@@ -102,11 +103,11 @@ module _ {no re by : List ℕ} {k : Counts} {sc out : List ℕ} {limit x : ℕ} 
   unfolding arena
   root-here = S .root
 
-  right-call : dump-done sc out (D.dump (length out) A limit) ≡ dump-call (tables no re by) k sc out limit
+  right-call : dump-done sc out (D.dump (length out) A limit) ≡ dump-call (tables-of no re by) k sc out limit
   unfolding dump-checked sound pure
   right-call =
-      ap (λ (o : Option Fault). dump-checked (tables no re by) k sc out limit (sound o tt)) (sym (S .arena-right))
-      ∙ after-tables (tables no re by) k sc out limit 0 (S .tables-right) refl
+      ap (λ (o : Option Fault). dump-checked (tables-of no re by) k sc out limit (sound o tt)) (sym (S .arena-right))
+      ∙ after-tables (tables-of no re by) k sc out limit 0 (S .tables-right) refl
 
   -- with scratch cleared and nothing written
   begins : {sc₁ : List ℕ} → sc₁ ≡ cleared 0 sc → Holds A (length out) start (buffers sc₁ out) (replicate 3 0)
@@ -165,7 +166,7 @@ module _ {A : Arena} {room limit : ℕ} {m : Writer} {B B' : Buffers} {c c' : Li
   refuses {r = suc zero} e k = absurd (k .leads)
   refuses {r = suc (suc q)} e k = λ s H. k .leads s H ∙ ap (λ (j : ℕ). refused (stopped limit j)) (omega arith)
 
-pub full-stop : (limit w : ℕ) → w ≡ 2 → NoSpace 6 ≡ stopped limit (w - 2)
+pub full-stop : (limit w : ℕ) → w ≡ 2 → NoSpace OUTPUT ≡ stopped limit (w - 2)
 unfolding stopped
 full-stop limit w e = rw e refl
 
@@ -200,7 +201,7 @@ module _ {no re by : List ℕ} {k : Counts} {sc out : List ℕ} {limit x r : ℕ
   refused-answer n = above-one n meets
 
   module _ {scz outz : List ℕ} (cleared-scratch : scz ≡ cleared 0 sc') (sc-length : length sc' ≡ length sc) where
-    pub accepted : r ≡ 0 → outz ≡ cleared (getD c' 0 0) out' → dump-call-of Accepted (getD c' 0 0) scz outz ≡ dump-call (tables no re by) k sc out limit
+    pub accepted : r ≡ 0 → outz ≡ cleared (getD c' 0 0) out' → dump-call-of Accepted (getD c' 0 0) scz outz ≡ dump-call (tables-of no re by) k sc out limit
     unfolding dump-done pure D.dump
     accepted z e =
         let s = wrote z .state in
@@ -210,7 +211,7 @@ module _ {no re by : List ℕ} {k : Counts} {sc out : List ℕ} {limit x r : ℕ
         ∙ sym (ap (dump-done sc out) (wrote z .same))
         ∙ right-call S
 
-    pub turned-down : {q : Refusal} → (r ≡ 0 → ⊥) → q ≡ stopped limit (r - 2) → outz ≡ cleared 0 out' → length out' ≡ length out → dump-call-of (Turned-down q) 0 scz outz ≡ dump-call (tables no re by) k sc out limit
+    pub turned-down : {q : Refusal} → (r ≡ 0 → ⊥) → q ≡ stopped limit (r - 2) → outz ≡ cleared 0 out' → length out' ≡ length out → dump-call-of (Turned-down q) 0 scz outz ≡ dump-call (tables-of no re by) k sc out limit
     unfolding dump-done D.dump
     turned-down {q} n e o out-length =
         (λ i. dump-call-of (Turned-down q) 0 (all-zero sc sc' cleared-scratch sc-length i) (all-zero out out' o out-length i))

@@ -7,6 +7,7 @@ use definition::Counts;
 use definition::Dumped;
 use definition::Node;
 use definition::Refusal;
+use definition::Slice;
 use dumper::list_words;
 use dumper::open_value;
 use dumper::wrong_slice;
@@ -188,7 +189,7 @@ fn refusal(w: u32, limit: u32) -> Refusal
     ensures { λ r. ⌜ r ≡ stopped limit (w - 2) ⌝ }
 {
     if w == FULL {
-        return Refusal::NoSpace(6);
+        return Refusal::NoSpace(Slice::OUTPUT);
     }
     Refusal::TooDeep(limit)
 }

@@ -15,8 +15,9 @@ use Rattle.definition.specs.Kind.{SYMBOL, SYMBOL-LINK, OBJECT-LINK, STRING, USE
 use Rattle.definition.specs.Node.{Row, nil, bool, fixnum, symbol, array, hash, object, string, user, bignum, absent, present}
 use Rattle.definition.specs.Magnitude.{magnitude, bignum-bytes}
 use Rattle.definition.specs.Arena.{Arena, node, range, name-of, firsts}
-use Rattle.definition.specs.Graph.{header-of, SameGraph}
+use Rattle.definition.specs.Graph.{header-of, SameGraph, header}
 use Rattle.definition.specs.Dump.{Written, Writer, _>>_, write, number-symbol, number-object, number-in, link-or, byte-string-bytes, write-symbol, write-object-or-link, write-elements, write-pairs, write-name, write-instance-variables, write-variables, write-default, hash-byte, write-row, write-level, write-value, dump}
+use Rattle.definition.specs.Slice.{OUTPUT}
 use Rattle.definition.specs.declared.Refusal.{Refusal}
 use Rattle.definition.specs.declared.Refusal.the-variants.{NoSpace, TooDeep}
 use Rattle.lists.specs.Lists.{At, PW, pw-snoc}
@@ -74,11 +75,11 @@ module _ (size : ℕ) (P Q : Arena) (R : ℕ → ℕ → Type 0) (π : Describe.
   unfolding write pick
   twin-write bs = record {
     runs = λ s t a.
-        subst (λ (n : ℕ). Same (write size bs s) (pick (leb (length bs) (size - n)) (ok tt (record { bytes = t .bytes ++ bs; symbols = t .symbols; objects = t .objects })) (refused (NoSpace 6)))) (ap length (a .bytes))
+        subst (λ (n : ℕ). Same (write size bs s) (pick (leb (length bs) (size - n)) (ok tt (record { bytes = t .bytes ++ bs; symbols = t .symbols; objects = t .objects })) (refused (NoSpace OUTPUT)))) (ap length (a .bytes))
         (go (leb (length bs) (size - length (s .bytes))) (record { bytes = ap (λ (x : List ℕ). x ++ bs) (a .bytes); symbols = a .symbols; objects = a .objects }));
   }
     where
-      go : (b : Bool) {x y : Written} → Alike x y → Same (pick b (ok tt x) (refused (NoSpace 6))) (pick b (ok tt y) (refused (NoSpace 6)))
+      go : (b : Bool) {x y : Written} → Alike x y → Same (pick b (ok tt x) (refused (NoSpace OUTPUT))) (pick b (ok tt y) (refused (NoSpace OUTPUT)))
       go true a = both-done a
       go false a = both-refused
 
@@ -154,7 +155,7 @@ module _ (size : ℕ) (P Q : Arena) (R : ℕ → ℕ → Type 0) (π : Describe.
   symbol-keys c d b r e f = record { paired = r; left-node = sym b; right-node = sym b; left-at = e; right-at = f; left-key = tt; right-key = tt }
 
   name-seen : (c : ℕ) → Name P c → (b : List ℕ) × At (seen P) c (sym b)
-  unfolding see
+  unfolding see header
   name-seen c (s, l, e) = (range (P .bytes) s l, see-at P c (symbol s l) e)
 
   twin-name : (c d : ℕ) → R c d → Name P c → Twin (write-name size P c) (write-name size Q d)

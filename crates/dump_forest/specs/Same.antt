@@ -2,19 +2,19 @@
 use Prim.Native.Nat.{ℕ, zero, suc, _≤_, _<_}
 use mathlib.Core.Path.{_≡_, refl, ap, subst}
 use mathlib.Core.Path.{sym as psym, _∙_}
-use mathlib.Core.Bool.{true, false}
+use mathlib.Core.Bool.{false}
 use mathlib.Core.Option.{none}
 use mathlib.Core.List.{List, [], _∷_}
 use lib.ListN.{length}
 use native.Mathlib.Omega.{arith}
-use Rattle.definition.specs.Node.{Row, nil, bool, fixnum, symbol, array, hash, object, string, user, float, bignum, kind}
+use Rattle.definition.specs.Node.{Row, kind}
 use Rattle.definition.specs.Arena.{Arena, node}
 use Rattle.definition.specs.Graph.{Header, header-of, header, links, Reachable, root, link, Paired, none, one, Pairing, SameGraph}
 use Rattle.lists.specs.Lists.{At, PW}
 use Rattle.graph.specs.Forest.{Node, leaf, sym, box, F}
 use Rattle.graph.specs.Describe
 use Rattle.graph.specs.Describe.{Key, Like, Says, carried}
-use Rattle.graph.specs.View.{see, seen, see-at, at-see}
+use Rattle.graph.specs.View.{node-by-kind, node-of, see, header-kind, Headed, nil-headed, bool-headed, fixnum-headed, symbol-headed, box-headed, headed, seen, see-at, at-see}
 use Rattle.well_formed.specs.Nodes.{at-node}
 use Rattle.well_formed.specs.Right.{Right, node-links-below}
 
@@ -26,21 +26,6 @@ reachable-below A ρ v r = go r
     go : {v : ℕ} → Reachable A v → v < length (A .nodes)
     go root = ρ .root-below
     go (link {v = v} r k w e) = node-links-below A ρ v (go r) k w e
-
-header-kind : (A : Arena) (r : Row) → header A r .kind ≡ kind r
-unfolding header kind
-header-kind A nil = refl
-header-kind A (bool false) = refl
-header-kind A (bool true) = refl
-header-kind A (fixnum w) = refl
-header-kind A (symbol s l) = refl
-header-kind A (array s n) = refl
-header-kind A (hash s n d) = refl
-header-kind A (object s n c) = refl
-header-kind A (string s l v) = refl
-header-kind A (user s l c v) = refl
-header-kind A (float s l) = refl
-header-kind A (bignum low high m) = refl
 
 -- paired nodes have one kind
 pair-kind : (P Q : Arena) (a b : ℕ) → header P (node P a) ≡ header Q (node Q b) → kind (node P a) ≡ kind (node Q b)
@@ -106,31 +91,6 @@ same-trans P Q S (R, π) (R′, π′) = (
 
 -- ---- rows by header and links
 
-abbrev node-by-kind : ℕ → Header → List ℕ → Node
-node-by-kind zero h ms = leaf 0 (h .value)
-node-by-kind (suc zero) h ms = leaf 1 (h .value)
-node-by-kind (suc (suc zero)) h ms = leaf 2 (h .value)
-node-by-kind (suc (suc (suc zero))) h ms = sym (h .bytes)
-node-by-kind (suc (suc (suc (suc k)))) h ms = box h ms
-
-abbrev node-of : Header → List ℕ → Node
-node-of h ms = node-by-kind (h .kind) h ms
-
-see-node-of : (A : Arena) (r : Row) → see A r ≡ node-of (header A r) (links A r)
-unfolding see header
-see-node-of A nil = refl
-see-node-of A (bool false) = refl
-see-node-of A (bool true) = refl
-see-node-of A (fixnum w) = refl
-see-node-of A (symbol s l) = refl
-see-node-of A (array s n) = refl
-see-node-of A (hash s n d) = refl
-see-node-of A (object s n c) = refl
-see-node-of A (string s l v) = refl
-see-node-of A (user s l c v) = refl
-see-node-of A (float s l) = refl
-see-node-of A (bignum low high m) = refl
-
 abbrev node-header : Node → Header
 node-header (leaf k x) = header-of k x [] 0 false
 node-header (sym b) = header-of 3 0 b 0 false
@@ -142,64 +102,48 @@ node-links (sym b) = []
 node-links (box h ms) = ms
 
 see-header : (A : Arena) (r : Row) → header A r ≡ node-header (see A r)
-unfolding see header
-see-header A nil = refl
-see-header A (bool false) = refl
-see-header A (bool true) = refl
-see-header A (fixnum w) = refl
-see-header A (symbol s l) = refl
-see-header A (array s n) = refl
-see-header A (hash s n d) = refl
-see-header A (object s n c) = refl
-see-header A (string s l v) = refl
-see-header A (user s l c v) = refl
-see-header A (float s l) = refl
-see-header A (bignum low high m) = refl
+unfolding see
+see-header A r = go (headed A r)
+  where
+    go : {h : Header} {ms : List ℕ} → Headed h ms → h ≡ node-header (node-of h ms)
+    go (nil-headed x) = refl
+    go (bool-headed x) = refl
+    go (fixnum-headed x) = refl
+    go (symbol-headed b) = refl
+    go (box-headed k x b n p ms) = refl
 
 see-links : (A : Arena) (r : Row) → links A r ≡ node-links (see A r)
-unfolding see links
-see-links A nil = refl
-see-links A (bool false) = refl
-see-links A (bool true) = refl
-see-links A (fixnum w) = refl
-see-links A (symbol s l) = refl
-see-links A (array s n) = refl
-see-links A (hash s n d) = refl
-see-links A (object s n c) = refl
-see-links A (string s l v) = refl
-see-links A (user s l c v) = refl
-see-links A (float s l) = refl
-see-links A (bignum low high m) = refl
+unfolding see
+see-links A r = go (headed A r)
+  where
+    go : {h : Header} {ms : List ℕ} → Headed h ms → ms ≡ node-links (node-of h ms)
+    go (nil-headed x) = refl
+    go (bool-headed x) = refl
+    go (fixnum-headed x) = refl
+    go (symbol-headed b) = refl
+    go (box-headed k x b n p ms) = refl
 
 see-key : (A : Arena) (r : Row) → 3 ≤ kind r → Key (see A r)
-unfolding see kind
-see-key A nil h = absurd (omega arith)
-see-key A (bool false) h = absurd (omega arith)
-see-key A (bool true) h = absurd (omega arith)
-see-key A (fixnum w) h = absurd (omega arith)
-see-key A (symbol s l) h = tt
-see-key A (array s n) h = tt
-see-key A (hash s n d) h = tt
-see-key A (object s n c) h = tt
-see-key A (string s l v) h = tt
-see-key A (user s l c v) h = tt
-see-key A (float s l) h = tt
-see-key A (bignum low high m) h = tt
+unfolding see
+see-key A r h = go (header A r .kind) (header A r) (links A r) (rw (header-kind A r) h)
+  where
+    go : (k : ℕ) (h : Header) (ms : List ℕ) → 3 ≤ k → Key (node-by-kind k h ms)
+    go zero h ms l = absurd (omega arith)
+    go (suc zero) h ms l = absurd (omega arith)
+    go (suc (suc zero)) h ms l = absurd (omega arith)
+    go (suc (suc (suc zero))) h ms l = tt
+    go (suc (suc (suc (suc k)))) h ms l = tt
 
 key-kind : (A : Arena) (r : Row) → Key (see A r) → 3 ≤ kind r
-unfolding see kind
-key-kind A nil h = absurd h
-key-kind A (bool false) h = absurd h
-key-kind A (bool true) h = absurd h
-key-kind A (fixnum w) h = absurd h
-key-kind A (symbol s l) h = omega arith
-key-kind A (array s n) h = omega arith
-key-kind A (hash s n d) h = omega arith
-key-kind A (object s n c) h = omega arith
-key-kind A (string s l v) h = omega arith
-key-kind A (user s l c v) h = omega arith
-key-kind A (float s l) h = omega arith
-key-kind A (bignum low high m) h = omega arith
+unfolding see
+key-kind A r h = rw (header-kind A r) at (go (header A r .kind) (header A r) (links A r) h)
+  where
+    go : (k : ℕ) (h : Header) (ms : List ℕ) → Key (node-by-kind k h ms) → 3 ≤ k
+    go zero h ms l = absurd l
+    go (suc zero) h ms l = absurd l
+    go (suc (suc zero)) h ms l = absurd l
+    go (suc (suc (suc zero))) h ms l = omega arith
+    go (suc (suc (suc (suc k)))) h ms l = omega arith
 
 -- ---- a pairing of nodes
 
@@ -219,8 +163,9 @@ like-by-kind R (suc (suc (suc zero))) h ms ns w = refl
 like-by-kind R (suc (suc (suc (suc k)))) h ms ns w = (ns, refl, w)
 
 like-rows : (R : ℕ → ℕ → Type 0) (P Q : Arena) (r r′ : Row) → header P r ≡ header Q r′ → PW R (links P r) (links Q r′) → Like R (see P r) (see Q r′)
+unfolding see
 like-rows R P Q r r′ e w =
-    rw (see-node-of P r, see-node-of Q r′, ← e) (like-by-kind R (header P r .kind) (header P r) (links P r) (links Q r′) w)
+    rw (← e) (like-by-kind R (header P r .kind) (header P r) (links P r) (links Q r′) w)
 
 module _ (P Q : Arena) (ρ : Right P) (κ : Right Q) (R : ℕ → ℕ → Type 0) (π : Pairing P Q R) where
   pub graph-pairing : Describe.Pairing (graph-of P) (graph-of Q) R

@@ -3,7 +3,8 @@ use Prim.Native.Nat.{ℕ, zero, suc, _*_}
 use mathlib.Core.Path.{_≡_, refl, subst}
 use mathlib.Core.Bool.{Bool, true, false}
 use mathlib.Core.List.{List, [], _∷_, _++_}
-use Rattle.definition.specs.Node.{Row, nil, bool, fixnum, symbol, array, hash, object, string, user, float, bignum, absent, present}
+use Rattle.definition.specs.Run.{pick}
+use Rattle.definition.specs.Node.{Row, nil, bool, fixnum, symbol, array, hash, object, string, user, float, bignum, absent, present, kind, words}
 use Rattle.definition.specs.Magnitude.{magnitude}
 use Rattle.definition.specs.Arena.{Arena, node, range, name-of}
 use Rattle.definition.specs.Graph.{header-of, header, links, vars-links, vars-count, vars-present, default-link, default-present}
@@ -50,5 +51,5 @@ pub shown-at : (A : Arena) (v : ℕ) (n : Node) → At (seen A) v n → Shown A 
 shown-at A v n a = subst (Shown A (node A v)) (at-see A v n a .0) (shown A (node A v))
 
 pub name-shown : (A : Arena) (r : Row) (b : List ℕ) → Shown A r (sym b) → name-of (A .bytes) r ≡ b
-unfolding name-of
+unfolding name-of kind words pick
 name-shown A r b symbol-shown = refl

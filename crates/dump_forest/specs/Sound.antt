@@ -7,10 +7,10 @@ use mathlib.Core.Option.{Option, none, some}
 use mathlib.Core.List.{List, [], _∷_, _++_, append-nil}
 use lib.ListN.{length, length-append}
 use native.Mathlib.Omega.{arith}
-use Rattle.definition.specs.Run.{ok, pure, refuse, look}
+use Rattle.definition.specs.Run.{ok, pure, refuse, look, pick}
 use Rattle.definition.specs.Integer.{integer-bytes}
 use Rattle.definition.specs.Kind.{NIL, TRUE, FALSE, FIXNUM, SYMBOL, SYMBOL-LINK, OBJECT-LINK, INSTANCE-VARIABLES, ARRAY, OBJECT, STRING, USER-DEFINED, BIGNUM}
-use Rattle.definition.specs.Node.{Row, nil, bool, fixnum, symbol, array, hash, object, string, user, float, bignum, absent, present}
+use Rattle.definition.specs.Node.{Row, nil, bool, fixnum, symbol, array, hash, object, string, user, float, bignum, absent, present, kind, words}
 use Rattle.definition.specs.Magnitude.{magnitude, bignum-bytes}
 use Rattle.definition.specs.Arena.{Arena, node, range, name-of, firsts}
 use Rattle.definition.specs.Graph.{Header, header-of, header, links, vars-links, vars-count, vars-present, default-link, default-present}
@@ -134,7 +134,7 @@ module _ (size : ℕ) (A : Arena) where
   one-level limit k s s₁ e = ok-inj s s₁ e
 
   name-sound : (c : ℕ) → Name A c → (s s′ : Written) → write-name size A c s ≡ ok tt s′ → Symbol size (seen A) c s s′
-  unfolding write-name name-of see
+  unfolding write-name name-of kind words pick see header
   name-sound c (p, n, a) s s′ e =
       let q : node A c ≡ symbol p n = node-at A c (symbol p n) a in
       symbol-sound size (seen A) c (range (A .bytes) p n) s s′ (see-at A c (symbol p n) a) (rw q at e)
@@ -382,7 +382,7 @@ module _ (size : ℕ) (A : Arena) where
     }
 
     row-sound : (v : ℕ) (r : Row) → At (A .nodes) v r → RowRight A r → (s s′ : Written) → write-row size A (write-level limit l) inner v r s ≡ ok tt s′ → Head size (seen A) (suc l) v s s′
-    unfolding write-row see write-variables
+    unfolding write-row see write-variables header
     row-sound v nil a h s s′ e = leaf-sound v (NIL ∷ []) 0 0 s s′ (see-at A v nil a) (λ m r x i t. tNil i t) e
     row-sound v (bool true) a h s s′ e = leaf-sound v (TRUE ∷ []) 1 1 s s′ (see-at A v (bool true) a) (λ m r x i t. tTrue i t) e
     row-sound v (bool false) a h s s′ e = leaf-sound v (FALSE ∷ []) 1 0 s s′ (see-at A v (bool false) a) (λ m r x i t. tFalse i t) e

@@ -16,6 +16,7 @@ use Rattle.definition.specs.Kind.{SYMBOL, SYMBOL-LINK}
 use Rattle.definition.specs.Dump.{Written, Writer, _>>_, write, number-in, byte-string-bytes, write-elements, write-default}
 use Rattle.definition.specs.Arena.{Arena}
 use Rattle.definition.specs.Graph.{default-link}
+use Rattle.definition.specs.Slice.{OUTPUT}
 use Rattle.definition.specs.declared.Refusal.the-variants.{NoSpace}
 use Rattle.lists.specs.Lists.{At, NotIn, Distinct, apart}
 use Rattle.graph.specs.Forest.{Num, F, fEnd, fSym, fSymref, Mode, pairs, value-pairs, name, name-pairs, after, IsValue, Text, tName, tNameLink, tOneName, tOneLink, tClass, tClassLink, tSymbol, tSymbolLink}
@@ -71,7 +72,7 @@ pub write-inv : (size : ℕ) (bs : List ℕ) (s s′ : Written) → write size b
 unfolding write pick
 write-inv size bs s s′ e = go (leb (length bs) (size - length (s .bytes))) refl e
   where
-    go : (b : Bool) → leb (length bs) (size - length (s .bytes)) ≡ b → _≡_ {A = Outcome Written (Unit {0})} (pick b (ok tt (put bs s)) (refused (NoSpace 6))) (ok tt s′)
+    go : (b : Bool) → leb (length bs) (size - length (s .bytes)) ≡ b → _≡_ {A = Outcome Written (Unit {0})} (pick b (ok tt (put bs s)) (refused (NoSpace OUTPUT))) (ok tt s′)
         → (put bs s ≡ s′) × Wrote size (s .bytes) (s .bytes ++ bs) bs
     go true h e = (ok-inj _ _ e, record { is = refl; fits = λ f. rw (length-append (s .bytes) bs) (omega (arith, leb-true (length bs) (size - length (s .bytes)) h)) })
     go false h e = apart (cc)

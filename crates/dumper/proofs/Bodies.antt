@@ -16,8 +16,9 @@ use Rattle.well_formed.specs.Right.{PairsIn}
 use Rattle.writer.specs.Held.{Buffers, buffers, Lent, Listed, Ready, IsSymbol, Goes, Leads, Meets}
 use Rattle.writer.specs.Laws.{then, goes-to, lead-to, lead-goes, lead-stop, lead-first, ready-goes, ready-as}
 use Rattle.writer.proofs.Names.{right-row}
-use Rattle.dumper.specs.Values.{IsObject, Heads, Opens, begun, opened, texted, members-of, MembersIn}
-use Rattle.dumper.specs.Laws.{linked, lead-head, head-as, head-to, head-after, head-goes, head-keep}
+use Rattle.object_writer.specs.Values.{IsObject, Heads, Opens, begun, opened, texted}
+use Rattle.dumper.specs.Members.{members-of, MembersIn}
+use Rattle.object_writer.specs.Laws.{linked, lead-head, head-as, head-to, head-after, head-goes, head-keep}
 use Rattle.dumper.proofs.Heads.{is-object, object-row, string-row, user-row, float-row, bignum-row, symbol-as, bytes-inside, object-open, string-open, user-open, float-open, bignum-open, after, after-none, after-some, vars-present, members-pairs, in-pairs}
 
 -- the tables, the node and the levels left for its members

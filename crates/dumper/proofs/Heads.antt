@@ -11,7 +11,7 @@ use borrow.Author.Tests.{eq-eqb, ne-eqb}
 use Rattle.definition.specs.Run.{pure, pick}
 use Rattle.definition.specs.Integer.{integer-bytes}
 use Rattle.definition.specs.Kind.{ARRAY, HASH, HASH-DEFAULT, OBJECT, STRING, USER-DEFINED, FLOAT, BIGNUM}
-use Rattle.definition.specs.Node.{width, symbol, array, hash, object, string, user, float, bignum, kind, vars}
+use Rattle.definition.specs.Node.{width, symbol, array, hash, object, string, user, float, bignum, kind, vars, LIST, COUNT}
 use Rattle.definition.specs.Magnitude.{magnitude, bignum-bytes}
 use Rattle.definition.specs.Arena.{Arena, node, range}
 use Rattle.definition.specs.Dump.{Writer, _>>_, write, write-elements, write-default, write-name, byte-string-bytes, write-instance-variables, write-variables, write-object-or-link, write-row, hash-byte}
@@ -22,8 +22,9 @@ use Rattle.well_formed.specs.Right.{BytesIn, PairsIn, VarsRight}
 use Rattle.writer.specs.Held.{Noded, Lent, IsSymbol}
 use Rattle.writer.specs.Laws.{assoc, unit-right, write-join}
 use Rattle.writer.proofs.Names.{right-row, string-bytes}
-use Rattle.dumper.specs.Values.{IsObject, begun, opened, texted, listed, default-of, members-of, MembersIn}
-use Rattle.dumper.proofs.Openings.{begun-join}
+use Rattle.object_writer.specs.Values.{IsObject, begun, opened, texted}
+use Rattle.dumper.specs.Members.{listed, default-of, members-of, MembersIn}
+use Rattle.object_writer.proofs.Openings.{begun-join}
 
 -- ---- what a row says
 
@@ -176,7 +177,7 @@ bytes-inside s n L h = omega (arith, L .bytes-fit)
 
 -- ---- lists and defaults inside
 
-pub in-pairs : {A : Arena} (t : List ℕ) (v : ℕ) → (getD t (v * width) 0 ≡ 4 → ⊥) → (getD t (v * width) 0 ≡ 5 → ⊥) → PairsIn A (getD t (v * width + 3) 0) (getD t (v * width + 4) 0) → MembersIn A t v
+pub in-pairs : {A : Arena} (t : List ℕ) (v : ℕ) → (getD t (v * width) 0 ≡ 4 → ⊥) → (getD t (v * width) 0 ≡ 5 → ⊥) → PairsIn A (getD t (v * width + LIST) 0) (getD t (v * width + COUNT) 0) → MembersIn A t v
 unfolding listed default-of pick
 in-pairs t v a b P = rw (ne-eqb (getD t (v * width) 0) 4 a, ne-eqb (getD t (v * width) 0) 5 b) (P .list, omega arith)
 

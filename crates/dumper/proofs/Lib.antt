@@ -1,6 +1,4 @@
 -- Laws for the proofs of what opens values.
-pub mod Objects
-pub mod Openings
 pub mod Heads
 pub mod Bodies
 pub mod Variables

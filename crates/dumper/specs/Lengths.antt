@@ -5,16 +5,17 @@ use mathlib.Core.List.{[], _∷_}
 use lib.Dec.{ltb}
 use Rattle.definition.specs.Node.{width}
 use Rattle.definition.specs.Arena.{too-long, bad-nodes, lowest}
+use Rattle.definition.specs.Slice.{BYTES, LIMIT, NODES, OUTPUT, REFERENCES, SCRATCH, greatest-length, greatest-limit}
 
 -- the lowest wrong slice's number by the lengths lent, or 0
 abbrev pub wrong : ℕ → ℕ → ℕ → ℕ → ℕ → ℕ → ℕ
-wrong nodes references bytes output limit scratch = lowest ((1, bad-nodes nodes) ∷ (2, too-long references) ∷ (3, too-long bytes) ∷ (6, too-long output) ∷ (7, ltb 128 limit) ∷ (10, too-long scratch || ltb scratch (nodes / width)) ∷ [])
+wrong nodes references bytes output limit scratch = lowest ((NODES, bad-nodes nodes) ∷ (REFERENCES, too-long references) ∷ (BYTES, too-long bytes) ∷ (OUTPUT, too-long output) ∷ (LIMIT, ltb greatest-limit limit) ∷ (SCRATCH, too-long scratch || ltb scratch (nodes / width)) ∷ [])
 
 -- lengths that a dump takes
 pub record Allowed (nodes references bytes output scratch : ℕ) : Type 0 where
-  pub nodes-small : nodes ≤ 2147483647
-  pub references-small : references ≤ 2147483647
-  pub bytes-small : bytes ≤ 2147483647
-  pub output-small : output ≤ 2147483647
-  pub scratch-small : scratch ≤ 2147483647
+  pub nodes-small : nodes ≤ greatest-length
+  pub references-small : references ≤ greatest-length
+  pub bytes-small : bytes ≤ greatest-length
+  pub output-small : output ≤ greatest-length
+  pub scratch-small : scratch ≤ greatest-length
   pub scratch-fits : nodes / width ≤ scratch

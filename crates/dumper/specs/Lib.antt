@@ -1,4 +1,3 @@
--- What the contracts say of a value's beginning, and how it and the rest compose.
-pub mod Values
+-- What the contracts say of a value's members, and of the slices that dump takes.
+pub mod Members
 pub mod Lengths
-pub mod Laws

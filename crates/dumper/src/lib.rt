@@ -3,158 +3,34 @@ use arena_check::first_wrong;
 use arena_check::size;
 use arena_check::too_long;
 use arena_check::wrong_table;
+use definition::LIMIT;
 use definition::Node;
+use definition::Slice;
 use definition::ValueKind;
+use object_writer::open_bignum;
+use object_writer::open_list;
+use object_writer::open_marked;
+use object_writer::open_object;
+use object_writer::open_text;
+use object_writer::whole;
 use writer::DEEP;
 use writer::DONE;
-use writer::OBJECTS;
 use writer::WHOLE;
-use writer::write_bignum;
-use writer::write_byte;
 use writer::write_byte_string;
 use writer::write_fixnum;
 use writer::write_scalar;
 use writer::write_symbol;
-use writer::write_tagged;
 ghost use mathlib.Core.Path.{_≡_};
-ghost use mathlib.Core.List.{[], _∷_, _++_};
-ghost use Prim.Native.Nat.{ℕ, _+_, _*_, _<_, _≤_};
-ghost use lib.Dec.{eqb};
-ghost use lib.ListN.{length, getD, take, drop};
-ghost use Rattle.definition.specs.Integer.{integer-bytes};
-ghost use Rattle.definition.specs.Kind.{BIGNUM};
-ghost use Rattle.definition.specs.Magnitude.{magnitude, bignum-bytes};
-ghost use Rattle.definition.specs.Node.{width};
+ghost use Prim.Native.Nat.{ℕ, _+_, _*_, _<_};
+ghost use lib.ListN.{length, getD};
+ghost use Rattle.definition.specs.Node.{width, LIST, COUNT, DEFAULT};
 ghost use Rattle.definition.specs.Arena.{Arena, node, range};
-ghost use Rattle.definition.specs.Dump.{write, write-level, write-object-or-link, write-elements, write-instance-variables, write-row, write-value};
+ghost use Rattle.definition.specs.Dump.{write-level, write-elements, write-instance-variables, write-row, write-value};
 ghost use Rattle.well_formed.specs.Right.{PairsIn};
-ghost use Rattle.writer.specs.Held.{buffers, Noded, Lent, Listed, Ready, Leads};
-ghost use Rattle.dumper.specs.Values.{IsObject, Heads, Opens, begun, opened, texted, members-of, MembersIn, listed};
+ghost use Rattle.writer.specs.Held.{buffers, Lent, Listed, Ready, Leads};
+ghost use Rattle.object_writer.specs.Values.{Heads};
+ghost use Rattle.dumper.specs.Members.{listed, members-of, MembersIn};
 ghost use Rattle.dumper.specs.Lengths.{wrong, Allowed};
-
-// A link where node v has a number; else its number, and byte k.
-fn open_object(scratch: &mut [u32], output: &mut [u8], c: &mut [usize; 3], v: usize, k: u8) -> u32
-    requires { ⌜ Ready (λ A. IsObject A v) (buffers (now scratch) (now output)) (now c) ⌝ }
-    ensures { λ r. ⌜ ((A : Arena) (room limit : ℕ) → IsObject A v → Opens A room limit (opened room v (k ∷ [])) (buffers (now (scratch .entry)) (now (output .entry))) (now (c .entry)) r (buffers (now (scratch .exit)) (now (output .exit))) (now (c .exit))) ⌝ }
-{
-    let seen = scratch[v];
-    if seen == 0 {
-        let number = c[OBJECTS] + 1;
-        scratch[v] = number as u32;
-        c[OBJECTS] = number;
-        return write_byte(output, c, k);
-    }
-    let w = write_tagged(output, c, ValueKind::OBJECT_LINK, seen - 1);
-    if w != DONE {
-        return w;
-    }
-    WHOLE
-}
-
-// Arrays and hashes: byte k and the count.
-fn open_list(
-    scratch: &mut [u32],
-    output: &mut [u8],
-    c: &mut [usize; 3],
-    v: usize,
-    k: u8,
-    n: u32,
-) -> u32
-    requires { ⌜ Ready (λ A. IsObject A v) (buffers (now scratch) (now output)) (now c) ⌝ }
-    ensures { λ r. ⌜ ((A : Arena) (room limit : ℕ) → IsObject A v → Opens A room limit (opened room v (k ∷ integer-bytes n)) (buffers (now (scratch .entry)) (now (output .entry))) (now (c .entry)) r (buffers (now (scratch .exit)) (now (output .exit))) (now (c .exit))) ⌝ }
-{
-    let w = open_object(scratch, output, c, v, k);
-    if w != DONE {
-        return w;
-    }
-    write_fixnum(output, c, n)
-}
-
-// Byte k, after `I` and a test of the level where the mark f says that there are variables.
-fn open_marked(
-    scratch: &mut [u32],
-    output: &mut [u8],
-    c: &mut [usize; 3],
-    v: usize,
-    k: u8,
-    f: u32,
-    levels: u32,
-) -> u32
-    requires { ⌜ Ready (λ A. IsObject A v) (buffers (now scratch) (now output)) (now c) ⌝ }
-    ensures { λ r. ⌜ ((A : Arena) (room limit : ℕ) → IsObject A v → Opens A room limit (λ rest. write-object-or-link room v (begun room (write-level limit levels) f (write room (k ∷ [])) rest)) (buffers (now (scratch .entry)) (now (output .entry))) (now (c .entry)) r (buffers (now (scratch .exit)) (now (output .exit))) (now (c .exit))) ⌝ }
-{
-    if f == 0 {
-        return open_object(scratch, output, c, v, k);
-    }
-    let w = open_object(scratch, output, c, v, ValueKind::INSTANCE_VARIABLES);
-    if w != DONE {
-        return w;
-    }
-    if levels == 0 {
-        return DEEP;
-    }
-    write_byte(output, c, k)
-}
-
-// Byte k, likewise, and the byte string.
-fn open_text(
-    nodes: &[u32],
-    bytes: &[u8],
-    scratch: &mut [u32],
-    output: &mut [u8],
-    c: &mut [usize; 3],
-    v: usize,
-    k: u8,
-    f: u32,
-    levels: u32,
-) -> u32
-    requires { ⌜ (getD (now nodes) (v * width + 1) 0 + getD (now nodes) (v * width + 2) 0 ≤ length (now bytes)) × Ready (λ A. Lent A (now nodes) (now bytes) × IsObject A v) (buffers (now scratch) (now output)) (now c) ⌝ }
-    ensures { λ r. ⌜ ((A : Arena) (room limit : ℕ) → IsObject A v → Opens A room limit (texted room v (write-level limit levels) f k (integer-bytes (getD (now (nodes .entry)) (v * width + 2) 0) ++ take (getD (now (nodes .entry)) (v * width + 2) 0) (drop (getD (now (nodes .entry)) (v * width + 1) 0) (now (bytes .entry))))) (buffers (now (scratch .entry)) (now (output .entry))) (now (c .entry)) r (buffers (now (scratch .exit)) (now (output .exit))) (now (c .exit))) ⌝ }
-{
-    let w = open_marked(scratch, output, c, v, k, f, levels);
-    if w != DONE {
-        return w;
-    }
-    write_byte_string(
-        &bytes[..],
-        output,
-        c,
-        nodes[v * Node::WIDTH + Node::START],
-        nodes[v * Node::WIDTH + Node::LENGTH],
-    )
-}
-
-// A Bignum: its byte and its number.
-fn open_bignum(
-    nodes: &[u32],
-    scratch: &mut [u32],
-    output: &mut [u8],
-    c: &mut [usize; 3],
-    v: usize,
-) -> u32
-    requires { ⌜ Ready (λ A. Noded A (now nodes) × IsObject A v) (buffers (now scratch) (now output)) (now c) ⌝ }
-    ensures { λ r. ⌜ ((A : Arena) (room limit : ℕ) → IsObject A v → Opens A room limit (opened room v (BIGNUM ∷ bignum-bytes (eqb (getD (now (nodes .entry)) (v * width + 4) 0) 1) (magnitude (getD (now (nodes .entry)) (v * width + 1) 0) (getD (now (nodes .entry)) (v * width + 2) 0)))) (buffers (now (scratch .entry)) (now (output .entry))) (now (c .entry)) r (buffers (now (scratch .exit)) (now (output .exit))) (now (c .exit))) ⌝ }
-{
-    let w = open_object(scratch, output, c, v, ValueKind::BIGNUM);
-    if w != DONE {
-        return w;
-    }
-    write_bignum(
-        output,
-        c,
-        nodes[v * Node::WIDTH + Node::SIGN] == 1,
-        nodes[v * Node::WIDTH + Node::LOW],
-        nodes[v * Node::WIDTH + Node::HIGH],
-    )
-}
-
-// What has no members is whole where it is done.
-fn whole(w: u32) -> u32
-    ensures { λ r. ⌜ (w ≡ 0 → r ≡ 1) × ((w ≡ 0 → ⊥) → r ≡ w) ⌝ }
-    ensures { λ r. ⌜ (r ≡ 0 → ⊥) ⌝ }
-{
-    if w == DONE { WHOLE } else { w }
-}
 
 // The number of pairs. A pair's words are a name and a value, so the pairs are then written as elements; but names have no
 // level: where none is left for the first value, its name still comes before the refusal.
@@ -208,7 +84,7 @@ fn open_named(
     levels: u32,
 ) -> u32
     requires { ⌜ (getD (now nodes) (v * width) 0 ≡ 6) × Ready (λ A. Lent A (now nodes) (now bytes) × Listed A (now references) × (v < length (A .nodes))) (buffers (now scratch) (now output)) (now c) ⌝ }
-    ensures { λ r. ⌜ ((A : Arena) (room limit : ℕ) → Lent A (now (nodes .entry)) (now (bytes .entry)) → Listed A (now (references .entry)) → v < length (A .nodes) → Heads A room limit (write-row room A (write-level limit levels) (write-value room A limit levels) v (node A v)) (members-of room A (write-value room A limit levels) 6 (getD (now (nodes .entry)) (v * width + 3) 0) (getD (now (nodes .entry)) (v * width + 4) 0) (getD (now (nodes .entry)) (v * width + 6) 0)) (buffers (now (scratch .entry)) (now (output .entry))) (now (c .entry)) r (buffers (now (scratch .exit)) (now (output .exit))) (now (c .exit))) ⌝ }
+    ensures { λ r. ⌜ ((A : Arena) (room limit : ℕ) → Lent A (now (nodes .entry)) (now (bytes .entry)) → Listed A (now (references .entry)) → v < length (A .nodes) → Heads A room limit (write-row room A (write-level limit levels) (write-value room A limit levels) v (node A v)) (members-of room A (write-value room A limit levels) 6 (getD (now (nodes .entry)) (v * width + LIST) 0) (getD (now (nodes .entry)) (v * width + COUNT) 0) (getD (now (nodes .entry)) (v * width + DEFAULT) 0)) (buffers (now (scratch .entry)) (now (output .entry))) (now (c .entry)) r (buffers (now (scratch .exit)) (now (output .exit))) (now (c .exit))) ⌝ }
     ensures { λ r. ⌜ ((A : Arena) → Lent A (now (nodes .entry)) (now (bytes .entry)) → v < length (A .nodes) → r ≡ 0 → MembersIn A (now (nodes .entry)) v) ⌝ }
 {
     let w = open_object(scratch, output, c, v, ValueKind::OBJECT);
@@ -251,7 +127,7 @@ fn open_string(
     levels: u32,
 ) -> u32
     requires { ⌜ (getD (now nodes) (v * width) 0 ≡ 7) × Ready (λ A. Lent A (now nodes) (now bytes) × Listed A (now references) × (v < length (A .nodes))) (buffers (now scratch) (now output)) (now c) ⌝ }
-    ensures { λ r. ⌜ ((A : Arena) (room limit : ℕ) → Lent A (now (nodes .entry)) (now (bytes .entry)) → Listed A (now (references .entry)) → v < length (A .nodes) → Heads A room limit (write-row room A (write-level limit levels) (write-value room A limit levels) v (node A v)) (members-of room A (write-value room A limit levels) 7 (getD (now (nodes .entry)) (v * width + 3) 0) (getD (now (nodes .entry)) (v * width + 4) 0) (getD (now (nodes .entry)) (v * width + 6) 0)) (buffers (now (scratch .entry)) (now (output .entry))) (now (c .entry)) r (buffers (now (scratch .exit)) (now (output .exit))) (now (c .exit))) ⌝ }
+    ensures { λ r. ⌜ ((A : Arena) (room limit : ℕ) → Lent A (now (nodes .entry)) (now (bytes .entry)) → Listed A (now (references .entry)) → v < length (A .nodes) → Heads A room limit (write-row room A (write-level limit levels) (write-value room A limit levels) v (node A v)) (members-of room A (write-value room A limit levels) 7 (getD (now (nodes .entry)) (v * width + LIST) 0) (getD (now (nodes .entry)) (v * width + COUNT) 0) (getD (now (nodes .entry)) (v * width + DEFAULT) 0)) (buffers (now (scratch .entry)) (now (output .entry))) (now (c .entry)) r (buffers (now (scratch .exit)) (now (output .exit))) (now (c .exit))) ⌝ }
     ensures { λ r. ⌜ ((A : Arena) → Lent A (now (nodes .entry)) (now (bytes .entry)) → v < length (A .nodes) → r ≡ 0 → MembersIn A (now (nodes .entry)) v) ⌝ }
 {
     let f = nodes[v * Node::WIDTH + Node::VARIABLES];
@@ -297,7 +173,7 @@ fn open_user_defined(
     levels: u32,
 ) -> u32
     requires { ⌜ (getD (now nodes) (v * width) 0 ≡ 8) × Ready (λ A. Lent A (now nodes) (now bytes) × Listed A (now references) × (v < length (A .nodes))) (buffers (now scratch) (now output)) (now c) ⌝ }
-    ensures { λ r. ⌜ ((A : Arena) (room limit : ℕ) → Lent A (now (nodes .entry)) (now (bytes .entry)) → Listed A (now (references .entry)) → v < length (A .nodes) → Heads A room limit (write-row room A (write-level limit levels) (write-value room A limit levels) v (node A v)) (members-of room A (write-value room A limit levels) 8 (getD (now (nodes .entry)) (v * width + 3) 0) (getD (now (nodes .entry)) (v * width + 4) 0) (getD (now (nodes .entry)) (v * width + 6) 0)) (buffers (now (scratch .entry)) (now (output .entry))) (now (c .entry)) r (buffers (now (scratch .exit)) (now (output .exit))) (now (c .exit))) ⌝ }
+    ensures { λ r. ⌜ ((A : Arena) (room limit : ℕ) → Lent A (now (nodes .entry)) (now (bytes .entry)) → Listed A (now (references .entry)) → v < length (A .nodes) → Heads A room limit (write-row room A (write-level limit levels) (write-value room A limit levels) v (node A v)) (members-of room A (write-value room A limit levels) 8 (getD (now (nodes .entry)) (v * width + LIST) 0) (getD (now (nodes .entry)) (v * width + COUNT) 0) (getD (now (nodes .entry)) (v * width + DEFAULT) 0)) (buffers (now (scratch .entry)) (now (output .entry))) (now (c .entry)) r (buffers (now (scratch .exit)) (now (output .exit))) (now (c .exit))) ⌝ }
     ensures { λ r. ⌜ ((A : Arena) → Lent A (now (nodes .entry)) (now (bytes .entry)) → v < length (A .nodes) → r ≡ 0 → MembersIn A (now (nodes .entry)) v) ⌝ }
 {
     let f = nodes[v * Node::WIDTH + Node::VARIABLES];
@@ -354,7 +230,7 @@ pub fn open_value(
     levels: u32,
 ) -> u32
     requires { ⌜ Ready (λ A. Lent A (now nodes) (now bytes) × Listed A (now references) × (v < length (A .nodes))) (buffers (now scratch) (now output)) (now c) ⌝ }
-    ensures { λ r. ⌜ ((A : Arena) (room limit : ℕ) → Lent A (now (nodes .entry)) (now (bytes .entry)) → Listed A (now (references .entry)) → v < length (A .nodes) → Heads A room limit (write-row room A (write-level limit levels) (write-value room A limit levels) v (node A v)) (members-of room A (write-value room A limit levels) (getD (now (nodes .entry)) (v * width) 0) (getD (now (nodes .entry)) (v * width + 3) 0) (getD (now (nodes .entry)) (v * width + 4) 0) (getD (now (nodes .entry)) (v * width + 6) 0)) (buffers (now (scratch .entry)) (now (output .entry))) (now (c .entry)) r (buffers (now (scratch .exit)) (now (output .exit))) (now (c .exit))) ⌝ }
+    ensures { λ r. ⌜ ((A : Arena) (room limit : ℕ) → Lent A (now (nodes .entry)) (now (bytes .entry)) → Listed A (now (references .entry)) → v < length (A .nodes) → Heads A room limit (write-row room A (write-level limit levels) (write-value room A limit levels) v (node A v)) (members-of room A (write-value room A limit levels) (getD (now (nodes .entry)) (v * width) 0) (getD (now (nodes .entry)) (v * width + LIST) 0) (getD (now (nodes .entry)) (v * width + COUNT) 0) (getD (now (nodes .entry)) (v * width + DEFAULT) 0)) (buffers (now (scratch .entry)) (now (output .entry))) (now (c .entry)) r (buffers (now (scratch .exit)) (now (output .exit))) (now (c .exit))) ⌝ }
     ensures { λ r. ⌜ ((A : Arena) → Lent A (now (nodes .entry)) (now (bytes .entry)) → v < length (A .nodes) → r ≡ 0 → MembersIn A (now (nodes .entry)) v) ⌝ }
 {
     match nodes[v * Node::WIDTH] {
@@ -456,9 +332,13 @@ pub fn wrong_slice(
         references,
         bytes,
         first_wrong(
-            6,
+            Slice::OUTPUT,
             too_long(output),
-            first_wrong(7, 128 < limit, first_wrong(10, too_long(scratch) | few, 0)),
+            first_wrong(
+                Slice::LIMIT,
+                LIMIT < limit,
+                first_wrong(Slice::SCRATCH, too_long(scratch) | few, 0),
+            ),
         ),
     )
 }

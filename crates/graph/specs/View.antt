@@ -1,32 +1,70 @@
 -- An arena's rows as nodes of a graph.
-use Prim.Native.Nat.{ℕ, _<_}
-use mathlib.Core.Path.{_≡_}
-use mathlib.Core.Bool.{true, false}
+use Prim.Native.Nat.{ℕ, zero, suc, _<_}
+use mathlib.Core.Path.{_≡_, refl}
+use mathlib.Core.Bool.{Bool, true, false}
 use mathlib.Core.List.{List, [], map}
 use lib.ListN.{length}
-use Rattle.definition.specs.Node.{Row, nil, bool, fixnum, symbol, array, hash, object, string, user, float, bignum, absent}
+use Rattle.definition.specs.Node.{Row, nil, bool, fixnum, symbol, array, hash, object, string, user, float, bignum, absent, kind}
 use Rattle.definition.specs.Arena.{Arena, node, range}
-use Rattle.definition.specs.Graph.{header-of, header, links, vars-links, vars-count, vars-present}
-use Rattle.definition.specs.Load.{State}
+use Rattle.definition.specs.State.{State}
+use Rattle.definition.specs.Graph.{Header, header-of, header, links, vars-links, vars-count, vars-present}
 use Rattle.lists.specs.Lists.{At, at-lt, map-at, map-at-inv}
 use Rattle.well_formed.specs.Nodes.{node-at}
 use Rattle.graph.specs.Forest.{Node, leaf, sym, box, Texted, text-string, text-float}
 use Rattle.graph.specs.Build.{St}
 
+-- a header and links as a node: a leaf for kinds 0 to 2, a symbol for 3, a box from 4 on
+abbrev pub node-by-kind : ℕ → Header → List ℕ → Node
+node-by-kind zero h ms = leaf 0 (h .value)
+node-by-kind (suc zero) h ms = leaf 1 (h .value)
+node-by-kind (suc (suc zero)) h ms = leaf 2 (h .value)
+node-by-kind (suc (suc (suc zero))) h ms = sym (h .bytes)
+node-by-kind (suc (suc (suc (suc k)))) h ms = box h ms
+
+abbrev pub node-of : Header → List ℕ → Node
+node-of h ms = node-by-kind (h .kind) h ms
+
 -- only the arena's references and bytes matter
 unfoldable pub see : Arena → Row → Node
-see A nil = leaf 0 0
-see A (bool false) = leaf 1 0
-see A (bool true) = leaf 1 1
-see A (fixnum w) = leaf 2 w
-see A (symbol s l) = sym (range (A .bytes) s l)
-see A (array s n) = box (header A (array s n)) (links A (array s n))
-see A (hash s n d) = box (header A (hash s n d)) (links A (hash s n d))
-see A (object s n c) = box (header A (object s n c)) (links A (object s n c))
-see A (string s l v) = box (header A (string s l v)) (links A (string s l v))
-see A (user s l c v) = box (header A (user s l c v)) (links A (user s l c v))
-see A (float s l) = box (header A (float s l)) (links A (float s l))
-see A (bignum low high m) = box (header A (bignum low high m)) (links A (bignum low high m))
+see A r = node-of (header A r) (links A r)
+
+pub header-kind : (A : Arena) (r : Row) → header A r .kind ≡ kind r
+unfolding header kind
+header-kind A nil = refl
+header-kind A (bool false) = refl
+header-kind A (bool true) = refl
+header-kind A (fixnum w) = refl
+header-kind A (symbol s l) = refl
+header-kind A (array s n) = refl
+header-kind A (hash s n d) = refl
+header-kind A (object s n c) = refl
+header-kind A (string s l v) = refl
+header-kind A (user s l c v) = refl
+header-kind A (float s l) = refl
+header-kind A (bignum low high m) = refl
+
+-- the headers and links that rows have: a leaf's value and a symbol's bytes stand alone
+pub data Headed : Header → List ℕ → Type 0 where
+  nil-headed : (x : ℕ) → Headed (header-of 0 x [] 0 false) []
+  bool-headed : (x : ℕ) → Headed (header-of 1 x [] 0 false) []
+  fixnum-headed : (x : ℕ) → Headed (header-of 2 x [] 0 false) []
+  symbol-headed : (b : List ℕ) → Headed (header-of 3 0 b 0 false) []
+  box-headed : (k x : ℕ) (b : List ℕ) (n : ℕ) (p : Bool) (ms : List ℕ) → Headed (header-of (suc (suc (suc (suc k)))) x b n p) ms
+
+pub headed : (A : Arena) (r : Row) → Headed (header A r) (links A r)
+unfolding header links
+headed A nil = nil-headed 0
+headed A (bool false) = bool-headed 0
+headed A (bool true) = bool-headed 1
+headed A (fixnum w) = fixnum-headed w
+headed A (symbol s l) = symbol-headed (range (A .bytes) s l)
+headed A (array s n) = box-headed 0 _ _ _ _ _
+headed A (hash s n d) = box-headed 1 _ _ _ _ _
+headed A (object s n c) = box-headed 2 _ _ _ _ _
+headed A (string s l v) = box-headed 3 _ _ _ _ _
+headed A (user s l c v) = box-headed 4 _ _ _ _ _
+headed A (float s l) = box-headed 5 _ _ _ _ _
+headed A (bignum low high m) = box-headed 6 _ _ _ _ _
 
 -- the row of a byte string and nothing more, by where its bytes start and how many they are
 abbrev pub text-row : {k n : ℕ} → Texted k n → ℕ → ℕ → Row

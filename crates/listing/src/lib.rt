@@ -11,6 +11,7 @@ use definition::Counts;
 use definition::Loaded;
 use definition::Node;
 use definition::Refusal;
+use definition::Slice;
 use load::load_at;
 
 fn put_counts(out: &mut [u8], at: usize, counts: Counts, used: usize) -> usize {
@@ -192,7 +193,7 @@ pub fn put_listings(
     objects: &mut [u32],
 ) -> usize {
     if LONGEST < input.len() {
-        return put_refusal(out, start, Answer::Refused(Refusal::NoSpace(8)));
+        return put_refusal(out, start, Answer::Refused(Refusal::NoSpace(Slice::INPUT)));
     }
     let mut to = start;
     let mut at = 0;

@@ -12,7 +12,7 @@ use lib.Seq.{getD-set-same, getD-set-other, set-getD}
 use lib.Dec.{eqb, ltb}
 use borrow.Author.Tests.{eq-eqb, ne-eqb, eqb-true, eqb-false, ltb-true, ltb-false}
 use Rattle.definition.specs.Run.{pick}
-use Rattle.definition.specs.Buckets.{Buckets, word, ends, passed, distance, search, searches, empty}
+use Rattle.definition.specs.Buckets.{Buckets, bucket, ends, words-passed, distance, search, searches, empty}
 use Rattle.lists.specs.Joined.{or-none}
 
 less : (a b : ℕ) → (a < b) ⊎ (b ≤ a)
@@ -94,10 +94,10 @@ Stops h w = (w ≡ h) ⊎ (w ≡ 0)
 
 -- past the first p words from the k-th on, and at the p-th
 abbrev pub Clear : List ℕ → ℕ → ℕ → ℕ → Type 0
-Clear ws k h p = (q : ℕ) → q < p → Passes h (word ws (k + q))
+Clear ws k h p = (q : ℕ) → q < p → Passes h (bucket ws (k + q))
 
 abbrev pub Ends : List ℕ → ℕ → ℕ → ℕ → Type 0
-Ends ws k h p = Stops h (word ws (k + p))
+Ends ws k h p = Stops h (bucket ws (k + p))
 
 ends-yes : (h w : ℕ) → Stops h w → ends h w ≡ true
 unfolding ends
@@ -125,41 +125,41 @@ unfolding ends
 no-ends h w e = let (p, q) = or-none (eqb w h) (eqb w 0) e in (eqb-false w h p, eqb-false w 0 q)
 
 module _ (ws : List ℕ) (h : ℕ) where
-  here : (i : ℕ) → word ws (i + 0) ≡ word ws i
-  here i = let z : i + 0 ≡ i = omega arith in ap (word ws) z
+  here : (i : ℕ) → bucket ws (i + 0) ≡ bucket ws i
+  here i = let z : i + 0 ≡ i = omega arith in ap (bucket ws) z
 
-  there : (i q : ℕ) → word ws (i + suc q) ≡ word ws (suc i + q)
-  there i q = let z : i + suc q ≡ suc i + q = omega arith in ap (word ws) z
+  there : (i q : ℕ) → bucket ws (i + suc q) ≡ bucket ws (suc i + q)
+  there i q = let z : i + suc q ≡ suc i + q = omega arith in ap (bucket ws) z
 
   -- the words passed from the i-th on
   abbrev from : ℕ → ℕ → ℕ
-  from n i = passed n (ends h (word ws i)) ws h i
+  from n i = words-passed n (ends h (bucket ws i)) ws h i
 
   passed-is : (n i p : ℕ) → p < n → Clear ws i h p → Ends ws i h p → from n i ≡ p
-  unfolding passed
+  unfolding words-passed
   passed-is zero i p l c e = absurd (omega arith)
-  passed-is (suc n) i zero l c e = rw (ends-yes h (word ws i) (subst (Stops h) (here i) e)) refl
+  passed-is (suc n) i zero l c e = rw (ends-yes h (bucket ws i) (subst (Stops h) (here i) e)) refl
   passed-is (suc n) i (suc p) l c e =
-      rw (ends-no h (word ws i) (subst (Passes h) (here i) (c 0 (omega arith))))
+      rw (ends-no h (bucket ws i) (subst (Passes h) (here i) (c 0 (omega arith))))
       (ap suc (passed-is n (suc i) p (omega arith) (λ q g. subst (Passes h) (there i q) (c (suc q) (omega arith))) (subst (Stops h) (there i p) e)))
 
   passed-clear : (n i : ℕ) → Clear ws i h (from n i)
-  unfolding passed
+  unfolding words-passed
   passed-clear zero i q l = absurd (omega arith)
-  passed-clear (suc n) i q l = go (ends h (word ws i)) refl q l (passed-clear n (suc i))
+  passed-clear (suc n) i q l = go (ends h (bucket ws i)) refl q l (passed-clear n (suc i))
     where
-      go : (t : Bool) → ends h (word ws i) ≡ t → (q : ℕ) → q < passed (suc n) t ws h i → Clear ws (suc i) h (from n (suc i)) → Passes h (word ws (i + q))
+      go : (t : Bool) → ends h (bucket ws i) ≡ t → (q : ℕ) → q < words-passed (suc n) t ws h i → Clear ws (suc i) h (from n (suc i)) → Passes h (bucket ws (i + q))
       go true e q l c = absurd (omega arith)
-      go false e zero l c = subst (Passes h) (sym (here i)) (no-ends h (word ws i) e)
+      go false e zero l c = subst (Passes h) (sym (here i)) (no-ends h (bucket ws i) e)
       go false e (suc q) l c = subst (Passes h) (sym (there i q)) (c q (omega arith))
 
   passed-ends : (n i : ℕ) → from n i < n → Ends ws i h (from n i)
-  unfolding passed
+  unfolding words-passed
   passed-ends zero i l = absurd (omega arith)
-  passed-ends (suc n) i l = go (ends h (word ws i)) refl l (passed-ends n (suc i))
+  passed-ends (suc n) i l = go (ends h (bucket ws i)) refl l (passed-ends n (suc i))
     where
-      go : (t : Bool) → ends h (word ws i) ≡ t → passed (suc n) t ws h i < suc n → (from n (suc i) < n → Ends ws (suc i) h (from n (suc i))) → Ends ws i h (passed (suc n) t ws h i)
-      go true e l f = subst (Stops h) (sym (here i)) (yes-ends h (word ws i) e)
+      go : (t : Bool) → ends h (bucket ws i) ≡ t → words-passed (suc n) t ws h i < suc n → (from n (suc i) < n → Ends ws (suc i) h (from n (suc i))) → Ends ws i h (words-passed (suc n) t ws h i)
+      go true e l f = subst (Stops h) (sym (here i)) (yes-ends h (bucket ws i) e)
       go false e l f = subst (Stops h) (sym (there i (from n (suc i)))) (f (omega arith))
 
 distance-is : (ws : List ℕ) (k h p : ℕ) → p < length ws → Clear ws k h p → Ends ws k h p → distance ws k h ≡ p
@@ -181,9 +181,9 @@ pub search-new : (t : Buckets) (k h p : ℕ) → p < length (t .words) → Clear
 unfolding search
 search-new t k h p l c e = rw (distance-is (t .words) k h p l c e) refl
 
-search-known : (t : Buckets) (k h p : ℕ) → p < length (t .words) → Clear (t .words) k h p → word (t .words) (k + p) ≡ h
+search-known : (t : Buckets) (k h p : ℕ) → p < length (t .words) → Clear (t .words) k h p → bucket (t .words) (k + p) ≡ h
     → search k h t ≡ record { words = t .words; looked = t .looked + suc p }
-unfolding word
+unfolding bucket
 search-known t k h p l c e =
     let i = (k + p) % length (t .words) in
     search-new t k h p l c (inl e)
@@ -226,7 +226,7 @@ looked-least k l m = omega (arith, looked-from k l (empty m))
 pub record Reaches (ws : List ℕ) (k h : ℕ) : Type 0 where
   pub at : ℕ
   pub inside : at < length ws
-  pub there : word ws (k + at) ≡ h
+  pub there : bucket ws (k + at) ≡ h
   pub before : Clear ws k h at
 
 -- the nodes in a table: below n, each in one word, and come to from its hash
@@ -246,14 +246,14 @@ module _ (k : ℕ → ℕ) (n : ℕ) (ws : List ℕ) (s : Kept k n ws) where
   positive = omega (arith, s .some, s .room)
 
   -- words that are not zero are different numbers from 1 to n - 1: fewer than there are words
-  not-full : (i : ℕ) → ((q : ℕ) → q < length ws → word ws (i + q) ≡ 0 → ⊥) → ⊥
-  unfolding word
+  not-full : (i : ℕ) → ((q : ℕ) → q < length ws → bucket ws (i + q) ≡ 0 → ⊥) → ⊥
+  unfolding bucket
   not-full i z =
-      pigeonhole (n - 1) (length ws) (λ q. word ws (i + q) - 1) (omega (arith, s .some, s .room))
+      pigeonhole (n - 1) (length ws) (λ q. bucket ws (i + q) - 1) (omega (arith, s .some, s .room))
       (λ q l. omega (arith, s .below ((i + q) % length ws), z q l))
       (λ p q c d e. same-step i p q (length ws) c d (s .once _ _ (around ws (i + p) positive) (around ws (i + q) positive) (omega (arith, e, z p c, z q d)) (z p c)))
 
-  -- "A search always ends: n words for n nodes never fill"
+  -- a search always ends: n words for n nodes never fill
   search-inside : (j h : ℕ) → distance ws j h < length ws
   search-inside j h = go (less (distance ws j h) (length ws))
     where
@@ -280,7 +280,7 @@ record Searched (k : ℕ → ℕ) (n h : ℕ) (ws ws′ : List ℕ) : Type 0 whe
   from : (i : ℕ) → (getD ws′ i 0 ≡ h) ⊎ (getD ws′ i 0 ≡ getD ws i 0)
 
 -- h is new: put at a zero word, which no other's search passes
-module _ (k : ℕ → ℕ) (n h p : ℕ) (ws : List ℕ) (s : Kept k n ws) (b : h < n) (z : h ≡ 0 → ⊥) (l : p < length ws) (c : Clear ws (k h) h p) (e : word ws (k h + p) ≡ 0) where
+module _ (k : ℕ → ℕ) (n h p : ℕ) (ws : List ℕ) (s : Kept k n ws) (b : h < n) (z : h ≡ 0 → ⊥) (l : p < length ws) (c : Clear ws (k h) h p) (e : bucket ws (k h + p) ≡ 0) where
   abbrev place : ℕ
   place = (k h + p) % length ws
 
@@ -294,8 +294,8 @@ module _ (k : ℕ → ℕ) (n h p : ℕ) (ws : List ℕ) (s : Kept k n ws) (b : 
   size = length-set ws place h
 
   -- a word that isn't zero stands
-  stands : (i : ℕ) → (word ws i ≡ 0 → ⊥) → word then i ≡ word ws i
-  unfolding word
+  stands : (i : ℕ) → (bucket ws i ≡ 0 → ⊥) → bucket then i ≡ bucket ws i
+  unfolding bucket
   stands i f = ap (λ (m : ℕ). getD then (i % m) 0) size ∙ getD-set-other ws place (i % length ws) h 0 (λ q. f (ap (λ (j : ℕ). getD ws j 0) q ∙ e))
 
   -- h stood nowhere: its search would have come to it
@@ -303,7 +303,7 @@ module _ (k : ℕ → ℕ) (n h p : ℕ) (ws : List ℕ) (s : Kept k n ws) (b : 
   absent i g q =
       let r : Reaches ws (k h) h = subst (λ (v : ℕ). Reaches ws (k v) v) q (s .found i g (λ y. z (sym q ∙ y))) in
       let y : p ≡ r .at = sym (distance-is ws (k h) h p l c (inr e)) ∙ distance-is ws (k h) h (r .at) (r .inside) (r .before) (inl (r .there)) in
-      z (sym (r .there) ∙ ap (λ (j : ℕ). word ws (k h + j)) (sym y) ∙ e)
+      z (sym (r .there) ∙ ap (λ (j : ℕ). bucket ws (k h + j)) (sym y) ∙ e)
 
   walk : (g : ℕ) → (g ≡ 0 → ⊥) → Reaches ws (k g) g → Reaches then (k g) g
   walk g f r = record {
@@ -314,7 +314,7 @@ module _ (k : ℕ → ℕ) (n h p : ℕ) (ws : List ℕ) (s : Kept k n ws) (b : 
   }
 
   own : Reaches then (k h) h
-  unfolding word
+  unfolding bucket
   own = record {
     at = p;
     inside = rw size l;
@@ -438,11 +438,11 @@ none-kept k n m z l = record {
 -- the table after a search for each node of l
 pub record Probed (k : ℕ → ℕ) (m : ℕ) (l : List ℕ) : Type 0 where
   -- a word that is not zero is a node of l
-  pub listed : (i : ℕ) → (word (searches k l (empty m) .words) i ≡ 0 → ⊥) → (j : ℕ) × (j < length l) × (getD l j 0 ≡ word (searches k l (empty m) .words) i)
+  pub listed : (i : ℕ) → (bucket (searches k l (empty m) .words) i ≡ 0 → ⊥) → (j : ℕ) × (j < length l) × (getD l j 0 ≡ bucket (searches k l (empty m) .words) i)
   -- each node of l is come to from its hash
   pub reaches : (j : ℕ) → j < length l → Reaches (searches k l (empty m) .words) (k (getD l j 0)) (getD l j 0)
   -- wherever one starts, some word is zero
-  pub never-full : (i : ℕ) → ((q : ℕ) → q < m → word (searches k l (empty m) .words) (i + q) ≡ 0 → ⊥) → ⊥
+  pub never-full : (i : ℕ) → ((q : ℕ) → q < m → bucket (searches k l (empty m) .words) (i + q) ≡ 0 → ⊥) → ⊥
 
 module _ (k : ℕ → ℕ) (n m : ℕ) (l : List ℕ) (room : n ≤ m) (some : 0 < n) (below : (i : ℕ) → i < length l → getD l i 0 < n) (no-zero : (i : ℕ) → i < length l → getD l i 0 ≡ 0 → ⊥) where
   nodes : Nodes n l
@@ -458,14 +458,14 @@ module _ (k : ℕ → ℕ) (n m : ℕ) (l : List ℕ) (room : n ≤ m) (some : 0
   after-size = words-length k l (empty m) ∙ words-of m
 
   pub probed : Probed k m l
-  unfolding word
+  unfolding bucket
   probed = record {
     listed = λ i f. node i f (all-from k n l (empty m) nodes (none-kept k n m some room) (i % length after));
     reaches = all-reached k n l (empty m) nodes (none-kept k n m some room);
     never-full = λ i f. not-full k n after after-kept i (λ q g. f q (omega (arith, after-size, g)));
   }
     where
-      node : (i : ℕ) → (word after i ≡ 0 → ⊥) → ((j : ℕ) × (j < length l) × (getD l j 0 ≡ word after i)) ⊎ (word after i ≡ getD (empty m .words) (i % length after) 0) → (j : ℕ) × (j < length l) × (getD l j 0 ≡ word after i)
+      node : (i : ℕ) → (bucket after i ≡ 0 → ⊥) → ((j : ℕ) × (j < length l) × (getD l j 0 ≡ bucket after i)) ⊎ (bucket after i ≡ getD (empty m .words) (i % length after) 0) → (j : ℕ) × (j < length l) × (getD l j 0 ≡ bucket after i)
       node i f (inl a) = a
       node i f (inr e) = absurd (f (e ∙ no-word m (i % length after)))
 

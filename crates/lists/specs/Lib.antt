@@ -9,6 +9,7 @@ pub mod Magnitudes
 pub mod Rows
 pub mod Tables
 pub mod Slices
+pub mod Offsets
 pub mod Compared
 pub mod Same
 pub mod Latest

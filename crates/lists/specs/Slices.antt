@@ -10,6 +10,7 @@ use borrow.Author.Tests.{ltb-false, eqb-true, eqb-false, not-false}
 use Rattle.definition.specs.Run.{pick}
 use Rattle.definition.specs.Node.{width}
 use Rattle.definition.specs.Arena.{too-long, bad-nodes, lowest}
+use Rattle.definition.specs.Slice.{BYTES, NODES, REFERENCES, greatest-length}
 use Rattle.lists.specs.Joined.{or-none}
 
 -- ---- the number of the lowest wrong slice
@@ -31,16 +32,16 @@ unfolding lowest pick
 lowest-none k false ts e = (refl, e)
 lowest-none k true ts e = absurd (omega arith)
 
-pub short : (n : ℕ) → too-long n ≡ false → n ≤ 2147483647
+pub short : (n : ℕ) → too-long n ≡ false → n ≤ greatest-length
 unfolding too-long
-short n e = ltb-false 2147483647 n e
+short n e = ltb-false greatest-length n e
 
 pub whole-pairs : (n : ℕ) → too-long n || not (eqb (n % 2) 0) ≡ false → n / 2 * 2 ≡ n
 whole-pairs n e =
     let z : n % 2 ≡ 0 = eqb-true (n % 2) 0 (not-false _ (or-none (too-long n) _ e .1)) in
     omega arith
 
-nodes-right : (n : ℕ) → bad-nodes n ≡ false → (n ≤ 2147483647) × (n ≢ 0) × (n % width ≡ 0)
+nodes-right : (n : ℕ) → bad-nodes n ≡ false → (n ≤ greatest-length) × (n ≢ 0) × (n % width ≡ 0)
 unfolding bad-nodes
 nodes-right n e =
     let (x, y) = or-none _ _ e in
@@ -50,15 +51,15 @@ nodes-right n e =
 -- ---- the three tables, and then other slices
 
 abbrev pub with-tables : ℕ → ℕ → ℕ → List (ℕ × Bool) → List (ℕ × Bool)
-with-tables nodes references bytes ts = (1, bad-nodes nodes) ∷ (2, too-long references) ∷ (3, too-long bytes) ∷ ts
+with-tables nodes references bytes ts = (NODES, bad-nodes nodes) ∷ (REFERENCES, too-long references) ∷ (BYTES, too-long bytes) ∷ ts
 
 -- lengths of tables that are right: whole nodes, at least one, and none too long
 pub record Small (nodes references bytes : ℕ) : Type 0 where
   pub whole : nodes / width * width ≡ nodes
   pub one : 1 ≤ nodes / width
-  pub nodes-small : nodes ≤ 2147483647
-  pub references-small : references ≤ 2147483647
-  pub bytes-small : bytes ≤ 2147483647
+  pub nodes-small : nodes ≤ greatest-length
+  pub references-small : references ≤ greatest-length
+  pub bytes-small : bytes ≤ greatest-length
 
 pub tables-right : (n r b : ℕ) (ts : List (ℕ × Bool)) → lowest (with-tables n r b ts) ≡ 0 → Small n r b × (lowest ts ≡ 0)
 tables-right n r b ts e =

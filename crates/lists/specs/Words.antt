@@ -11,7 +11,7 @@ use native.Mathlib.Nat.{zero-add, suc-add, pow-suc, mul-assoc}
 use borrow.Author.Tests.{eqb-true, eq-eqb}
 use Rattle.definition.specs.Run.{pick}
 use Rattle.definition.specs.Integer.{little, low-bytes}
-use Rattle.definition.specs.Node.{Row, nil, bool, fixnum, symbol, array, hash, object, string, user, float, bignum, absent, present, words, flat, equal}
+use Rattle.definition.specs.Node.{Row, nil, bool, fixnum, symbol, array, hash, object, string, user, float, bignum, absent, present, words, flat, equal, width}
 use Rattle.lists.specs.Lists.{apart, Below}
 use Rattle.lists.specs.Joined.{pick-true}
 
@@ -88,7 +88,7 @@ little-append (b ∷ bs) cs over = ap (λ (m : ℕ). m * 256 + b) (little-append
 
 -- ---- a row's words
 
-pub length-words : (r : Row) → length (words r) ≡ 7
+pub length-words : (r : Row) → length (words r) ≡ width
 unfolding words
 length-words nil = refl
 length-words (bool true) = refl
@@ -106,7 +106,7 @@ length-words (float s l) = refl
 length-words (bignum low high true) = refl
 length-words (bignum low high false) = refl
 
-pub length-flat : (rs : List Row) → length (flat rs) ≡ length rs * 7
+pub length-flat : (rs : List Row) → length (flat rs) ≡ length rs * width
 unfolding flat
 length-flat [] = refl
 length-flat (r ∷ rs) = omega (arith, length-append (words r) (flat rs), length-words r, length-flat rs)

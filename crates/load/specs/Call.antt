@@ -1,32 +1,22 @@
--- A call's answer with everything lent.
+-- Answers by their fields.
 use Prim.Native.Nat.{ℕ}
-use mathlib.Core.List.{List}
 use mathlib.Core.Bool.{Bool}
-use Rattle.definition.specs.Load.{Lists, LoadCall, MeasuredCall, HashedCall, counts}
+use Rattle.definition.specs.Arena.{counts-of}
 use Rattle.definition.specs.declared.Answer.{Answer}
 use Rattle.definition.specs.declared.Hashed.{Hashed}
 use Rattle.definition.specs.declared.Loaded.{Loaded}
 use Rattle.definition.specs.declared.Measured.{Measured}
 use Rattle.load.specs.declared.Counted.{Counted}
 
-abbrev pub call : Loaded → Lists → LoadCall
-call r T = record { answer = r; lent = T }
-
 -- an answer by its fields: the counts of nodes, references and bytes, the root, the bytes used, and whether dump writes just these
 abbrev pub loaded-as : Answer → ℕ → ℕ → ℕ → ℕ → ℕ → Bool → Loaded
-loaded-as a n r b h u f = record { answer = a; counts = counts n r b h; used = u; form = f }
+loaded-as a n r b h u f = record { answer = a; counts = counts-of n r b h; used = u; form = f }
 
 -- the same of the measuring load
-abbrev pub measured : Measured → Lists → MeasuredCall
-measured r T = record { answer = r; lent = T }
-
 abbrev pub measured-as : Loaded → ℕ → ℕ → Measured
 measured-as l copied compared = record { load = l; copied = copied; compared = compared }
 
--- and of the hashed load, with the bucket table
-abbrev pub hashed : Hashed → Lists → List ℕ → HashedCall
-hashed r T B = record { answer = r; lent = T; buckets = B }
-
+-- and of the hashed load
 abbrev pub hashed-as : Loaded → ℕ → Hashed
 hashed-as l looked = record { load = l; looked = looked }
 

@@ -6,14 +6,16 @@ use definition::Loaded;
 use definition::Measured;
 use definition::Node;
 use definition::Refusal;
-use loader::AT;
-use loader::BYTES;
-use loader::COMPARED;
-use loader::FORM;
-use loader::LOOKED;
-use loader::NODES;
-use loader::REFERENCES;
-use loader::ROOM;
+use definition::Slice;
+use load_state::AT;
+use load_state::BYTES;
+use load_state::COMPARED_FROM_ONE;
+use load_state::COUNTS;
+use load_state::FORM;
+use load_state::LOOKED;
+use load_state::NODES;
+use load_state::REFERENCES;
+use load_state::ROOM;
 use loader::wrong_buckets;
 use loader::wrong_slice;
 use reader::REFUSED;
@@ -30,10 +32,21 @@ ghost use mathlib.Core.Logic.{_⊎_};
 ghost use Prim.Native.Nat.{_-_, _/_, _<_, _≤_};
 ghost use lib.ListN.{length};
 ghost use Rattle.definition.specs.Node.{width};
-ghost use Rattle.definition.specs.Load.{lists, load-call, measured-call, bad-buckets, hashed-call};
+ghost use Rattle.definition.specs.Slice.{greatest-length};
+ghost use Rattle.definition.specs.Load.{lists, load-call, load-call-of};
+ghost use Rattle.definition.specs.LoadMeasured.{measured-call, measured-call-of};
+ghost use Rattle.definition.specs.LoadHashed.{bad-buckets, hashed-call, hashed-call-of};
 ghost use Rattle.definition.specs.Reader.{load-next};
 ghost use Rattle.definition.specs.declared.Answer.the-variants.{Refused};
-ghost use Rattle.load.specs.Call.{call, loaded-as, measured, measured-as, hashed, hashed-as, counted-as};
+ghost use Rattle.load.specs.Call.{loaded-as, measured-as, hashed-as, counted-as};
+
+// What the count of the bytes compared begins with, by the load asked for: one, or zero where they are not counted.
+const COUNTING: usize = 1;
+
+const NOT_COUNTING: usize = 0;
+
+// Where no bucket table is lent none is wrong.
+const NONE_WRONG: bool = false;
 
 // What load answers, and what the measuring and the hashed load add to it.
 struct Counted {
@@ -75,8 +88,8 @@ fn compared(counted: usize) -> u64
     (counted - 1) as u64
 }
 
-// Loads a whole input. The bytes compared are counted where `counted` is 1, not where it is 0. Names are searched for by
-// the bucket table if it has words; `wrong` tells whether it is refused. Nothing is zeroed that is written over: of the tables
+// Loads a whole input. `counted` is COUNTING or NOT_COUNTING. Names are searched for by the bucket table if it has words, else on
+// the symbol list; `wrong` tells whether the bucket table is refused. Nothing is zeroed that is written over: of the tables
 // what is left at the end, of the lists all at the end; only the bucket table is zeroed before too.
 fn load_whole(
     input: &[u8],
@@ -91,9 +104,9 @@ fn load_whole(
     wrong: bool,
 ) -> Counted
     requires { ⌜ (counted ≤ 1) × (((length (now buckets) ≡ 0) × (wrong ≡ false)) ⊎ ((counted ≡ 0) × (wrong ≡ bad-buckets (length (now nodes) / width) (length (now buckets))))) ⌝ }
-    ensures { λ r. ⌜ (wrong ≡ false → call (r .load) (lists (now (nodes .exit)) (now (references .exit)) (now (bytes .exit)) (now (symbols .exit)) (now (objects .exit))) ≡ load-call (now (input .entry)) (lists (now (nodes .entry)) (now (references .entry)) (now (bytes .entry)) (now (symbols .entry)) (now (objects .entry))) limit) ⌝ }
-    ensures { λ r. ⌜ (wrong ≡ false → counted ≡ 1 → measured (measured-as (r .load) (r .copied) (r .compared)) (lists (now (nodes .exit)) (now (references .exit)) (now (bytes .exit)) (now (symbols .exit)) (now (objects .exit))) ≡ measured-call (now (input .entry)) (lists (now (nodes .entry)) (now (references .entry)) (now (bytes .entry)) (now (symbols .entry)) (now (objects .entry))) limit) ⌝ }
-    ensures { λ r. ⌜ (wrong ≡ bad-buckets (length (now (nodes .entry)) / width) (length (now (buckets .entry))) → hashed (hashed-as (r .load) (r .looked)) (lists (now (nodes .exit)) (now (references .exit)) (now (bytes .exit)) (now (symbols .exit)) (now (objects .exit))) (now (buckets .exit)) ≡ hashed-call (now (input .entry)) (lists (now (nodes .entry)) (now (references .entry)) (now (bytes .entry)) (now (symbols .entry)) (now (objects .entry))) (now (buckets .entry)) limit) ⌝ }
+    ensures { λ r. ⌜ (wrong ≡ false → load-call-of (r .load) (lists (now (nodes .exit)) (now (references .exit)) (now (bytes .exit)) (now (symbols .exit)) (now (objects .exit))) ≡ load-call (now (input .entry)) (lists (now (nodes .entry)) (now (references .entry)) (now (bytes .entry)) (now (symbols .entry)) (now (objects .entry))) limit) ⌝ }
+    ensures { λ r. ⌜ (wrong ≡ false → counted ≡ 1 → measured-call-of (measured-as (r .load) (r .copied) (r .compared)) (lists (now (nodes .exit)) (now (references .exit)) (now (bytes .exit)) (now (symbols .exit)) (now (objects .exit))) ≡ measured-call (now (input .entry)) (lists (now (nodes .entry)) (now (references .entry)) (now (bytes .entry)) (now (symbols .entry)) (now (objects .entry))) limit) ⌝ }
+    ensures { λ r. ⌜ (wrong ≡ bad-buckets (length (now (nodes .entry)) / width) (length (now (buckets .entry))) → hashed-call-of (hashed-as (r .load) (r .looked)) (lists (now (nodes .exit)) (now (references .exit)) (now (bytes .exit)) (now (symbols .exit)) (now (objects .exit))) (now (buckets .exit)) ≡ hashed-call (now (input .entry)) (lists (now (nodes .entry)) (now (references .entry)) (now (bytes .entry)) (now (symbols .entry)) (now (objects .entry))) (now (buckets .entry)) limit) ⌝ }
 {
     let w = wrong_slice(
         nodes.len(),
@@ -108,9 +121,9 @@ fn load_whole(
     if w != 0 {
         return refused(Refusal::BadTables(w), 0);
     }
-    let mut c = [0usize; 10];
+    let mut c = [0usize; COUNTS];
     c[NODES] = 1;
-    c[COMPARED] = counted;
+    c[COMPARED_FROM_ONE] = counted;
     c[ROOM] = nodes.len() / Node::WIDTH;
     put_node(nodes, 0, Node::NIL, 0, 0, 0, 0, 0, 0);
     zero_words(buckets, 0);
@@ -150,22 +163,26 @@ fn load_whole(
             form: c[FORM] == 0,
         },
         copied: c[BYTES] as u64,
-        compared: compared(c[COMPARED]),
+        compared: compared(c[COMPARED_FROM_ONE]),
         looked: c[LOOKED] as u64,
     }
 }
 
-// The offset, or the end where it is past it.
+// Where to load from: the offset, or the end where it is past it; of an input that is too long the start, since its whole
+// length is tested.
 fn inside(at: usize, length: usize) -> usize
-    ensures { λ r. ⌜ (r ≤ length) × (at ≤ length → r ≡ at) × (length < at → r ≡ length) ⌝ }
+    ensures { λ r. ⌜ (r ≤ length) × (greatest-length < length → r ≡ 0) × (length ≤ greatest-length → (at ≤ length → r ≡ at) × (length < at → r ≡ length)) ⌝ }
 {
+    if Slice::GREATEST < length {
+        return 0;
+    }
     if at < length {
         return at;
     }
     length
 }
 
-// Loads what stands at an offset of an input, past the end nothing.
+// Loads what stands at an offset of an input, past the end nothing: names on the symbol list, nothing counted.
 pub fn load_at(
     input: &[u8],
     at: usize,
@@ -176,10 +193,10 @@ pub fn load_at(
     objects: &mut [u32],
     limit: u32,
 ) -> Loaded
-    ensures { λ r. ⌜ call r (lists (now (nodes .exit)) (now (references .exit)) (now (bytes .exit)) (now (symbols .exit)) (now (objects .exit))) ≡ load-next (now (input .entry)) at (lists (now (nodes .entry)) (now (references .entry)) (now (bytes .entry)) (now (symbols .entry)) (now (objects .entry))) limit ⌝ }
+    ensures { λ r. ⌜ load-call-of r (lists (now (nodes .exit)) (now (references .exit)) (now (bytes .exit)) (now (symbols .exit)) (now (objects .exit))) ≡ load-next (now (input .entry)) at (lists (now (nodes .entry)) (now (references .entry)) (now (bytes .entry)) (now (symbols .entry)) (now (objects .entry))) limit ⌝ }
 {
     let from = inside(at, input.len());
-    let mut none = [0u32; 1];
+    let mut no_buckets = [0u32; 1];
     let w = load_whole(
         &input[from..],
         nodes,
@@ -187,10 +204,10 @@ pub fn load_at(
         bytes,
         symbols,
         objects,
-        &mut none[..0],
+        &mut no_buckets[..0],
         limit,
-        0,
-        false,
+        NOT_COUNTING,
+        NONE_WRONG,
     );
     w.load
 }
@@ -206,7 +223,7 @@ pub fn load_next<'a>(
     objects: &mut [u32],
     limit: u32,
 ) -> Loaded
-    ensures { λ l. ⌜ call l (lists (now (nodes .exit)) (now (references .exit)) (now (bytes .exit)) (now (symbols .exit)) (now (objects .exit))) ≡ load-next (now (r .entry .input)) (r .entry .offset) (lists (now (nodes .entry)) (now (references .entry)) (now (bytes .entry)) (now (symbols .entry)) (now (objects .entry))) limit ⌝ }
+    ensures { λ l. ⌜ load-call-of l (lists (now (nodes .exit)) (now (references .exit)) (now (bytes .exit)) (now (symbols .exit)) (now (objects .exit))) ≡ load-next (now (r .entry .input)) (r .entry .offset) (lists (now (nodes .entry)) (now (references .entry)) (now (bytes .entry)) (now (symbols .entry)) (now (objects .entry))) limit ⌝ }
 {
     load_at(
         r.input,
@@ -230,7 +247,7 @@ pub fn load(
     objects: &mut [u32],
     limit: u32,
 ) -> Loaded
-    ensures { λ r. ⌜ call r (lists (now (nodes .exit)) (now (references .exit)) (now (bytes .exit)) (now (symbols .exit)) (now (objects .exit))) ≡ load-call (now (input .entry)) (lists (now (nodes .entry)) (now (references .entry)) (now (bytes .entry)) (now (symbols .entry)) (now (objects .entry))) limit ⌝ }
+    ensures { λ r. ⌜ load-call-of r (lists (now (nodes .exit)) (now (references .exit)) (now (bytes .exit)) (now (symbols .exit)) (now (objects .exit))) ≡ load-call (now (input .entry)) (lists (now (nodes .entry)) (now (references .entry)) (now (bytes .entry)) (now (symbols .entry)) (now (objects .entry))) limit ⌝ }
 {
     load_next(
         start(input),
@@ -253,9 +270,9 @@ pub fn load_measured(
     objects: &mut [u32],
     limit: u32,
 ) -> Measured
-    ensures { λ r. ⌜ measured r (lists (now (nodes .exit)) (now (references .exit)) (now (bytes .exit)) (now (symbols .exit)) (now (objects .exit))) ≡ measured-call (now (input .entry)) (lists (now (nodes .entry)) (now (references .entry)) (now (bytes .entry)) (now (symbols .entry)) (now (objects .entry))) limit ⌝ }
+    ensures { λ r. ⌜ measured-call-of r (lists (now (nodes .exit)) (now (references .exit)) (now (bytes .exit)) (now (symbols .exit)) (now (objects .exit))) ≡ measured-call (now (input .entry)) (lists (now (nodes .entry)) (now (references .entry)) (now (bytes .entry)) (now (symbols .entry)) (now (objects .entry))) limit ⌝ }
 {
-    let mut none = [0u32; 1];
+    let mut no_buckets = [0u32; 1];
     let w = load_whole(
         &input[..],
         nodes,
@@ -263,10 +280,10 @@ pub fn load_measured(
         bytes,
         symbols,
         objects,
-        &mut none[..0],
+        &mut no_buckets[..0],
         limit,
-        1,
-        false,
+        COUNTING,
+        NONE_WRONG,
     );
     let load = w.load;
     Measured {
@@ -287,7 +304,7 @@ pub fn load_hashed(
     buckets: &mut [u32],
     limit: u32,
 ) -> Hashed
-    ensures { λ r. ⌜ hashed r (lists (now (nodes .exit)) (now (references .exit)) (now (bytes .exit)) (now (symbols .exit)) (now (objects .exit))) (now (buckets .exit)) ≡ hashed-call (now (input .entry)) (lists (now (nodes .entry)) (now (references .entry)) (now (bytes .entry)) (now (symbols .entry)) (now (objects .entry))) (now (buckets .entry)) limit ⌝ }
+    ensures { λ r. ⌜ hashed-call-of r (lists (now (nodes .exit)) (now (references .exit)) (now (bytes .exit)) (now (symbols .exit)) (now (objects .exit))) (now (buckets .exit)) ≡ hashed-call (now (input .entry)) (lists (now (nodes .entry)) (now (references .entry)) (now (bytes .entry)) (now (symbols .entry)) (now (objects .entry))) (now (buckets .entry)) limit ⌝ }
 {
     let wrong = wrong_buckets(nodes.len(), buckets.len());
     let w = load_whole(
@@ -299,7 +316,7 @@ pub fn load_hashed(
         objects,
         buckets,
         limit,
-        0,
+        NOT_COUNTING,
         wrong,
     );
     let load = w.load;

@@ -15,8 +15,9 @@ use Rattle.definition.specs.Run.{ok, pick, _>>=_}
 use Rattle.definition.specs.Integer.{Form, value as form-value, data-bytes, form, little}
 use Rattle.definition.specs.Node.{Row, nil, fixnum, symbol}
 use Rattle.definition.specs.Arena.{range}
+use Rattle.definition.specs.State.{State, Room, at-set, noted}
+use Rattle.definition.specs.Load.{begin, load}
 use Rattle.definition.specs.Load as L
-use Rattle.definition.specs.Load.{State, Room, at-set, noted, begin, load}
 use Rattle.lists.specs.Lists.{At, at-snoc-inv, at-set-inv, apart, at-getD, Below, below-join}
 use Rattle.lists.specs.Words.{little-below}
 use Rattle.lists.specs.Ranges.{range-at, length-range-in}

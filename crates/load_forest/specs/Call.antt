@@ -11,8 +11,10 @@ use native.Mathlib.Omega.{arith}
 use borrow.Author.Tests.{ltb-false}
 use Rattle.definition.specs.Run.{Outcome, ok, refused, pick}
 use Rattle.definition.specs.Node.{Row, nil, bool, fixnum, symbol, array, hash, object, string, user, float, bignum, absent, present, width, words, flat, vars, row-of, row, rows, is-row}
-use Rattle.definition.specs.Arena.{Tables, Arena, arena, padded, zeroed, row-right, node-right, counts-fit, faulty, fault}
-use Rattle.definition.specs.Load.{State, Room, Lists, lists, room-of, load, load-wrong, LoadCall, counts, load-done, load-if, load-call}
+use Rattle.definition.specs.Arena.{Tables, Arena, arena, padded, zeroed, row-right, node-right, counts-fit, faulty, fault, counts-of}
+use Rattle.definition.specs.State.{State, Room}
+use Rattle.definition.specs.Load.{Lists, lists, room-of, load, load-wrong, LoadCall, load-done, load-if, load-call}
+use Rattle.definition.specs.Slice.{greatest-length, greatest-limit}
 use Rattle.definition.specs.declared.Answer.the-variants.{Accepted, Refused}
 use Rattle.definition.specs.declared.Counts.{Counts}
 use Rattle.definition.specs.declared.Refusal.{Refusal}
@@ -47,10 +49,10 @@ row-words-back (bignum low high true) = refl
 row-words-back (bignum low high false) = refl
 
 take-words : (r : Row) (x : List ℕ) → take width (words r ++ x) ≡ words r
-take-words r x = take-at (words r) x 7 (length-words r)
+take-words r x = take-at (words r) x width (length-words r)
 
 drop-words : (r : Row) (x : List ℕ) → drop width (words r ++ x) ≡ x
-drop-words r x = drop-at (words r) x 7 (length-words r)
+drop-words r x = drop-at (words r) x width (length-words r)
 
 pub is-row-words : (r : Row) → is-row (words r) ≡ true
 unfolding is-row
@@ -81,15 +83,15 @@ load-used input room limit h s e =
 
 -- what load's test of the slices says where it finds nothing
 pub record Allowed (input : List ℕ) (T : Lists) (limit : ℕ) : Type 0 where
-  pub nodes-most : length (T .nodes) ≤ 2147483647
-  pub nodes-some : 1 ≤ length (T .nodes) / 7
-  pub nodes-whole : length (T .nodes) % 7 ≡ 0
-  pub references-most : length (T .references) ≤ 2147483647
-  pub bytes-most : length (T .bytes) ≤ 2147483647
-  pub symbols-most : length (T .symbols) ≤ 2147483647
-  pub objects-most : length (T .objects) ≤ 2147483647
-  pub limit-most : limit ≤ 128
-  pub input-most : length input ≤ 2147483647
+  pub nodes-most : length (T .nodes) ≤ greatest-length
+  pub nodes-some : 1 ≤ length (T .nodes) / width
+  pub nodes-whole : length (T .nodes) % width ≡ 0
+  pub references-most : length (T .references) ≤ greatest-length
+  pub bytes-most : length (T .bytes) ≤ greatest-length
+  pub symbols-most : length (T .symbols) ≤ greatest-length
+  pub objects-most : length (T .objects) ≤ greatest-length
+  pub limit-most : limit ≤ greatest-limit
+  pub input-most : length input ≤ greatest-length
 
 pub load-allowed : (input : List ℕ) (T : Lists) (limit : ℕ) → load-wrong input T limit ≡ 0 → Allowed input T limit
 unfolding load-wrong
@@ -107,7 +109,7 @@ load-allowed input T limit e =
       bytes-most = t .bytes-small;
       symbols-most = short _ b₄;
       objects-most = short _ b₅;
-      limit-most = ltb-false 128 limit b₇;
+      limit-most = ltb-false greatest-limit limit b₇;
       input-most = short _ b₈;
     }
 
@@ -118,13 +120,13 @@ pub record AcceptedLoad (input : List ℕ) (T : Lists) (limit : ℕ) : Type 0 wh
   pub root : ℕ
   pub state : State
   pub loads : load input (room-of T) limit ≡ ok root state
-  pub answered : load-call input T limit .answer ≡ record { answer = Accepted; counts = counts (length (state .nodes)) (length (state .references)) (length (state .bytes)) root; used = state .at; form = state .notes .form }
+  pub answered : load-call input T limit .answer ≡ record { answer = Accepted; counts = counts-of (length (state .nodes)) (length (state .references)) (length (state .bytes)) root; used = state .at; form = state .notes .form }
   pub left : load-call input T limit .lent ≡ lists (padded (T .nodes) (flat (state .nodes))) (padded (T .references) (state .references)) (padded (T .bytes) (state .bytes)) (zeroed (T .symbols)) (zeroed (T .objects))
 
 no-accept : {A : Type 0} (r : Refusal) → Refused r ≡ Accepted → A
 no-accept r e = apart (cc)
 
-call-done : (input : List ℕ) (T : Lists) (limit : ℕ) → load-wrong input T limit ≡ 0 → load-call input T limit ≡ load-done T (load input (room-of T) limit)
+pub call-done : (input : List ℕ) (T : Lists) (limit : ℕ) → load-wrong input T limit ≡ 0 → load-call input T limit ≡ load-done T (load input (room-of T) limit)
 unfolding load-call load-if
 call-done input T limit e = rw e
 
@@ -166,7 +168,7 @@ abbrev pub tables-left : Lists → State → Tables
 tables-left T s = record { nodes = padded (T .nodes) (flat (s .nodes)); references = padded (T .references) (s .references); bytes = padded (T .bytes) (s .bytes) }
 
 abbrev pub counts-left : State → ℕ → Counts
-counts-left s h = counts (length (s .nodes)) (length (s .references)) (length (s .bytes)) h
+counts-left s h = counts-of (length (s .nodes)) (length (s .references)) (length (s .bytes)) h
 
 -- what they hold is what was loaded
 pub arena-left : (T : Lists) (s : State) (h : ℕ) → arena (tables-left T s) (counts-left s h) ≡ arena-of s h
@@ -184,11 +186,11 @@ pub record SameLengths (T : Lists) (s : State) : Type 0 where
   pub references-length : length (tables-left T s .references) ≡ length (T .references)
   pub bytes-length : length (tables-left T s .bytes) ≡ length (T .bytes)
 
-room-within : (T : Lists) (s : State) → Within (room-of T) s → (length (s .nodes) ≤ length (T .nodes) / 7) × (length (s .references) ≤ length (T .references)) × (length (s .bytes) ≤ length (T .bytes))
+room-within : (T : Lists) (s : State) → Within (room-of T) s → (length (s .nodes) ≤ length (T .nodes) / width) × (length (s .references) ≤ length (T .references)) × (length (s .bytes) ≤ length (T .bytes))
 unfolding room-of
 room-within T s w = (w .nodes, w .references, w .bytes)
 
-pub some-nodes : (T : Lists) → 1 ≤ length (T .nodes) / 7 → 1 ≤ room-of T .nodes
+pub some-nodes : (T : Lists) → 1 ≤ length (T .nodes) / width → 1 ≤ room-of T .nodes
 unfolding room-of
 some-nodes T h = h
 

@@ -9,7 +9,7 @@ use lib.ListN.{length, set, replicate, length-append, length-set, length-replica
 use native.Mathlib.Omega.{arith}
 use Rattle.definition.specs.Node.{Row, nil, hash, object, user, bignum, absent}
 use Rattle.definition.specs.Arena.{range}
-use Rattle.definition.specs.Load.{State, Room, noted}
+use Rattle.definition.specs.State.{State, Room, noted}
 use Rattle.lists.specs.Lists.{At}
 use Rattle.lists.specs.Ranges.{range-none}
 use Rattle.graph.specs.Forest.{Texted}

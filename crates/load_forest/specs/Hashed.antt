@@ -11,13 +11,16 @@ use Rattle.definition.specs.declared.Refusal.{Refusal}
 use Rattle.definition.specs.Run.{Outcome, ok, refused}
 use Rattle.definition.specs.Node.{nil, symbol, width}
 use Rattle.definition.specs.Buckets.{distance, searches, empty}
-use Rattle.definition.specs.Load.{State, Room, Lists, load, room-of, load-done, load-if, hash-at, words-looked, bad-buckets, hashed-wrong, hashed-done, hashed-if, hashed-call}
+use Rattle.definition.specs.State.{State, Room}
+use Rattle.definition.specs.Load.{Lists, load, room-of, load-done, load-if}
+use Rattle.definition.specs.LoadHashed.{hash-at, words-looked, bad-buckets, hashed-wrong, hashed-done, hashed-if, hashed-call}
+use Rattle.definition.specs.Slice.{greatest-length}
 use Rattle.lists.specs.Lists.{At, at-lt, at-getD, apart}
 use Rattle.lists.specs.Joined.{or-none}
 use Rattle.lists.specs.Slices.{lowest-none, short, tables-right}
 use Rattle.lists.specs.Buckets.{Ends, looked-least, looked-most, ends-there}
 use Rattle.load_forest.specs.Readers.{load-traced}
-use Rattle.load_forest.specs.Kept.{kept}
+use Rattle.load_forest.specs.Kept.{kept, nil-fixed}
 use Rattle.load_forest.specs.Right.{load-right-state}
 use Rattle.load_forest.specs.Space.{load-within}
 use Rattle.load_forest.specs.Call.{some-nodes}
@@ -35,7 +38,7 @@ Ending m s = (a b : List ℕ) (g : ℕ) → s .symbols ≡ a ++ (g ∷ b) → En
 module _ (input : List ℕ) (room : Room) (limit h : ℕ) (s : State) (e : load input room limit ≡ ok h s) where
   -- node 0 stays nil
   first-nil : At (s .nodes) 0 nil
-  first-nil = kept (load-traced input room limit s h e .trace) .stands 0 nil tt refl
+  first-nil = kept (load-traced input room limit s h e .trace) .stands 0 nil nil-fixed refl
 
   -- the symbol list has nodes of the table
   pub symbol-below : (i : ℕ) → i < length (s .symbols) → getD (s .symbols) i 0 < length (s .nodes)
@@ -68,7 +71,7 @@ module _ (input : List ℕ) (room : Room) (limit h : ℕ) (s : State) (e : load 
 
 module _ (input : List ℕ) (T : Lists) (B : List ℕ) (limit : ℕ) where
   -- what the test of the slices says where it finds nothing
-  allowed : hashed-wrong input T B limit ≡ 0 → (1 ≤ length (T .nodes) / width) × (length (T .symbols) ≤ 2147483647) × (length (T .nodes) / width ≤ length B) × (length B ≤ 2147483647)
+  allowed : hashed-wrong input T B limit ≡ 0 → (1 ≤ length (T .nodes) / width) × (length (T .symbols) ≤ greatest-length) × (length (T .nodes) / width ≤ length B) × (length B ≤ greatest-length)
   unfolding hashed-wrong bad-buckets
   allowed e =
       let (t, e₃) = tables-right _ _ _ _ e in
@@ -81,7 +84,7 @@ module _ (input : List ℕ) (T : Lists) (B : List ℕ) (limit : ℕ) where
       (t .one, short _ b₄, ltb-false (length B) (length (T .nodes) / width) x, short _ y)
 
   -- "one word or more for each node of the table"
-  words-enough : (h : ℕ) (s : State) → hashed-wrong input T B limit ≡ 0 → load input (room-of T) limit ≡ ok h s → (length (s .nodes) ≤ length B) × (length (s .symbols) ≤ 2147483647) × (length B ≤ 2147483647)
+  words-enough : (h : ℕ) (s : State) → hashed-wrong input T B limit ≡ 0 → load input (room-of T) limit ≡ ok h s → (length (s .nodes) ≤ length B) × (length (s .symbols) ≤ greatest-length) × (length B ≤ greatest-length)
   unfolding room-of
   words-enough h s w e =
       let (n, y, b, m) = allowed w in
@@ -105,7 +108,7 @@ module _ (input : List ℕ) (T : Lists) (B : List ℕ) (limit : ℕ) where
       by-wrong zero w a = by-outcome (load input (room-of T) limit) refl w a
       by-wrong (suc n) w a = apart (cc)
 
-  -- "A search always ends: n words for n nodes never fill"
+  -- a search always ends: n words for n nodes never fill
   pub hashed-ends : hashed-call input T B limit .answer .load .answer ≡ Accepted → Loads (λ s. Ending (length B) s)
   hashed-ends = came (λ s n. Ending (length B) s) (λ h s w e. searches-end input (room-of T) limit h s e (length B) (words-enough h s w e .0))
 

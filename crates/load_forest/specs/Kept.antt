@@ -5,34 +5,30 @@ use mathlib.Core.Bool.{false}
 use mathlib.Core.List.{List}
 use lib.ListN.{length, length-set}
 use native.Mathlib.Omega.{arith}
-use Rattle.definition.specs.Node.{Row, nil, bool, fixnum, symbol, array, hash, object, string, user, float, bignum, absent}
-use Rattle.definition.specs.Load.{State, Room, noted}
-use Rattle.lists.specs.Lists.{At, at-set-other}
+use Rattle.definition.specs.Node.{Row, nil, symbol, hash, object, user, bignum, absent}
+use Rattle.definition.specs.State.{State, Room, noted}
+use Rattle.lists.specs.Lists.{At, at-set-other, apart}
 use Rattle.graph.specs.View.{text-row}
 use Rattle.states.specs.States.{read-to, sought, Keeps, keeps-refl, keeps-trans, keeps-node, keeps-object-node, keeps-row, with-node, with-symbol, with-object-node, with-word, with-row, with-room}
 use Rattle.load_forest.specs.Trace.{Mode, Trace, reading, plain, known, new, symbol-link, object-link, list, hash-default, object-pairs, text-bytes, user-bytes, bignum-node, stored, variables, no-elements, element, no-pairs, pair}
-use Rattle.states.specs.Rows.{list-length, Varied, varied-string, varied-user}
+use Rattle.states.specs.Rows.{list-length, Varied, varied-string, varied-user, varied-some}
 
 -- a row that takes no variables
 abbrev pub Fixed : Row → Type 0
-Fixed nil = Unit {0}
-Fixed (bool b) = Unit {0}
-Fixed (fixnum w) = Unit {0}
-Fixed (symbol s l) = Unit {0}
-Fixed (array s n) = Unit {0}
-Fixed (hash s n d) = Unit {0}
-Fixed (object s n c) = Unit {0}
-Fixed (string s l v) = ⊥
-Fixed (user s l c v) = ⊥
-Fixed (float s l) = Unit {0}
-Fixed (bignum low high m) = Unit {0}
+Fixed r = (p n : ℕ) (r′ : Row) → Varied p n r r′ → ⊥
 
 abbrev pub Kept : State → State → Type 0
 Kept s t = Keeps Fixed s t
 
-not-fixed : {p n : ℕ} {r r′ : Row} → Varied p n r r′ → Fixed r → ⊥
-not-fixed varied-string f = f
-not-fixed varied-user f = f
+pub nil-fixed : Fixed nil
+nil-fixed p n r′ v = varied-some v refl
+
+varied-no-symbol : {p n s l : ℕ} {r r′ : Row} → Varied p n r r′ → r ≡ symbol s l → ⊥
+varied-no-symbol varied-string e = apart (cc)
+varied-no-symbol varied-user e = apart (cc)
+
+pub symbol-fixed : {s l : ℕ} → Fixed (symbol s l)
+symbol-fixed p n r′ v = varied-no-symbol v refl
 
 kept-varied : {p n : ℕ} (h : ℕ) (r r′ : Row) (t : State) → At (t .nodes) h r → Varied p n r r′ → Kept t (with-row h r′ t)
 kept-varied h r r′ t a v = record {
@@ -41,7 +37,7 @@ kept-varied h r r′ t a v = record {
 }
   where
     other : (i : ℕ) (q : Row) → Fixed q → At (t .nodes) i q → i ≡ h → ⊥
-    other i q f b z = let y : q ≡ r = cc in not-fixed v (rw y at f)
+    other i q f b z = let y : q ≡ r = cc in (rw y at f) _ _ _ v
 
 pub kept : {input : List ℕ} {room : Room} {l : ℕ} {m : Mode} {p : List ℕ} {s t : State} {vs : List ℕ} → Trace input room l m p s vs t → Kept s t
 kept {s = s} (reading k n a x) = keeps-trans (keeps-refl s (read-to k n s) refl) (kept x)

@@ -11,7 +11,9 @@ use Rattle.definition.specs.declared.Refusal.{Refusal}
 use Rattle.definition.specs.Run.{Outcome, ok, refused, pick}
 use Rattle.definition.specs.Node.{Row, nil, symbol, kind}
 use Rattle.definition.specs.Arena.{compared-among}
-use Rattle.definition.specs.Load.{State, Room, Lists, noted, load, room-of, load-wrong, load-done, load-if, measured-done, measured-if, measured-call}
+use Rattle.definition.specs.State.{State, Room, noted}
+use Rattle.definition.specs.Load.{Lists, load, room-of, load-wrong, load-done, load-if}
+use Rattle.definition.specs.LoadMeasured.{measured-done, measured-if, measured-call}
 use Rattle.lists.specs.Compared.{symbol-count, among-most as most}
 use Rattle.lists.specs.Lists.{At, at-snoc, getD-at, apart}
 use Rattle.graph.specs.Sums.{total, total-snoc, total-set}
@@ -19,9 +21,9 @@ use Rattle.graph.specs.Forest.{sym}
 use Rattle.graph.specs.View.{arena-of, state-seen}
 use Rattle.load_forest.specs.Trace.{Mode, Trace, reading, plain, known, new, symbol-link, object-link, list, hash-default, object-pairs, text-bytes, user-bytes, bignum-node, stored, variables, no-elements, element, no-pairs, pair}
 use Rattle.load_forest.specs.Readers.{load-traced}
-use Rattle.load_forest.specs.Kept.{kept}
+use Rattle.load_forest.specs.Kept.{kept, nil-fixed}
 use Rattle.load_forest.specs.Space.{is-symbol, range-most}
-use Rattle.states.specs.Rows.{bytes-length, Varied, varied-string, varied-user}
+use Rattle.states.specs.Rows.{bytes-length, Varied, varied-string, varied-user, ranges}
 use Rattle.states.specs.States.{sought, seen-at-inv, with-node, with-symbol, with-bytes, with-row, with-new-symbol}
 use Rattle.states.specs.Symbols.{symbol-of}
 
@@ -102,7 +104,7 @@ module _ (s : State) (m : Measures s) where
 
 -- a symbol's name is no longer than its length word
 name-fits : (s : State) (b : List ℕ) (h : ℕ) → At (state-seen s .nodes) h (sym b) → length b ≤ name-length (getD (s .nodes) h nil)
-unfolding is-symbol kind pick bytes-length
+unfolding is-symbol kind pick bytes-length ranges
 name-fits s b h a =
     let (r, e, q) = seen-at-inv s h (sym b) a in
     let (i, l, z, w) = symbol-of (arena-of s 0) b r q in
@@ -115,7 +117,7 @@ measures-known s m b h a =
     (m .0, sought-bound s m b _ _ (omega (arith, total-snoc w (s .symbols) h, name-fits s b h a)) (le-refl _))
 
 measures-new : (s : State) → Measures s → (b : List ℕ) → Measures (with-new-symbol b (sought b s))
-unfolding is-symbol kind pick bytes-length
+unfolding is-symbol kind pick bytes-length ranges
 measures-new s m b =
     let r = symbol (length (s .bytes)) (length b) in
     let rows : List Row = s .nodes ++ (r ∷ []) in
@@ -145,11 +147,11 @@ measures {s = s} (new b e o n p l₁ l₂ l₃) m = measures-new s m b
 measures (symbol-link i h e o a) m = m
 measures (object-link i h e a) m = m
 measures {s = s} (list {t = t} r q e l₁ l₂ l₃ x) m =
-    measures-row t (measures x (measures-node s m nil)) (length (s .nodes)) r nil (kept x .stands _ nil tt (at-snoc (s .nodes) nil)) nil-no-symbol
+    measures-row t (measures x (measures-node s m nil)) (length (s .nodes)) r nil (kept x .stands _ nil nil-fixed (at-snoc (s .nodes) nil)) nil-no-symbol
 measures {s = s} (hash-default {u = u} n e l₁ l₂ l₃ x y) m =
-    measures-row u (measures y (measures x (measures-node s m nil))) (length (s .nodes)) _ nil (kept y .stands _ nil tt (kept x .stands _ nil tt (at-snoc (s .nodes) nil))) nil-no-symbol
+    measures-row u (measures y (measures x (measures-node s m nil))) (length (s .nodes)) _ nil (kept y .stands _ nil nil-fixed (kept x .stands _ nil nil-fixed (at-snoc (s .nodes) nil))) nil-no-symbol
 measures {s = s} (object-pairs {u = u} n k a e l₁ l₂ x b l₃ y) m =
-    measures-row u (measures y (measures x (measures-node s m nil))) (length (s .nodes)) _ nil (kept y .stands _ nil tt (kept x .stands _ nil tt (at-snoc (s .nodes) nil))) nil-no-symbol
+    measures-row u (measures y (measures x (measures-node s m nil))) (length (s .nodes)) _ nil (kept y .stands _ nil nil-fixed (kept x .stands _ nil nil-fixed (at-snoc (s .nodes) nil))) nil-no-symbol
 measures {s = s} (text-bytes q b e p l₁ l₂ l₃) m = measures-node (with-bytes b s) (measures-bytes s m b) _
 measures (user-bytes {t = t} b k a e x d p l₁ l₂ l₃) m = measures-node (with-bytes b t) (measures-bytes t (measures x m) b) _
 measures {s = s} (bignum-node low high n minus e q h l₁ l₂) m = measures-node s m _

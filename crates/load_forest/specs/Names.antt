@@ -3,16 +3,18 @@ use Prim.Native.Nat.{ℕ, zero, suc}
 use mathlib.Core.Path.{_≡_}
 use mathlib.Core.List.{List}
 use Rattle.definition.specs.Run.{ok}
-use Rattle.definition.specs.Load.{State, Room, begin, load}
+use Rattle.definition.specs.State.{State, Room}
+use Rattle.definition.specs.Load.{begin, load}
 use Rattle.lists.specs.Lists.{apart}
 use Rattle.graph.specs.Build.{Names, names}
 use Rattle.graph.specs.View.{see, seen, arena-of, state-seen}
 use Rattle.load_forest.specs.Sound.{load-sound}
 use Rattle.states.specs.States.{seen-root}
+use Rattle.definition.specs.Graph.{header}
 
 -- at the beginning there is only nil
 begin-names : Names (state-seen begin .nodes)
-unfolding state-seen seen see
+unfolding state-seen seen see header
 begin-names zero j b e f = apart (cc)
 begin-names (suc i) j b e f = apart (cc)
 

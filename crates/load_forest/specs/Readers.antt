@@ -14,13 +14,14 @@ use Rattle.definition.specs.declared.Refusal.{Refusal}
 use Rattle.definition.specs.declared.Refusal.the-variants.{WrongSign}
 use Rattle.definition.specs.Run.{Outcome, ok, refused, pure, refuse, next, _>>=_, look, pick}
 use Rattle.definition.specs.Integer.{Form, value as form-value, data-bytes, form, little, wrong-sign, integer-bytes}
-use Rattle.definition.specs.Kind.{NIL, TRUE, FALSE, FIXNUM, SYMBOL, SYMBOL-LINK, OBJECT-LINK, INSTANCE-VARIABLES, ARRAY, HASH, HASH-DEFAULT, OBJECT, STRING, USER-DEFINED, FLOAT, BIGNUM, MINUS}
-use Rattle.definition.specs.Node.{Row, nil, bool, fixnum, symbol, array, hash, object, string, user, float, bignum, absent, present, equal}
 use Rattle.definition.specs.Magnitude.{fits, sign, fewest-units, sign-byte, unit-bytes, bignum-bytes, bignum-row}
+use Rattle.definition.specs.Kind.{NIL, TRUE, FALSE, FIXNUM, SYMBOL, SYMBOL-LINK, OBJECT-LINK, INSTANCE-VARIABLES, ARRAY, HASH, HASH-DEFAULT, OBJECT, STRING, USER-DEFINED, FLOAT, BIGNUM, MINUS}
+use Rattle.definition.specs.Node.{Row, nil, bool, fixnum, symbol, array, hash, object, string, user, float, bignum, absent, present, equal, kind, words, row-of, vars}
 use Rattle.definition.specs.Arena.{range, find-symbol}
-use Rattle.definition.specs.Load as L
-use Rattle.definition.specs.Load.{State, Room, Reader, at-set, noted, begin}
+use Rattle.definition.specs.State.{State, Room, Reader, at-set, noted}
+use Rattle.definition.specs.Load.{begin}
 use Rattle.definition.specs.Dump.{byte-string-bytes}
+use Rattle.definition.specs.Load as L
 use Rattle.lists.specs.Lists.{At, apart, at-getD}
 use Rattle.lists.specs.Ranges.{length-range-in}
 use Rattle.lists.specs.Runs.{no-ok, un as taken}
@@ -29,7 +30,7 @@ use Rattle.lists.specs.Magnitudes.{of-words}
 use Rattle.graph.specs.Forest.{Texted, text-string, text-float}
 use Rattle.graph.specs.View.{text-row}
 use Rattle.load_forest.specs.Trace.{Spelt, Read, spelt-join, Mode, value, text, name, elements, pairs, One, as-value, as-name, Part, Plain, plain-nil, plain-true, plain-false, plain-fixnum, Inner, inner-text, inner-value, Trace, reading, plain, known, new, symbol-link, object-link, list, hash-default, object-pairs, text-bytes, user-bytes, bignum-node, stored, variables, no-elements, element, no-pairs, pair, forwards}
-use Rattle.states.specs.Rows.{list-length, is-array, is-hash, Varied, varied-string, varied-user}
+use Rattle.states.specs.Rows.{list-length, is-array, is-hash, Varied, varied-string, varied-user, ranges, varied-some}
 use Rattle.states.specs.States.{read-to, sought, with-node, with-object, with-symbol, with-object-node, with-bytes, with-word, with-row, with-room}
 use Rattle.states.specs.Symbols.{found, missed}
 use Rattle.states.specs.Right.{sign-right}
@@ -157,8 +158,8 @@ told-spelt : {input : List ℕ} {s : State} {k : ℕ} (bs : List ℕ) (w : ℕ) 
 told-spelt bs w a = noted-spelt (equal bs (integer-bytes w)) (equal-true bs (integer-bytes w)) a
 
 -- what an integer's bytes say is its word, and its size byte is not against its sign
-pub tell-then : {G : Type 0} (b : ℕ) (bs : List ℕ) (x : ℕ) (s : State) (w : ℕ) (t : State) → L.tell b bs x s ≡ ok w t → (wrong-sign b x ≡ false → x ≡ w → noted (equal (b ∷ bs) (integer-bytes x)) s ≡ t → G) → G
-unfolding L.tell L.note pure refuse _>>=_ next pick
+pub tell-then : {G : Type 0} (b : ℕ) (bs : List ℕ) (x : ℕ) (s : State) (w : ℕ) (t : State) → L.integer-of b bs x s ≡ ok w t → (wrong-sign b x ≡ false → x ≡ w → noted (equal (b ∷ bs) (integer-bytes x)) s ≡ t → G) → G
+unfolding L.integer-of L.note pure refuse _>>=_ next pick
 tell-then {G} b bs x s w t e g = go (wrong-sign b x) refl e
   where
     go : (y : Bool) → wrong-sign b x ≡ y → pick y (refuse (WrongSign b)) (L.note (equal (b ∷ bs) (integer-bytes x)) >>= λ _. pure x) s ≡ ok w t → G
@@ -464,7 +465,7 @@ module _ (input : List ℕ) (room : Room) where
 
   module _ {l : ℕ} (f : Reader ℕ) (h : Traced l f) where
     array-traced : After (suc l) value ARRAY (L.read-array input room f)
-    unfolding L.read-array _>>=_ list-length
+    unfolding L.read-array _>>=_ list-length ranges
     array-traced p g s t v e =
         add-object-node-then room nil s _ v t e λ l₁ l₂ e₁.
         counted-then input room 1 _ (with-object-node nil s) v t e₁ λ n k a y r e₂.
@@ -474,7 +475,7 @@ module _ (input : List ℕ) (room : Room) where
         reading k a (spelt-before y) (ended (list {ms = ms} (array (length (s .references)) n) (is-array n) (kind-more _ g) l₁ l₂ (omega arith) z) (filled _ _ u t v e₄))
 
     hash-traced : After (suc l) value HASH (L.read-hash false input room f)
-    unfolding L.read-hash L.read-default _>>=_ list-length
+    unfolding L.read-hash L.read-default _>>=_ list-length ranges
     hash-traced p g s t v e =
         add-object-node-then room nil s _ v t e λ l₁ l₂ e₁.
         counted-then input room 2 _ (with-object-node nil s) v t e₁ λ n k a y r e₂.
@@ -546,7 +547,7 @@ module _ (input : List ℕ) (room : Room) where
 
   -- only a string or a user-defined node takes variables
   set-variables-then : (h p n : ℕ) (r : Row) (u t : State) (v : ℕ) → L.set-variables h p n r u ≡ ok v t → (r′ : Row) × Varied p n r r′ × (ok h (with-row h r′ u) ≡ ok v t)
-  unfolding L.set-variables L.fill refuse
+  unfolding L.set-variables L.fill kind words row-of vars pick refuse
   set-variables-then h p n (string a l x) u t v e = (string a l (present p n), varied-string, e)
   set-variables-then h p n (user a l c x) u t v e = (user a l c (present p n), varied-user, e)
   set-variables-then h p n nil u t v e = apart (cc)
@@ -558,10 +559,6 @@ module _ (input : List ℕ) (room : Room) where
   set-variables-then h p n (object a m c) u t v e = apart (cc)
   set-variables-then h p n (float a l) u t v e = apart (cc)
   set-variables-then h p n (bignum low high m) u t v e = apart (cc)
-
-  varied-some : {p n : ℕ} {r r′ : Row} → Varied p n r r′ → r ≡ nil → ⊥
-  varied-some varied-string e = apart (cc)
-  varied-some varied-user e = apart (cc)
 
   varied-at : (p n : ℕ) (r′ : Row) (l : List Row) (h : ℕ) → Varied p n (getD l h nil) r′ → At l h (getD l h nil)
   varied-at p n r′ [] h x = absurd (varied-some x refl)

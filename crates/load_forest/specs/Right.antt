@@ -8,12 +8,13 @@ use mathlib.Core.Option.{some}
 use mathlib.Core.List.{List, [], _∷_, append-nil}
 use lib.ListN.{length, replicate, length-set, length-append}
 use native.Mathlib.Omega.{arith}
-use Rattle.definition.specs.Run.{ok}
-use Rattle.definition.specs.Node.{Row, nil, fixnum, symbol, hash, object, user, bignum, absent}
+use Rattle.definition.specs.Run.{ok, pick}
 use Rattle.definition.specs.Magnitude.{magnitude}
+use Rattle.definition.specs.Node.{Row, nil, fixnum, symbol, hash, object, user, bignum, absent, kind}
 use Rattle.definition.specs.Arena.{Arena, range, firsts, row-right}
+use Rattle.definition.specs.State.{State, Room, noted}
+use Rattle.definition.specs.Load.{begin, load}
 use Rattle.definition.specs.Graph.{links, vars-links, default-link}
-use Rattle.definition.specs.Load.{State, Room, noted, begin, load}
 use Rattle.lists.specs.Lists.{At, at-lt, at-app, at-snoc, at-snoc-inv, at-set-same, at-set-other, at-set-inv, len-snoc, apart, Below, below-up, below-snoc, below-first, below-join, no-at, below-one}
 use Rattle.lists.specs.Ranges.{range-more}
 use Rattle.graph.specs.Forest.{sym, Texted, text-string, text-float}
@@ -24,11 +25,11 @@ use Rattle.well_formed.specs.Right.{NumberRight, name-below}
 use Rattle.load_forest.specs.Trace.{Mode, value, text, name, elements, pairs, One, as-value, as-name, Plain, plain-nil, plain-true, plain-false, plain-fixnum, Trace, reading, plain, known, new, symbol-link, object-link, list, hash-default, object-pairs, text-bytes, user-bytes, bignum-node, stored, variables, no-elements, element, no-pairs, pair}
 use Rattle.load_forest.specs.Readers.{load-traced}
 use Rattle.load_forest.specs.Frames.{Ready, left, ready-reading, ready-text, ready-inner, ready-value, ready-name, ready-pairs, ready-opened, ready-next, ready-after-name, ready-after-value}
-use Rattle.load_forest.specs.Kept.{Kept, kept}
-use Rattle.states.specs.Rows.{bytes-start, bytes-length, list-start, list-length, row-words, Listed, is-array, is-hash, Varied, varied-string, varied-user}
+use Rattle.load_forest.specs.Kept.{Kept, kept, nil-fixed, symbol-fixed}
+use Rattle.states.specs.Rows.{bytes-start, bytes-length, list-start, list-length, row-words, Listed, is-array, is-hash, Varied, varied-string, varied-user, ranges}
 use Rattle.states.specs.States.{keeps-refl, keeps-trans, Inside, Ranged, Free, read-to, sought, with-node, with-object, with-symbol, with-object-node, with-bytes, with-words, with-word, with-row, with-new-symbol, inside-up, seen-at-inv, frame-range, free-part, inside-nil, inside-bignum, words-but, with-room, opened-ranged, begin-ranged}
 use Rattle.states.specs.Symbols.{symbol-of}
-use Rattle.states.specs.Right.{row-names, Numbered, RightIn, Onward, right-yes, row-onward, names-first}
+use Rattle.states.specs.Right.{row-names, Numbered, RightIn, Onward, right-yes, row-onward, names-first, names-by-kind, own-names}
 
 -- node c is a symbol
 abbrev pub IsName : State → ℕ → Type 0
@@ -43,7 +44,7 @@ pub record Right (s : State) : Type 0 where
   pub symbols : (k c : ℕ) → At (s .symbols) k c → IsName s c
 
 pub name-kept : {s t : State} (c : ℕ) → Kept s t → IsName s c → IsName t c
-name-kept c κ (a, l, e) = (a, l, κ .stands c (symbol a l) tt e)
+name-kept c κ (a, l, e) = (a, l, κ .stands c (symbol a l) symbol-fixed e)
 
 -- ---- a row is right in a later state, where its words are the same
 
@@ -173,7 +174,7 @@ nil-no-symbol a l e = apart (cc)
 
 -- the node opened at s's end is still nil when it is filled
 still-nil : (s t : State) → Kept (with-object-node nil s) t → At (t .nodes) (length (s .nodes)) nil
-still-nil s t κ = κ .stands (length (s .nodes)) nil tt (at-snoc (s .nodes) nil)
+still-nil s t κ = κ .stands (length (s .nodes)) nil nil-fixed (at-snoc (s .nodes) nil)
 
 -- ---- the rows that are added or filled
 
@@ -186,35 +187,35 @@ bare s r i l n m = record {
 }
 
 plain-right : {input p : List ℕ} (s : State) (r : Row) → Plain input p r → Inside s r → RowRight s r
-unfolding links row-names
+unfolding links row-names names-by-kind own-names kind pick
 plain-right s r plain-nil i = bare s nil i refl refl (λ low high m e. apart (cc))
 plain-right s r plain-true i = bare s _ i refl refl (λ low high m e. apart (cc))
 plain-right s r plain-false i = bare s _ i refl refl (λ low high m e. apart (cc))
 plain-right s r (plain-fixnum w u t e) i = bare s (fixnum w) i refl refl (λ low high m e. apart (cc))
 
 nil-right : (s : State) → RowRight s nil
-unfolding links row-names
+unfolding links row-names names-by-kind own-names kind pick
 nil-right s = bare s nil (inside-nil s) refl refl (λ low high m e. apart (cc))
 
 symbol-right : (s : State) (a l : ℕ) → Inside s (symbol a l) → RowRight s (symbol a l)
-unfolding links row-names
+unfolding links row-names names-by-kind own-names kind pick
 symbol-right s a l i = bare s (symbol a l) i refl refl (λ low high m e. apart (cc))
 
 text-right : {k n : ℕ} (q : Texted k n) (s : State) (a l : ℕ) → Inside s (text-row q a l) → RowRight s (text-row q a l)
-unfolding links row-names vars-links firsts
+unfolding links row-names vars-links firsts names-by-kind own-names kind pick
 text-right text-string s a l i = bare s _ i refl refl (λ low high m e. apart (cc))
 text-right text-float s a l i = bare s _ i refl refl (λ low high m e. apart (cc))
 
 bignum-right : (s : State) (low high : ℕ) (m : Bool) → NumberRight (magnitude low high) m → RowRight s (bignum low high m)
-unfolding links row-names
+unfolding links row-names names-by-kind own-names kind pick
 bignum-right s low high m h = bare s _ (inside-bignum low high m s) refl refl (λ a b c e. subst (W.RowRight (arena-of s 0)) e h)
 
 user-right : (s : State) (a l c : ℕ) → Inside s (user a l c absent) → IsName s c → RowRight s (user a l c absent)
-unfolding links row-names vars-links firsts
+unfolding links row-names vars-links firsts names-by-kind own-names kind pick
 user-right s a l c i n = record { inside = i; below = below-one _ c (name-below (arena-of s 0) c n); names = names-first (arena-of s 0) c [] n (λ k d a. no-at k d a); number = λ low high m e. apart (cc) }
 
 listed-right : {p : ℕ} (s : State) (r : Row) (ms : List ℕ) → Listed p r → Inside s r → range (s .references) p (list-length r) ≡ ms → Below (length (s .nodes)) ms → RowRight s r
-unfolding links row-names list-length default-link
+unfolding links row-names list-length default-link ranges names-by-kind own-names kind pick
 listed-right {p = p} s r ms (is-array n) i e b = record { inside = i; below = λ k v a. b k v (rw e at a); names = λ k v a. no-at k v a; number = λ low high m q. apart (cc) }
 listed-right {p = p} s r ms (is-hash n) i e b = record {
   inside = i;
@@ -224,7 +225,7 @@ listed-right {p = p} s r ms (is-hash n) i e b = record {
 }
 
 hash-right : (s : State) (p n d : ℕ) (ms : List ℕ) → Inside s (hash p n (d + 1)) → range (s .references) p (n * 2) ≡ ms → Below (length (s .nodes)) ms → d < length (s .nodes) → RowRight s (hash p n (d + 1))
-unfolding links row-names default-link
+unfolding links row-names default-link names-by-kind own-names kind pick
 hash-right s p n d ms i e b h = record { inside = i; below = below-join _ (range (s .references) p (n * 2)) (default-link (d + 1)) (λ k v a. b k v (rw e at a)) last; names = λ k v a. no-at k v a; number = λ low high m q. apart (cc) }
   where
     last : Below (length (s .nodes)) (default-link (d + 1))
@@ -232,7 +233,7 @@ hash-right s p n d ms i e b h = record { inside = i; below = below-join _ (range
 
 object-right : (s : State) (p n c : ℕ) (ms : List ℕ) → Inside s (object p n c) → range (s .references) p (n * 2) ≡ ms → IsName s c → Below (length (s .nodes)) ms
     → ((k d : ℕ) → At (firsts ms) k d → IsName s d) → RowRight s (object p n c)
-unfolding links row-names
+unfolding links row-names names-by-kind own-names kind pick
 object-right s p n c ms i e x b h = record {
   inside = i;
   below = below-first _ c (range (s .references) p (n * 2)) (name-below (arena-of s 0) c x) (λ k v a. b k v (rw e at a));
@@ -242,7 +243,7 @@ object-right s p n c ms i e x b h = record {
 
 varied-right : {p n : ℕ} (s : State) (r r′ : Row) (ms : List ℕ) → Varied p n r r′ → Inside s r′ → range (s .references) p (n * 2) ≡ ms → RowRight s r → Below (length (s .nodes)) ms
     → ((k d : ℕ) → At (firsts ms) k d → IsName s d) → RowRight s r′
-unfolding links row-names vars-links
+unfolding links row-names vars-links names-by-kind own-names kind pick
 varied-right s r r′ ms varied-string i e x b h = record {
   inside = i;
   below = λ k v a. b k v (rw e at a);
@@ -291,7 +292,7 @@ done-known m o s b h a x =
 
 done-new : {l : ℕ} (m : Mode) → One l m → (s : State) (b : List ℕ) → Right s
     → Done m (with-new-symbol b (sought b s)) (length (s .nodes) ∷ [])
-unfolding bytes-start bytes-length list-start list-length
+unfolding bytes-start bytes-length list-start list-length ranges
 done-new m o s b x =
     let r = symbol (length (s .bytes)) (length b) in
     let u = with-bytes b (sought b s) in

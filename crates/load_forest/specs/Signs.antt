@@ -11,10 +11,10 @@ use borrow.Author.Tests.{eqb-true, leb-true, leb-false, le-leb, lt-leb, ltb-true
 use Rattle.definition.specs.Run.{ok, refused, pure, refuse, next, pick, _>>=_}
 use Rattle.definition.specs.Integer.{Form, data-bytes, form, little, wrong-sign, integer-bytes}
 use Rattle.definition.specs.Node.{equal}
-use Rattle.definition.specs.declared.Refusal.the-variants.{WrongSign}
 use Rattle.definition.specs.Arena.{range}
+use Rattle.definition.specs.State.{State, at-set, noted}
+use Rattle.definition.specs.declared.Refusal.the-variants.{WrongSign}
 use Rattle.definition.specs.Load as L
-use Rattle.definition.specs.Load.{State, at-set, noted}
 use Rattle.lists.specs.Lists.{Below, at-getD}
 use Rattle.lists.specs.Words.{little-below, little-above}
 use Rattle.lists.specs.Ranges.{length-range-in}
@@ -89,16 +89,16 @@ module _ (input : List ℕ) (s : State) (l : 4 ≤ length input - s .at) where
   abbrev pub Only : ℕ → ℕ → Type 0
   Only b c = (L.read-form input b (form b) s ≡ ok number (noted (equal (b ∷ four) (integer-bytes number)) (at-set (s .at + 4) s))) × (L.read-form input c (form c) s ≡ refused (WrongSign c))
 
-  comes : (b : ℕ) → form b ≡ data-bytes 4 0 → L.read-form input b (form b) s ≡ L.tell b four number (at-set (s .at + 4) s)
+  comes : (b : ℕ) → form b ≡ data-bytes 4 0 → L.read-form input b (form b) s ≡ L.integer-of b four number (at-set (s .at + 4) s)
   unfolding L.read-form L.read-bytes _>>=_ next pick
   comes b e = rw (e, le-leb 4 (length input - s .at) l) refl
 
   reads : (b : ℕ) → form b ≡ data-bytes 4 0 → wrong-sign b number ≡ false → L.read-form input b (form b) s ≡ ok number (noted (equal (b ∷ four) (integer-bytes number)) (at-set (s .at + 4) s))
-  unfolding L.tell L.note pure _>>=_ next pick
+  unfolding L.integer-of L.note pure _>>=_ next pick
   reads b e q = comes b e ∙ rw q refl
 
   stops : (b : ℕ) → form b ≡ data-bytes 4 0 → wrong-sign b number ≡ true → L.read-form input b (form b) s ≡ refused (WrongSign b)
-  unfolding L.tell refuse pick
+  unfolding L.integer-of refuse pick
   stops b e q = comes b e ∙ rw q refl
 
   pub one-form : Only 4 252 ⊎ Only 252 4

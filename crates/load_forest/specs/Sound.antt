@@ -11,13 +11,14 @@ use lib.Seq.{set-append-seam}
 use native.Mathlib.Omega.{arith}
 use Rattle.definition.specs.Run.{ok}
 use Rattle.definition.specs.Integer.{integer-bytes}
+use Rattle.definition.specs.Magnitude.{magnitude, bignum-bytes}
 use Rattle.definition.specs.Kind.{SYMBOL, SYMBOL-LINK, OBJECT-LINK, INSTANCE-VARIABLES, HASH-DEFAULT, OBJECT, USER-DEFINED, BIGNUM}
 use Rattle.definition.specs.Node.{Row, nil, hash, object, string, user, bignum, absent, present}
-use Rattle.definition.specs.Magnitude.{magnitude, bignum-bytes}
 use Rattle.definition.specs.Arena.{Arena, range}
+use Rattle.definition.specs.State.{State, Room, noted}
+use Rattle.definition.specs.Load.{begin, load}
 use Rattle.definition.specs.Dump.{byte-string-bytes}
 use Rattle.definition.specs.Graph.{Header, header, header-of, links, vars-links, vars-count, vars-present}
-use Rattle.definition.specs.Load.{State, Room, noted, begin, load}
 use Rattle.lists.specs.Lists.{At, NotIn, Below, at-snoc, apart}
 use Rattle.lists.specs.Ranges.{range-last}
 use Rattle.graph.specs.Forest as F
@@ -29,7 +30,7 @@ use Rattle.load_forest.specs.Trace.{Off, Spelt, Mode, value, text, name,
 use Rattle.load_forest.specs.Readers.{load-traced}
 use Rattle.load_forest.specs.Bytes.{integer-below}
 use Rattle.load_forest.specs.Frames.{Ready, Left, left, ready-reading, ready-text, ready-value, ready-name, ready-pairs, ready-opened, ready-next, ready-after-name, ready-after-value}
-use Rattle.states.specs.Rows.{list-length, see-array, see-hash, see-hash-default, see-object, see-string-variables, see-bignum, see-user, see-user-variables, Listed, is-array, is-hash, Varied, varied-string, varied-user}
+use Rattle.states.specs.Rows.{list-length, see-array, see-hash, see-hash-default, see-object, see-string-variables, see-bignum, see-user, see-user-variables, Listed, is-array, is-hash, Varied, varied-string, varied-user, ranges}
 use Rattle.states.specs.States.{read-to, sought, row-seen, Ranged, with-node, with-object-node, with-bytes, with-word, with-row, st-eq, length-seen, seen-at, seen-read-to, seen-sought, objs-seen, syms-seen, seen-symbol, seen-node, seen-object-node, seen-row, seen-word, frame-range, free-part, with-room, opened-ranged, opened-seen, room-seen, new-symbol-seen, bytes-node-seen, begin-ranged, with-new-symbol}
 use Rattle.load_forest.specs.Spelling.{Named, named-new, named-link, OneTree, Trees, Told, told-all, joined, told-reading, closed-trees, closed-pairs, one-name, class-text, no-trees, more-trees, last-tree, no-pairs-told, ValuePairs, value-then, more-pairs, Lettered, letters, user-letters, lettered-tree, varied-tree}
 
@@ -182,7 +183,7 @@ module _ (input : List ℕ) (w : Inputs) where
   -- ---- the steps
 
   plain-tree : {l : ℕ} {p : List ℕ} (r : Row) → Plain input p r → (k : ℕ) × (x : ℕ) × ((A : Arena) → see A r ≡ leaf k x) × (Below 256 input → OneTree (suc l) (fLeaf k x) p)
-  unfolding see
+  unfolding see header
   plain-tree r plain-nil = (0, 0, λ A. refl, λ b. record { trees-are = λ r. refl; writes = λ m r y v t. tNil v t })
   plain-tree r plain-true = (1, 1, λ A. refl, λ b. record { trees-are = λ r. refl; writes = λ m r y v t. tTrue v t })
   plain-tree r plain-false = (1, 0, λ A. refl, λ b. record { trees-are = λ r. refl; writes = λ m r y v t. tFalse v t })
@@ -220,7 +221,7 @@ module _ (input : List ℕ) (w : Inputs) where
   -- an array or a hash: its header, as it is seen, and its tree
   listed-box : {q l : ℕ} (A : Arena) (r : Row) (ms : List ℕ) (z : Listed q r) → range (A .references) q (list-length r) ≡ ms
       → (hd : Header) × (see A r ≡ box hd ms) × ((h : F → F) (x : List ℕ) → Trees l (list-length r) h x → OneTree (suc l) (fBox hd fEnd (h fEnd)) (list-bytes z ++ x))
-  unfolding list-length
+  unfolding list-length ranges
   listed-box {q} A r ms (is-array n) e = (
     header-of 4 0 [] n false,
     see-array A q n ms e,

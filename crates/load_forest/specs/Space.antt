@@ -6,16 +6,17 @@ use mathlib.Core.Bool.{Bool, true, false}
 use mathlib.Core.Logic.{_⊎_, inl, inr, _≢_}
 use mathlib.Core.Option.{Option, none, some}
 use mathlib.Core.List.{List, [], _∷_, _++_, map}
-use lib.Dec.{eqb}
+use lib.Dec.{eqb, ltb}
 use lib.ListN.{length, getElem?, replicate, length-set, length-append, length-replicate, length-take}
 use native.Mathlib.Omega.{arith}
 use native.Mathlib.Decide.{ℕ-discrete}
 use borrow.Author.Tests.{eq-eqb, ne-eqb}
 use Rattle.definition.specs.Run.{ok, pick}
-use Rattle.definition.specs.Node.{Row, Vars, nil, bool, fixnum, symbol, array, hash, object, string, user, float, bignum, absent, present, kind}
+use Rattle.definition.specs.Node.{Row, Vars, nil, bool, fixnum, symbol, array, hash, object, string, user, float, bignum, absent, present, symbol-kind, kind}
 use Rattle.definition.specs.Arena.{Arena, range}
+use Rattle.definition.specs.State.{State, Room}
+use Rattle.definition.specs.Load.{begin, load}
 use Rattle.definition.specs.Graph.{Header, header, vars-count}
-use Rattle.definition.specs.Load.{State, Room, begin, load}
 use Rattle.lists.specs.Lists.{At, len-snoc, apart}
 use Rattle.graph.specs.Sums.{sumTo, total, total-snoc, total-set, total-set-most}
 use Rattle.graph.specs.Forest.{Node, leaf, sym, box, node-words, node-bytes, node-box, node-sym, Texted, text-string, text-float}
@@ -25,7 +26,7 @@ use Rattle.load_forest.specs.Trace.{Mode, Plain, plain-nil, plain-true, 
 use Rattle.load_forest.specs.Readers.{load-traced}
 use Rattle.load_forest.specs.Sound.{load-sound}
 use Rattle.load_forest.specs.Right.{IsName, load-right-state}
-use Rattle.states.specs.Rows.{bytes-length, list-length, vars-length, Listed, is-array, is-hash, Varied, varied-string, varied-user}
+use Rattle.states.specs.Rows.{bytes-length, list-length, vars-length, Listed, is-array, is-hash, Varied, varied-string, varied-user, ranges}
 use Rattle.states.specs.States.{read-to, sought, row-seen, with-node, with-symbol, with-object-node, with-bytes, with-word, with-row, length-seen, syms-seen, seen-at, with-room}
 
 -- ---- within the room
@@ -118,20 +119,10 @@ load-within input room limit h s l e = within (load-traced input room limit s h 
 -- ---- what the rows hold was taken
 
 unfoldable pub is-box : Row → ℕ
-is-box nil = 0
-is-box (bool b) = 0
-is-box (fixnum w) = 0
-is-box (symbol s l) = 0
-is-box (array s n) = 1
-is-box (hash s n d) = 1
-is-box (object s n c) = 1
-is-box (string s l v) = 1
-is-box (user s l c v) = 1
-is-box (float s l) = 1
-is-box (bignum low high m) = 1
+is-box r = pick (ltb symbol-kind (kind r)) 1 0
 
 unfoldable pub is-symbol : Row → ℕ
-is-symbol r = pick (eqb (kind r) 3) 1 0
+is-symbol r = pick (eqb (kind r) symbol-kind) 1 0
 
 -- from s to t the rows gained no more than was taken
 record Covered (s t : State) : Type 0 where
@@ -163,44 +154,44 @@ record Weighs (r : Row) (words bytes boxes names : ℕ) : Type 0 where
   names-are : is-symbol r ≡ names
 
 plain-weighs : {input p : List ℕ} (r : Row) → Plain input p r → Weighs r 0 0 0 0
-unfolding list-length bytes-length is-box is-symbol kind pick
+unfolding list-length bytes-length is-box is-symbol kind pick ranges
 plain-weighs r plain-nil = record { words-are = refl; bytes-are = refl; boxes-are = refl; names-are = refl }
 plain-weighs r plain-true = record { words-are = refl; bytes-are = refl; boxes-are = refl; names-are = refl }
 plain-weighs r plain-false = record { words-are = refl; bytes-are = refl; boxes-are = refl; names-are = refl }
 plain-weighs r (plain-fixnum w s t e) = record { words-are = refl; bytes-are = refl; boxes-are = refl; names-are = refl }
 
 nil-weighs : Weighs nil 0 0 0 0
-unfolding list-length bytes-length is-box is-symbol kind pick
+unfolding list-length bytes-length is-box is-symbol kind pick ranges
 nil-weighs = record { words-are = refl; bytes-are = refl; boxes-are = refl; names-are = refl }
 
 symbol-weighs : (a l : ℕ) → Weighs (symbol a l) 0 l 0 1
-unfolding list-length bytes-length is-box is-symbol kind pick
+unfolding list-length bytes-length is-box is-symbol kind pick ranges
 symbol-weighs a l = record { words-are = refl; bytes-are = refl; boxes-are = refl; names-are = refl }
 
 listed-weighs : {p : ℕ} (r : Row) → Listed p r → Weighs r (list-length r) 0 1 0
-unfolding bytes-length is-box is-symbol kind pick
+unfolding bytes-length is-box is-symbol kind pick ranges
 listed-weighs r (is-array n) = record { words-are = refl; bytes-are = refl; boxes-are = refl; names-are = refl }
 listed-weighs r (is-hash n) = record { words-are = refl; bytes-are = refl; boxes-are = refl; names-are = refl }
 
 hash-weighs : (p n d : ℕ) → Weighs (hash p n d) (n * 2) 0 1 0
-unfolding list-length bytes-length is-box is-symbol kind pick
+unfolding list-length bytes-length is-box is-symbol kind pick ranges
 hash-weighs p n d = record { words-are = refl; bytes-are = refl; boxes-are = refl; names-are = refl }
 
 object-weighs : (p n c : ℕ) → Weighs (object p n c) (n * 2) 0 1 0
-unfolding list-length bytes-length is-box is-symbol kind pick
+unfolding list-length bytes-length is-box is-symbol kind pick ranges
 object-weighs p n c = record { words-are = refl; bytes-are = refl; boxes-are = refl; names-are = refl }
 
 text-weighs : {k n : ℕ} (q : Texted k n) (a l : ℕ) → Weighs (text-row q a l) 0 l 1 0
-unfolding list-length bytes-length is-box is-symbol kind pick vars-length
+unfolding list-length bytes-length is-box is-symbol kind pick vars-length ranges
 text-weighs text-string a l = record { words-are = refl; bytes-are = refl; boxes-are = refl; names-are = refl }
 text-weighs text-float a l = record { words-are = refl; bytes-are = refl; boxes-are = refl; names-are = refl }
 
 bignum-weighs : (low high : ℕ) (m : Bool) → Weighs (bignum low high m) 0 0 1 0
-unfolding list-length bytes-length is-box is-symbol kind pick
+unfolding list-length bytes-length is-box is-symbol kind pick ranges
 bignum-weighs low high m = record { words-are = refl; bytes-are = refl; boxes-are = refl; names-are = refl }
 
 user-weighs : (a l c : ℕ) → Weighs (user a l c absent) 0 l 1 0
-unfolding list-length bytes-length is-box is-symbol kind pick vars-length
+unfolding list-length bytes-length is-box is-symbol kind pick vars-length ranges
 user-weighs a l c = record { words-are = refl; bytes-are = refl; boxes-are = refl; names-are = refl }
 
 -- a row and the same with variables
@@ -211,7 +202,7 @@ record SameBut (n : ℕ) (r r′ : Row) : Type 0 where
   same-names : is-symbol r′ ≡ is-symbol r
 
 varied-same : {p n : ℕ} (r r′ : Row) → Varied p n r r′ → SameBut n r r′
-unfolding list-length bytes-length is-box is-symbol kind pick vars-length
+unfolding list-length bytes-length is-box is-symbol kind pick vars-length ranges
 varied-same r r′ varied-string = record { new-words = refl; same-bytes = refl; same-boxes = refl; same-names = refl }
 varied-same r r′ varied-user = record { new-words = refl; same-bytes = refl; same-boxes = refl; same-names = refl }
 
@@ -321,7 +312,7 @@ range-most l a n = simp length-take (omega arith)
 
 -- the node seen of a row weighs no more than the row
 see-most : (A : Arena) (r : Row) → (node-words (see A r) ≤ list-length r) × (node-bytes (see A r) ≤ bytes-length r) × (node-box (see A r) ≤ is-box r) × (node-sym (see A r) ≤ is-symbol r)
-unfolding see header list-length bytes-length is-box is-symbol kind pick
+unfolding see header list-length bytes-length is-box is-symbol kind pick ranges
 see-most A nil = omega arith
 see-most A (bool true) = omega arith
 see-most A (bool false) = omega arith
@@ -351,7 +342,7 @@ pub record Holds (s : State) : Type 0 where
   pub names : total node-sym (state-seen s .nodes) ≤ length (s .symbols)
 
 pub load-holds : (input : List ℕ) (room : Room) (limit h : ℕ) (s : State) → load input room limit ≡ ok h s → Holds s
-unfolding list-length bytes-length is-box is-symbol kind pick
+unfolding list-length bytes-length is-box is-symbol kind pick ranges
 load-holds input room limit h s e =
     let c = covered (load-traced input room limit s h e .trace) in
     record {
@@ -379,7 +370,7 @@ sym-no-leaf : (P : List Node) (v : ℕ) (b : List ℕ) → At P v (sym b) → lf
 sym-no-leaf P v b e = rw e
 
 name-seen : (s : State) (a l : ℕ) → row-seen s (symbol a l) ≡ sym (range (s .bytes) a l)
-unfolding see
+unfolding see header
 name-seen s a l = refl
 
 no-objects : {A : Type 0} (k v : ℕ) → At (state-seen begin .objs) k v → A
@@ -405,7 +396,7 @@ sum-of-ones zero = refl
 sum-of-ones (suc n) = omega (arith, sum-of-ones n)
 
 begin-nodes : state-seen begin .nodes ≡ leaf 0 0 ∷ []
-unfolding state-seen seen see
+unfolding state-seen seen see header
 begin-nodes = refl
 
 -- each box and each symbol, and each leaf that is a member of a box or the root, is a node besides the first

@@ -9,9 +9,9 @@ use lib.ListN.{drop}
 use native.Mathlib.Omega.{arith}
 use Rattle.definition.specs.Integer.{integer-bytes}
 use Rattle.definition.specs.Kind.{SYMBOL, SYMBOL-LINK, INSTANCE-VARIABLES, USER-DEFINED}
+use Rattle.definition.specs.State.{State}
 use Rattle.definition.specs.Dump.{byte-string-bytes}
 use Rattle.definition.specs.Graph.{header-of}
-use Rattle.definition.specs.Load.{State}
 use Rattle.graph.specs.Forest as F
 use Rattle.graph.specs.Forest.{F, fEnd, fBox, fSym, fSymref, trees, Texted, text-string, text-float, IsValue, after, Text, tEnd, tEndPairs, tName, tNameLink, tOneName, tOneLink, tClass, tClassLink, tText, tStringVars, tUser, tUserVars}
 use Rattle.load_forest.specs.Trace.{Spelt, Mode, value, text, name, elements, pairs}

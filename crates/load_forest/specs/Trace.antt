@@ -8,12 +8,13 @@ use lib.ListN.{length, drop}
 use native.Mathlib.Omega.{arith}
 use Rattle.definition.specs.Run.{ok}
 use Rattle.definition.specs.Integer.{integer-bytes}
+use Rattle.definition.specs.Magnitude.{magnitude, bignum-bytes}
 use Rattle.definition.specs.Kind.{NIL, TRUE, FALSE, FIXNUM, SYMBOL, SYMBOL-LINK, OBJECT-LINK, INSTANCE-VARIABLES, ARRAY, HASH, HASH-DEFAULT, OBJECT, USER-DEFINED, BIGNUM}
 use Rattle.definition.specs.Node.{Row, nil, bool, fixnum, hash, object, user, bignum, absent}
-use Rattle.definition.specs.Magnitude.{magnitude, bignum-bytes}
 use Rattle.definition.specs.Arena.{range}
+use Rattle.definition.specs.State.{State, Room, noted}
+use Rattle.definition.specs.Load.{read-integer}
 use Rattle.definition.specs.Dump.{byte-string-bytes}
-use Rattle.definition.specs.Load.{State, Room, noted, read-integer}
 use Rattle.lists.specs.Lists.{At, NotIn, apart}
 use Rattle.graph.specs.Forest.{sym, Texted}
 use Rattle.graph.specs.View.{text-row, state-seen}

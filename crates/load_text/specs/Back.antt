@@ -8,8 +8,9 @@ use mathlib.Core.List.{List, [], _∷_, _++_, append-nil}
 use lib.ListN.{length, set, replicate, length-append}
 use native.Mathlib.Omega.{arith}
 use Rattle.definition.specs.Run.{ok, pick}
-use Rattle.definition.specs.Graph.{Header}
-use Rattle.definition.specs.Load.{Room, State, at-set, note, read-header, read-value, begin, load}
+use Rattle.definition.specs.State.{Room, State, at-set}
+use Rattle.definition.specs.Load.{note, read-header, read-value, begin, load}
+use Rattle.definition.specs.Graph.{Header, header}
 use Rattle.lists.specs.Lists.{At, at-app, at-snoc, at-snoc-inv, at-set-other, no-at, apart}
 use Rattle.graph.specs.Forest.{Node, leaf, sym, box, Num, fresh, F, fEnd, refsOf, bytesOf, boxesOf, symsOf, values, Text}
 use Rattle.graph.specs.Describe.{E, e-len}
@@ -108,7 +109,7 @@ header-runs x =
     step _ _ begin 4 (at-set 1 begin) (read-byte-ahead input begin 4 (0x08 ∷ x) a) ∙ step _ _ (at-set 1 begin) 8 opening (read-byte-ahead input (at-set 1 begin) 8 x b)
 
 opening-inv : (P : List Node) → Inv P fresh (state-seen opening)
-unfolding see seen state-seen
+unfolding see seen state-seen header
 opening-inv P = record { io = refl; iy = refl; im = go }
   where
     go : (i : ℕ) (b : List ℕ) → At (leaf 0 0 ∷ []) i (sym b) → (k : ℕ) × (u : ℕ) × At (fresh .syms) k u × At P u (sym b)

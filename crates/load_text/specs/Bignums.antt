@@ -10,11 +10,12 @@ use native.Mathlib.Omega.{arith}
 use borrow.Author.Tests.{eq-eqb, le-leb}
 use Rattle.definition.specs.Run.{ok, pure, pick}
 use Rattle.definition.specs.Integer.{integer-bytes}
+use Rattle.definition.specs.Magnitude.{fewest-units, sign-byte, unit-bytes, bignum-bytes, bignum-row}
 use Rattle.definition.specs.Kind.{PLUS, MINUS}
 use Rattle.definition.specs.Node.{bignum}
-use Rattle.definition.specs.Magnitude.{fewest-units, sign-byte, unit-bytes, bignum-bytes, bignum-row}
+use Rattle.definition.specs.State.{Room, State, at-set}
+use Rattle.definition.specs.Load.{read-bytes, read-sign, read-unit-count, add-bignum, read-magnitude, read-bignum}
 use Rattle.definition.specs.Graph.{header-of}
-use Rattle.definition.specs.Load.{Room, State, at-set, read-bytes, read-sign, read-unit-count, add-bignum, read-magnitude, read-bignum}
 use Rattle.lists.specs.Lists.{len-snoc}
 use Rattle.lists.specs.Joined.{yes-and}
 use Rattle.lists.specs.Words.{equal-self, length-low}

@@ -13,13 +13,14 @@ use Rattle.definition.specs.Run.{ok, _>>=_, pick}
 use Rattle.definition.specs.Integer.{integer-bytes}
 use Rattle.definition.specs.Node.{Row, nil, array, hash, object}
 use Rattle.definition.specs.Arena.{range}
+use Rattle.definition.specs.State.{Room, State, Reader, nodes-set}
+use Rattle.definition.specs.Load.{fill, counted, read-elements, read-pairs, read-instance-variables, read-symbol-like, read-array, read-hash, read-default, read-object}
 use Rattle.definition.specs.Graph.{Header, header-of}
-use Rattle.definition.specs.Load.{Room, State, Reader, nodes-set, fill, counted, read-elements, read-pairs, read-instance-variables, read-symbol-like, read-array, read-hash, read-default, read-object}
 use Rattle.lists.specs.Lists.{len-snoc, apart}
 use Rattle.graph.specs.Forest.{Node, leaf, box, Num, addO, F, fEnd, fBox, refsOf, bytesOf, boxesOf, symsOf, list-words}
 use Rattle.graph.specs.Build.{St, pushO, put, B, bEnd, bBox, Ph, Inv, nodesOf, inv-pushO, inv-put}
 use Rattle.graph.specs.View.{arena-of, state-seen}
-use Rattle.states.specs.Rows.{list-length, Listed, is-array, is-hash, see-array, see-hash, see-hash-default, see-object}
+use Rattle.states.specs.Rows.{list-length, Listed, is-array, is-hash, see-array, see-hash, see-hash-default, see-object, ranges}
 use Rattle.states.specs.States.{row-seen, Inside, Ranged, Above, Frame, Keeps, with-object-node, with-row, length-seen, row-seen-by, seen-object-node, seen-row, opened-seen, opened-ranged, ranged-node, ranged-row, inside-listed, inside-hash, inside-object, above-listed, above-hash, above-object, frame-trans, frame-below, frame-opened, frame-object-node, frame-row, frame-range, keeps-trans, keeps-object-node, keeps-row}
 use Rattle.load_text.specs.Steps.{step, add-object-node-runs}
 use Rattle.load_text.specs.Input.{Ahead, ahead-as}
@@ -204,7 +205,7 @@ module _ (input : List ℕ) (room : Room) (P : List Node) where
 
   pub takes-array : Small room → (inner : Reader ℕ) (n : ℕ) (f r : F) (y : List ℕ) (σ σ₂ : Num) (v : ℕ) → Items input room P (replicate n inner) f y (addO v σ) σ₂
       → Takes input room P (read-array input room inner) (fBox (header-of 4 0 [] n false) fEnd f r) r (integer-bytes n ++ y) σ σ₂
-  unfolding read-array fill list-length
+  unfolding read-array fill list-length ranges
   takes-array sm inner n f r y σ σ₂ v it s z i a h g =
       let hd = header-of 4 0 [] n false in
       let e : n ≡ n * 1 = omega arith in
@@ -220,7 +221,7 @@ module _ (input : List ℕ) (room : Room) (P : List Node) where
 
   pub takes-hash : Small room → (inner : Reader ℕ) (n : ℕ) (f r : F) (y : List ℕ) (σ σ₂ : Num) (v : ℕ) → Items input room P (replicate (n * 2) inner) f y (addO v σ) σ₂
       → Takes input room P (read-hash false input room inner) (fBox (header-of 5 0 [] n false) fEnd f r) r (integer-bytes n ++ y) σ σ₂
-  unfolding read-hash read-default fill list-length
+  unfolding read-hash read-default fill list-length ranges
   takes-hash sm inner n f r y σ σ₂ v it s z i a h g =
       let hd = header-of 5 0 [] n false in
       let e₁ : list-words hd ≡ n * 2 = words-pairs 5 n [] false (omega arith) in

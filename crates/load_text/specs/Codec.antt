@@ -49,49 +49,26 @@ pub data Codes (w : ℕ) : List ℕ → Type 0 where
 codes-low : (w n b hi : ℕ) → form b ≡ data-bytes n hi → above n w ≡ hi → Codes w (b ∷ low-bytes n w)
 codes-low w n b hi f e = long b n hi (low-bytes n w) f (length-low n w) (rw (← e) (little-low n w))
 
-form-1 : form 1 ≡ data-bytes 1 0
+-- the size bytes that say how many data bytes there are, and the bits above them
+up-forms : (form 1 ≡ data-bytes 1 0) × (form 2 ≡ data-bytes 2 0) × (form 3 ≡ data-bytes 3 0) × (form 4 ≡ data-bytes 4 0)
 unfolding form pick
-form-1 = refl
+up-forms = (refl, refl, refl, refl)
 
-form-2 : form 2 ≡ data-bytes 2 0
+down-forms : (form 255 ≡ data-bytes 1 16777215) × (form 254 ≡ data-bytes 2 65535) × (form 253 ≡ data-bytes 3 255) × (form 252 ≡ data-bytes 4 0)
 unfolding form pick
-form-2 = refl
-
-form-3 : form 3 ≡ data-bytes 3 0
-unfolding form pick
-form-3 = refl
-
-form-4 : form 4 ≡ data-bytes 4 0
-unfolding form pick
-form-4 = refl
-
-form-255 : form 255 ≡ data-bytes 1 16777215
-unfolding form pick
-form-255 = refl
-
-form-254 : form 254 ≡ data-bytes 2 65535
-unfolding form pick
-form-254 = refl
-
-form-253 : form 253 ≡ data-bytes 3 255
-unfolding form pick
-form-253 = refl
-
-form-252 : form 252 ≡ data-bytes 4 0
-unfolding form pick
-form-252 = refl
+down-forms = (refl, refl, refl, refl)
 
 codes-up : {w n : ℕ} → Few w n → Codes w (n ∷ low-bytes n w)
-codes-up {w = w} (one h) = codes-low w 1 1 0 form-1 (omega arith)
-codes-up {w = w} (two h) = codes-low w 2 2 0 form-2 (omega arith)
-codes-up {w = w} (three h) = codes-low w 3 3 0 form-3 (omega arith)
-codes-up {w = w} (four h) = codes-low w 4 4 0 form-4 (omega arith)
+codes-up {w = w} (one h) = codes-low w 1 1 0 (up-forms .0) (omega arith)
+codes-up {w = w} (two h) = codes-low w 2 2 0 (up-forms .1) (omega arith)
+codes-up {w = w} (three h) = codes-low w 3 3 0 (up-forms .2) (omega arith)
+codes-up {w = w} (four h) = codes-low w 4 4 0 (up-forms .3) (omega arith)
 
 codes-down : {w n : ℕ} → 2147483648 ≤ w → w < 4294967296 → Few (4294967295 - w) n → Codes w ((256 - n) ∷ low-bytes n w)
-codes-down {w = w} l u (one h) = codes-low w 1 255 16777215 form-255 (omega arith)
-codes-down {w = w} l u (two h) = codes-low w 2 254 65535 form-254 (omega arith)
-codes-down {w = w} l u (three h) = codes-low w 3 253 255 form-253 (omega arith)
-codes-down {w = w} l u (four h) = codes-low w 4 252 0 form-252 (omega arith)
+codes-down {w = w} l u (one h) = codes-low w 1 255 16777215 (down-forms .0) (omega arith)
+codes-down {w = w} l u (two h) = codes-low w 2 254 65535 (down-forms .1) (omega arith)
+codes-down {w = w} l u (three h) = codes-low w 3 253 255 (down-forms .2) (omega arith)
+codes-down {w = w} l u (four h) = codes-low w 4 252 0 (down-forms .3) (omega arith)
 
 form-small : (b : ℕ) → 4 < b → b ≤ 127 → form b ≡ value (b - 5)
 unfolding form pick

@@ -6,13 +6,14 @@ use mathlib.Core.List.{List, [], _∷_, _++_}
 use lib.ListN.{replicate}
 use Rattle.definition.specs.Run.{pick}
 use Rattle.definition.specs.Integer.{integer-bytes}
+use Rattle.definition.specs.Magnitude.{bignum-bytes}
 use Rattle.definition.specs.Kind.{NIL, TRUE, FALSE, FIXNUM, SYMBOL, SYMBOL-LINK, OBJECT-LINK, INSTANCE-VARIABLES, ARRAY, HASH, HASH-DEFAULT, OBJECT, STRING, USER-DEFINED, BIGNUM}
 use Rattle.definition.specs.Node.{nil, bool, fixnum}
-use Rattle.definition.specs.Magnitude.{bignum-bytes}
 use Rattle.definition.specs.Arena.{Arena}
-use Rattle.definition.specs.Graph.{header-of}
+use Rattle.definition.specs.State.{Room, Reader}
+use Rattle.definition.specs.Load.{head, value-of, read-value, add-node, read-fixnum, read-symbol, read-symbol-link, read-object-link, read-symbol-like, read-array, read-hash, read-object, read-string, read-float, read-text, read-user-defined, read-bignum, read-variables, takes-variables}
 use Rattle.definition.specs.Dump.{byte-string-bytes}
-use Rattle.definition.specs.Load.{Room, Reader, head, value-of, read-value, add-node, read-fixnum, read-symbol, read-symbol-link, read-object-link, read-symbol-like, read-array, read-hash, read-object, read-string, read-float, read-text, read-user-defined, read-bignum, read-variables, takes-variables}
+use Rattle.definition.specs.Graph.{header-of, header}
 use Rattle.lists.specs.Lists.{At, NotIn, at-lt}
 use Rattle.graph.specs.Forest.{Node, leaf, sym, Num, addO, addS, F, fEnd, fLeaf, fBox, fRef, fSym, fSymref, trees, Mode, values, pairs, value-pairs, name, name-pairs, after, IsValue, Text, tEnd, tEndPairs, tName, tNameLink, tOneName, tOneLink, tClass, tClassLink, tNil, tFalse, tTrue, tFixnum, tSymbol, tSymbolLink, tObjectLink, tArray, tHash, tHashDefault, tObject, Texted, text-string, text-float, tText, tBignum, tStringVars, tUser, tUserVars}
 use Rattle.graph.specs.Describe.{E, eEnd, eLeaf, eBox, eRef, eSym, eSymref}
@@ -42,7 +43,7 @@ words-after name v = absurd v
 words-after (name-pairs n) v = absurd v
 
 see-leaf : (A : Arena) (w : ℕ) → (see A nil ≡ leaf 0 0) × (see A (bool false) ≡ leaf 1 0) × (see A (bool true) ≡ leaf 1 1) × (see A (fixnum w) ≡ leaf 2 w)
-unfolding see
+unfolding see header
 see-leaf A w = (refl, refl, refl, refl)
 
 module _ (input : List ℕ) (room : Room) (sm : Small room) (limit : ℕ) (P : List Node) (nm : Names P) where

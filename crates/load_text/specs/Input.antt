@@ -12,8 +12,9 @@ use Rattle.definition.specs.Run.{ok, pure, next, _>>=_, pick}
 use Rattle.definition.specs.Integer.{value, form, integer-bytes}
 use Rattle.definition.specs.Node.{equal}
 use Rattle.definition.specs.Arena.{range}
+use Rattle.definition.specs.State.{State, at-set}
+use Rattle.definition.specs.Load.{read-byte, read-bytes, note, integer-of, read-form, read-integer, read-count, read-byte-string}
 use Rattle.definition.specs.Dump.{byte-string-bytes}
-use Rattle.definition.specs.Load.{State, at-set, read-byte, read-bytes, note, tell, read-form, read-integer, read-count, read-byte-string}
 use Rattle.lists.specs.Words.{equal-self}
 use Rattle.lists.specs.Integers.{form-agrees}
 use Rattle.load_text.specs.Steps.{step}
@@ -51,8 +52,8 @@ read-bytes-ahead input s bs x a =
 -- ---- integers
 
 -- bytes that dump writes say their word
-tell-dumped : (b : ℕ) (bs : List ℕ) (w : ℕ) (s : State) → w < 4294967296 → equal (b ∷ bs) (integer-bytes w) ≡ true → tell b bs w s ≡ ok w s
-unfolding tell note pure _>>=_ next pick
+tell-dumped : (b : ℕ) (bs : List ℕ) (w : ℕ) (s : State) → w < 4294967296 → equal (b ∷ bs) (integer-bytes w) ≡ true → integer-of b bs w s ≡ ok w s
+unfolding integer-of note pure _>>=_ next pick
 tell-dumped b bs w s u q = rw (form-agrees w b bs u q, q)
 
 -- bytes that say w, and are those that dump writes

@@ -9,7 +9,8 @@ use Rattle.definition.specs.Run.{ok, pure, _>>=_}
 use Rattle.definition.specs.Integer.{integer-bytes}
 use Rattle.definition.specs.Node.{Row}
 use Rattle.definition.specs.Arena.{range}
-use Rattle.definition.specs.Load.{Room, State, Reader, at-set, read-count, put-reference, counted, read-elements, read-pairs}
+use Rattle.definition.specs.State.{Room, State, Reader, at-set}
+use Rattle.definition.specs.Load.{read-count, put-reference, counted, read-elements, read-pairs}
 use Rattle.lists.specs.Ranges.{range-none}
 use Rattle.graph.specs.Forest.{Node, Num, F, fEnd, refsOf, bytesOf, boxesOf, symsOf}
 use Rattle.graph.specs.Build.{St, B, Inv, nodesOf}

@@ -12,8 +12,9 @@ use Rattle.definition.specs.Integer.{integer-bytes}
 use Rattle.definition.specs.Kind.{SYMBOL, SYMBOL-LINK}
 use Rattle.definition.specs.Node.{Row, fixnum, symbol}
 use Rattle.definition.specs.Arena.{Arena}
+use Rattle.definition.specs.State.{Room, State, Reader, at-set}
+use Rattle.definition.specs.Load.{add-node, read-fixnum, read-symbol, intern, intern-as, read-symbol-link, read-object-link, read-symbol-like, read-value, value-of, head}
 use Rattle.definition.specs.Dump.{byte-string-bytes}
-use Rattle.definition.specs.Load.{Room, State, Reader, at-set, add-node, read-fixnum, read-symbol, intern, intern-as, read-symbol-link, read-object-link, read-symbol-like, read-value, value-of, head}
 use Rattle.lists.specs.Lists.{At, NotIn, lt-at, len-snoc, apart}
 use Rattle.graph.specs.Forest.{Node, leaf, sym, Num, addS, F, fLeaf, fRef, fSym, fSymref}
 use Rattle.graph.specs.Build.{St, push, addSym, B, bLeaf, bRef, bNew, bSymref, Inv, Names, inv-push, inv-sym, new-name}

@@ -9,7 +9,8 @@ use native.Mathlib.Omega.{arith}
 use borrow.Author.Tests.{le-leb}
 use Rattle.definition.specs.Run.{Run, ok, next, _>>=_, pick}
 use Rattle.definition.specs.Node.{Row}
-use Rattle.definition.specs.Load.{Room, State, note, compare, compared-more, add-node, reserve, add-bytes, add-symbol, add-object, add-object-node, put-reference, entry}
+use Rattle.definition.specs.State.{Room, State, compared-more}
+use Rattle.definition.specs.Load.{note, compare, add-node, reserve, add-bytes, add-symbol, add-object, add-object-node, put-reference, entry}
 use Rattle.lists.specs.Lists.{At, at-lt, getD-at}
 use Rattle.states.specs.States.{with-node, with-object, with-symbol, with-object-node, with-bytes, with-word, with-room}
 

@@ -7,13 +7,14 @@ use mathlib.Core.Logic.{inr}
 use mathlib.Core.List.{List, [], _∷_, _++_, append-assoc}
 use lib.ListN.{length, getD, length-append}
 use native.Mathlib.Omega.{arith}
-use Rattle.definition.specs.Run.{ok, look}
+use Rattle.definition.specs.Run.{ok, look, pick}
 use Rattle.definition.specs.Integer.{integer-bytes}
-use Rattle.definition.specs.Node.{Row, nil, string, user, absent, present}
+use Rattle.definition.specs.Node.{Row, nil, string, user, absent, present, kind, words, row-of, vars}
 use Rattle.definition.specs.Arena.{Arena, range}
-use Rattle.definition.specs.Graph.{Header, header-of, header, links, vars-count, vars-present, vars-links}
+use Rattle.definition.specs.State.{Room, State, Reader, at-set}
+use Rattle.definition.specs.Load.{fill, read-pairs, read-instance-variables, read-symbol-like, read-text, read-user-defined, read-variables, set-variables, takes-variables}
 use Rattle.definition.specs.Dump.{byte-string-bytes}
-use Rattle.definition.specs.Load.{Room, State, Reader, at-set, fill, read-pairs, read-instance-variables, read-symbol-like, read-text, read-user-defined, read-variables, set-variables, takes-variables}
+use Rattle.definition.specs.Graph.{Header, header-of, header, links, vars-count, vars-present, vars-links}
 use Rattle.lists.specs.Lists.{At, at-snoc, len-snoc, getD-at, apart}
 use Rattle.lists.specs.Ranges.{range-more, range-last}
 use Rattle.graph.specs.Forest.{Node, box, Num, addO, F, fEnd, fBox, list-words, Texted, text-string, high-text}
@@ -53,7 +54,7 @@ stores-text q len = record {
 }
 
 varies-string : (len : ℕ) → Varies 7 len [] (λ st. string st len absent) (λ st start n. string st len (present start n))
-unfolding see header links vars-count vars-present vars-links set-variables fill
+unfolding see header links vars-count vars-present vars-links set-variables fill kind words row-of vars pick
 varies-string len = record { sees = λ A st start n. refl; varied = λ st start n. varied-string; sets = λ st h start n s. refl }
 
 stores-user : (len c : ℕ) → Stores 8 len (c ∷ []) (λ st. user st len c absent)
@@ -66,7 +67,7 @@ stores-user len c = record {
 }
 
 varies-user : (len c : ℕ) → Varies 8 len (c ∷ []) (λ st. user st len c absent) (λ st start n. user st len c (present start n))
-unfolding see header links vars-count vars-present vars-links set-variables fill
+unfolding see header links vars-count vars-present vars-links set-variables fill kind words row-of vars pick
 varies-user len c = record { sees = λ A st start n. refl; varied = λ st start n. varied-user; sets = λ st h start n s. refl }
 
 -- what a state is when bytes and a node have been added

@@ -1,2 +1,3 @@
--- What the loader's leaves are proved against.
-pub mod Holds
+-- What these functions are proved against.
+pub mod Parts
+pub mod Lengths

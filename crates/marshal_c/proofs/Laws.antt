@@ -1,24 +1,24 @@
--- Details as words, words written one after the other, and a call's reply where the answer words, and the doubles, are enough and where they are too few.
+-- A call's reply where the answer words, and the doubles, are enough and where they are too few.
 use Prim.Native.Nat.{ℕ, _-_, _<_, _≤_}
 use mathlib.Core.Path.{_≡_, refl, ap, _∙_}
 use mathlib.Core.Bool.{Bool, true, false}
-use mathlib.Core.List.{List, [], _∷_, _++_}
+use mathlib.Core.List.{List, [], _∷_}
 use lib.Dec.{leb}
-use lib.IntN.{ℤ}
-use lib.ListN.{length, set}
+use lib.ListN.{length}
 use lib.Ieee.{Float}
 use lib.Seq.{sets}
 use borrow.Author.Tests.{le-leb, lt-leb}
 use Rattle.definition.specs.Run.{pick}
 use Rattle.definition.specs.Refused.{answer-numbers}
 use Rattle.definition.specs.Arena.{Tables}
-use Rattle.definition.specs.Load.{Lists, LoadCall, MeasuredCall, HashedCall}
+use Rattle.definition.specs.Load.{Lists, LoadCall}
+use Rattle.definition.specs.LoadMeasured.{MeasuredCall}
+use Rattle.definition.specs.LoadHashed.{HashedCall}
 use Rattle.definition.specs.Dump.{DumpCall, dump-call-of}
 use Rattle.definition.specs.Build.{BuildCall, NewCall}
 use Rattle.definition.specs.declared.Answer.{Answer}
 use Rattle.definition.specs.declared.Begun.{Begun}
 use Rattle.definition.specs.declared.Costed.{Costed}
-use Rattle.definition.specs.declared.Counts.{Counts}
 use Rattle.definition.specs.declared.Created.{Created}
 use Rattle.definition.specs.declared.Dumped.{Dumped}
 use Rattle.definition.specs.declared.Hashed.{Hashed}
@@ -29,48 +29,7 @@ use Rattle.definition.specs.declared.Number.{Number}
 use Rattle.definition.specs.declared.Read.{Read}
 use Rattle.definition.specs.declared.Weighed.{Weighed}
 use Rattle.definition.specs.declared.Words.{Words}
-use Rattle.refusal.specs.Shown.{integer, shown}
-use Rattle.refusal.specs.declared.Numbers.{Numbers}
-use Rattle.marshal_c.specs.Reply.{word, details, count-words, loaded-words, measured-words, hashed-words, dumped-words, begun-words, number-words, node-words, name-words, created-words, reading-kind, reading-whole, reading-double, reading-words, weighed-words, weighing-doubles, costed-words, reply, tell, tell-doubles, tell-load, tell-measured, tell-hashed, tell-dump, tell-new, tell-build, tell-number, tell-words, tell-name, tell-reading, tell-weighed, tell-costed}
-
--- ---- details
-
-pub below : (b : Bool) (n : ℕ) → b ≡ true → 18446744073709551615 - (n - 1) ≡ word (integer b n)
-unfolding word
-below b n e = rw e refl
-
-pub not-below : (b : Bool) (n : ℕ) → b ≡ false → n ≡ word (integer b n)
-unfolding word
-not-below b n e = rw e refl
-
--- words 0 and 1 from an answer's numbers
-pub told : (a : Answer) (n : Numbers) (first : ℕ) (words : List ℕ) → shown n ≡ answer-numbers a → first ≡ word (integer (n .below) (n .first)) → (n .number ≡ answer-numbers a .0) × (set (set words 0 first) 1 (n .second) ≡ sets words 0 (details a))
-unfolding details word
-told a n first words e f =
-    (ap (λ (t : ℕ × ℤ × ℤ). t .0) e, ap (λ (x : ℕ). set (set words 0 x) 1 (n .second)) f ∙ ap (λ (t : ℕ × ℤ × ℤ). set (set words 0 (word (t .1))) 1 (word (t .2))) e)
-
--- ---- words one after the other
-
--- after the details
-pub then : (a : Answer) (words : List ℕ) {t : List ℕ} (vs : List ℕ) → t ≡ sets words 0 (details a) → sets t 2 vs ≡ sets words 0 (details a ++ vs)
-unfolding details
-then a words vs e = ap (λ (l : List ℕ). sets l 2 vs) e
-
--- after the details and the counts
-pub last : (a : Answer) (c : Counts) (words : List ℕ) {t u : List ℕ} (vs : List ℕ) → t ≡ sets words 0 (details a) → u ≡ sets t 2 (count-words c) → sets u 6 vs ≡ sets words 0 (details a ++ count-words c ++ vs)
-unfolding details count-words
-last a c words vs e f = ap (λ (l : List ℕ). sets l 6 vs) (f ∙ ap (λ (l : List ℕ). sets l 2 (count-words c)) e)
-
--- after load's words
-pub after-load : (r : Loaded) (words : List ℕ) {t : List ℕ} (vs : List ℕ) → t ≡ sets words 0 (loaded-words r) → sets t 8 vs ≡ sets words 0 (loaded-words r ++ vs)
-unfolding loaded-words details count-words
-after-load r words vs e = ap (λ (l : List ℕ). sets l 8 vs) e
-
--- a reading's kind and whole number after the details
-pub after-details : (r : Read) (words : List ℕ) {t : List ℕ} {k w : ℕ} → t ≡ sets words 0 (details (r .answer)) → k ≡ reading-kind (r .reading) → w ≡ reading-whole (r .reading) → set (set t 2 k) 3 w ≡ sets words 0 (reading-words r)
-unfolding reading-words
-after-details r words {t = t} {w = w} e f g =
-    ap (λ (x : ℕ). set (set t 2 x) 3 w) f ∙ ap (λ (x : ℕ). set (set t 2 (reading-kind (r .reading))) 3 x) g ∙ then (r .answer) words (reading-kind (r .reading) ∷ reading-whole (r .reading) ∷ []) e
+use Rattle.reply.specs.Reply.{details, count-words, loaded-words, measured-words, hashed-words, dumped-words, begun-words, number-words, node-words, name-words, created-words, reading-double, reading-words, weighed-words, weighing-doubles, costed-words, reply, tell, tell-doubles, tell-load, tell-measured, tell-hashed, tell-dump, tell-new, tell-build, tell-number, tell-words, tell-name, tell-reading, tell-weighed, tell-costed}
 
 -- ---- replies
 

@@ -2,28 +2,25 @@
 //
 // A slice is a pointer and a length there, and the counts are four numbers. The answer's number is returned, 0 where the call
 // is accepted. Its two details and what else the call answers go into the answer words, doubles into a slice of their own
-// (specs/Reply). Fewer words or doubles than a call writes are refused with 1, and nothing is touched then.
+// (reply/specs/Reply). Fewer words or doubles than a call writes are refused with 1, and nothing is touched then.
 use batch_cost::batch_cost;
-use definition::Answer;
-use definition::Begun;
-use definition::Costed;
 use definition::Counts;
-use definition::Created;
-use definition::Dumped;
-use definition::Hashed;
-use definition::Loaded;
-use definition::Measured;
-use definition::Name;
-use definition::Number;
-use definition::Read;
-use definition::Reading;
-use definition::Weighed;
-use definition::Words;
 use dump::dump;
 use load::load;
 use load::load_hashed;
 use load::load_measured;
-use refusal::answer_numbers;
+use reply::tell_begun;
+use reply::tell_costed;
+use reply::tell_created;
+use reply::tell_dumped;
+use reply::tell_hashed;
+use reply::tell_loaded;
+use reply::tell_measured;
+use reply::tell_name;
+use reply::tell_number;
+use reply::tell_reading;
+use reply::tell_weighed;
+use reply::tell_words;
 use value_arena::create_array;
 use value_arena::create_bignum;
 use value_arena::create_bool;
@@ -44,18 +41,15 @@ use value_arena::replace_root;
 use weight::reading;
 use weight::wet_weight;
 ghost use mathlib.Core.Path.{_≡_};
-ghost use mathlib.Core.List.{[], _∷_};
-ghost use Prim.Native.Nat.{_≤_};
-ghost use lib.ListN.{length};
-ghost use lib.Seq.{sets};
-ghost use Rattle.definition.specs.Refused.{answer-numbers};
-ghost use Rattle.definition.specs.Load.{lists, counts, load-call, measured-call, hashed-call};
+ghost use Rattle.definition.specs.Arena.{counts-of, tables-of};
+ghost use Rattle.definition.specs.Load.{lists, load-call};
+ghost use Rattle.definition.specs.LoadMeasured.{measured-call};
+ghost use Rattle.definition.specs.LoadHashed.{hashed-call};
 ghost use Rattle.definition.specs.Dump.{dump-call};
 ghost use Rattle.definition.specs.Build.{lent, build-call, new-call, number-done, words-done, name-done, get-words, get-kind, get-name, get-root, exchange-root, create-nil, create-bool, create-fixnum, create-new-symbol, create-symbol, create-array, create-hash, create-object, create-string, create-user-defined, create-float, create-bignum};
 ghost use Rattle.definition.specs.Weight.{get-reading, wet-weight, read-done, weighed-done};
 ghost use Rattle.definition.specs.Cost.{batch-cost, cost-done};
-ghost use Rattle.refusal.specs.Shown.{integer};
-ghost use Rattle.marshal_c.specs.Reply.{word, details, flag, count-words, loaded-words, measured-words, hashed-words, dumped-words, begun-words, number-words, node-words, name-words, created-words, reading-kind, reading-whole, reading-double, reading-words, weighed-words, weighing-doubles, costed-words, tables, reply, tell-load, tell-measured, tell-hashed, tell-dump, tell-new, tell-build, tell-number, tell-words, tell-name, tell-reading, tell-weighed, tell-costed};
+ghost use Rattle.reply.specs.Reply.{reply, tell-load, tell-measured, tell-hashed, tell-dump, tell-new, tell-build, tell-number, tell-words, tell-name, tell-reading, tell-weighed, tell-costed};
 
 // Too few answer words or doubles: BAD-TABLES.
 const BAD_TABLES: u32 = 1;
@@ -87,244 +81,6 @@ const COSTED: usize = 3;
 
 // The doubles of a weighing.
 const DOUBLES: usize = 3;
-
-// ---- the answer words
-
-// A number with its sign apart, as 64 bits in two's complement. (Below 0 it is never 0; the definition reads that as −1.)
-fn detail(below: bool, n: u32) -> u64
-    ensures { λ r. ⌜ r ≡ word (integer below n) ⌝ }
-{
-    let size = n as u64;
-    if below {
-        if size == 0 {
-            return 18446744073709551615;
-        }
-        return 18446744073709551615 - (size - 1);
-    }
-    size
-}
-
-// A yes or no as a word.
-fn flag_of(b: bool) -> u64
-    ensures { λ r. ⌜ r ≡ flag b ⌝ }
-{
-    if b { 1 } else { 0 }
-}
-
-// What a node reads as: its kind, the whole number as 64 bits in two's complement, and the double.
-fn kind_of(r: Reading) -> u64
-    ensures { λ k. ⌜ k ≡ reading-kind r ⌝ }
-{
-    match r {
-        Reading::NotANumber => 0,
-        Reading::Whole(_) => 1,
-        Reading::Double(_) => 2,
-    }
-}
-
-fn whole_word(n: i32) -> u64
-    ensures { λ r. ⌜ r ≡ word n ⌝ }
-{
-    if n < 0 {
-        18446744073709551615 - ((-1 - n) as u64)
-    } else {
-        n as u64
-    }
-}
-
-fn whole_of(r: Reading) -> u64
-    ensures { λ w. ⌜ w ≡ reading-whole r ⌝ }
-{
-    match r {
-        Reading::NotANumber => 0,
-        Reading::Whole(n) => whole_word(n),
-        Reading::Double(_) => 0,
-    }
-}
-
-fn double_of(r: Reading) -> f64
-    ensures { λ x. ⌜ x ≡ reading-double r ⌝ }
-{
-    match r {
-        Reading::NotANumber => 0.0,
-        Reading::Whole(_) => 0.0,
-        Reading::Double(x) => x,
-    }
-}
-
-// Words 0 and 1; the answer's number is returned.
-fn tell(answer: &mut [u64], a: Answer) -> u32
-    requires { ⌜ 2 ≤ length (now answer) ⌝ }
-    ensures { λ r. ⌜ (r ≡ answer-numbers a .0) × (now (answer .exit) ≡ sets (now (answer .entry)) 0 (details a)) ⌝ }
-{
-    let n = answer_numbers(a);
-    let first = detail(n.below, n.first);
-    answer[0] = first;
-    answer[1] = n.second as u64;
-    n.number
-}
-
-// Words 2 to 5.
-fn tell_counts(answer: &mut [u64], c: Counts)
-    requires { ⌜ 6 ≤ length (now answer) ⌝ }
-    ensures { λ _. ⌜ now (answer .exit) ≡ sets (now (answer .entry)) 2 (count-words c) ⌝ }
-{
-    answer[2] = c.nodes as u64;
-    answer[3] = c.references as u64;
-    answer[4] = c.bytes as u64;
-    answer[5] = c.root as u64;
-}
-
-// Words 2 to 8.
-fn tell_seven(answer: &mut [u64], a: u32, b: u32, c: u32, d: u32, e: u32, f: u32, g: u32)
-    requires { ⌜ 9 ≤ length (now answer) ⌝ }
-    ensures { λ _. ⌜ now (answer .exit) ≡ sets (now (answer .entry)) 2 (a ∷ b ∷ c ∷ d ∷ e ∷ f ∷ g ∷ []) ⌝ }
-{
-    answer[2] = a as u64;
-    answer[3] = b as u64;
-    answer[4] = c as u64;
-    answer[5] = d as u64;
-    answer[6] = e as u64;
-    answer[7] = f as u64;
-    answer[8] = g as u64;
-}
-
-// Each kind of answer: its words, and its number.
-fn tell_loaded(answer: &mut [u64], r: Loaded) -> u32
-    requires { ⌜ 8 ≤ length (now answer) ⌝ }
-    ensures { λ n. ⌜ (n ≡ answer-numbers (r .answer) .0) × (now (answer .exit) ≡ sets (now (answer .entry)) 0 (loaded-words r)) ⌝ }
-{
-    let a = r.answer;
-    let c = r.counts;
-    let n = tell(answer, a);
-    tell_counts(answer, c);
-    answer[6] = r.used as u64;
-    answer[7] = flag_of(r.form);
-    n
-}
-
-fn tell_measured(answer: &mut [u64], r: Measured) -> u32
-    requires { ⌜ 10 ≤ length (now answer) ⌝ }
-    ensures { λ n. ⌜ (n ≡ answer-numbers (r .load .answer) .0) × (now (answer .exit) ≡ sets (now (answer .entry)) 0 (measured-words r)) ⌝ }
-{
-    let l = r.load;
-    let n = tell_loaded(answer, l);
-    answer[8] = r.copied;
-    answer[9] = r.compared;
-    n
-}
-
-fn tell_hashed(answer: &mut [u64], r: Hashed) -> u32
-    requires { ⌜ 9 ≤ length (now answer) ⌝ }
-    ensures { λ n. ⌜ (n ≡ answer-numbers (r .load .answer) .0) × (now (answer .exit) ≡ sets (now (answer .entry)) 0 (hashed-words r)) ⌝ }
-{
-    let l = r.load;
-    let n = tell_loaded(answer, l);
-    answer[8] = r.looked;
-    n
-}
-
-fn tell_dumped(answer: &mut [u64], r: Dumped) -> u32
-    requires { ⌜ 3 ≤ length (now answer) ⌝ }
-    ensures { λ n. ⌜ (n ≡ answer-numbers (r .answer) .0) × (now (answer .exit) ≡ sets (now (answer .entry)) 0 (dumped-words r)) ⌝ }
-{
-    let a = r.answer;
-    let n = tell(answer, a);
-    answer[2] = r.written as u64;
-    n
-}
-
-fn tell_begun(answer: &mut [u64], r: Begun) -> u32
-    requires { ⌜ 6 ≤ length (now answer) ⌝ }
-    ensures { λ n. ⌜ (n ≡ answer-numbers (r .answer) .0) × (now (answer .exit) ≡ sets (now (answer .entry)) 0 (begun-words r)) ⌝ }
-{
-    let a = r.answer;
-    let c = r.counts;
-    let n = tell(answer, a);
-    tell_counts(answer, c);
-    n
-}
-
-fn tell_number(answer: &mut [u64], r: Number) -> u32
-    requires { ⌜ 3 ≤ length (now answer) ⌝ }
-    ensures { λ n. ⌜ (n ≡ answer-numbers (r .answer) .0) × (now (answer .exit) ≡ sets (now (answer .entry)) 0 (number-words r)) ⌝ }
-{
-    let a = r.answer;
-    let n = tell(answer, a);
-    answer[2] = r.value as u64;
-    n
-}
-
-fn tell_words(answer: &mut [u64], r: Words) -> u32
-    requires { ⌜ 9 ≤ length (now answer) ⌝ }
-    ensures { λ n. ⌜ (n ≡ answer-numbers (r .answer) .0) × (now (answer .exit) ≡ sets (now (answer .entry)) 0 (node-words r)) ⌝ }
-{
-    let a = r.answer;
-    let w = r.words;
-    let n = tell(answer, a);
-    tell_seven(answer, w[0], w[1], w[2], w[3], w[4], w[5], w[6]);
-    n
-}
-
-fn tell_name(answer: &mut [u64], r: Name) -> u32
-    requires { ⌜ 4 ≤ length (now answer) ⌝ }
-    ensures { λ n. ⌜ (n ≡ answer-numbers (r .answer) .0) × (now (answer .exit) ≡ sets (now (answer .entry)) 0 (name-words r)) ⌝ }
-{
-    let a = r.answer;
-    let n = tell(answer, a);
-    answer[2] = r.start as u64;
-    answer[3] = r.length as u64;
-    n
-}
-
-fn tell_created(answer: &mut [u64], r: Created) -> u32
-    requires { ⌜ 7 ≤ length (now answer) ⌝ }
-    ensures { λ n. ⌜ (n ≡ answer-numbers (r .answer) .0) × (now (answer .exit) ≡ sets (now (answer .entry)) 0 (created-words r)) ⌝ }
-{
-    let a = r.answer;
-    let c = r.counts;
-    let n = tell(answer, a);
-    tell_counts(answer, c);
-    answer[6] = r.handle as u64;
-    n
-}
-
-fn tell_reading(answer: &mut [u64], double: &mut [f64], r: Read) -> u32
-    requires { ⌜ (4 ≤ length (now answer)) × (1 ≤ length (now double)) ⌝ }
-    ensures { λ n. ⌜ (n ≡ answer-numbers (r .answer) .0) × (now (answer .exit) ≡ sets (now (answer .entry)) 0 (reading-words r)) ⌝ }
-    ensures { λ _. ⌜ now (double .exit) ≡ sets (now (double .entry)) 0 (reading-double (r .reading) ∷ []) ⌝ }
-{
-    let a = r.answer;
-    let reads = r.reading;
-    let n = tell(answer, a);
-    answer[2] = kind_of(reads);
-    answer[3] = whole_of(reads);
-    double[0] = double_of(reads);
-    n
-}
-
-fn tell_weighed(answer: &mut [u64], weighing: &mut [f64], r: Weighed) -> u32
-    requires { ⌜ (2 ≤ length (now answer)) × (3 ≤ length (now weighing)) ⌝ }
-    ensures { λ n. ⌜ (n ≡ answer-numbers (r .answer) .0) × (now (answer .exit) ≡ sets (now (answer .entry)) 0 (weighed-words r)) ⌝ }
-    ensures { λ _. ⌜ now (weighing .exit) ≡ sets (now (weighing .entry)) 0 (weighing-doubles (r .weighing)) ⌝ }
-{
-    let a = r.answer;
-    let w = r.weighing;
-    weighing[0] = w.dry;
-    weighing[1] = w.moisture;
-    weighing[2] = w.wet;
-    tell(answer, a)
-}
-
-fn tell_costed(answer: &mut [u64], r: Costed) -> u32
-    requires { ⌜ 3 ≤ length (now answer) ⌝ }
-    ensures { λ n. ⌜ (n ≡ answer-numbers (r .answer) .0) × (now (answer .exit) ≡ sets (now (answer .entry)) 0 (costed-words r)) ⌝ }
-{
-    let a = r.answer;
-    let n = tell(answer, a);
-    answer[2] = r.cents;
-    n
-}
 
 // ---- load and dump
 
@@ -428,7 +184,7 @@ pub extern "C" fn ruby_marshal_dump(
     limit: u32,
     answer: &mut [u64],
 ) -> u32
-    ensures { λ r. ⌜ reply r (now (answer .exit)) (now (scratch .exit), now (output .exit)) ≡ tell-dump (dump-call (tables (now (nodes .entry)) (now (references .entry)) (now (bytes .entry))) (counts «node_count» «reference_count» «byte_count» root) (now (scratch .entry)) (now (output .entry)) limit) (now (scratch .entry)) (now (output .entry)) (now (answer .entry)) ⌝ }
+    ensures { λ r. ⌜ reply r (now (answer .exit)) (now (scratch .exit), now (output .exit)) ≡ tell-dump (dump-call (tables-of (now (nodes .entry)) (now (references .entry)) (now (bytes .entry))) (counts-of «node_count» «reference_count» «byte_count» root) (now (scratch .entry)) (now (output .entry)) limit) (now (scratch .entry)) (now (output .entry)) (now (answer .entry)) ⌝ }
 {
     if answer.len() < DUMPED {
         return BAD_TABLES;
@@ -464,7 +220,7 @@ pub extern "C" fn ruby_marshal_root(
     root: u32,
     answer: &mut [u64],
 ) -> u32
-    ensures { λ r. ⌜ reply r (now (answer .exit)) tt ≡ tell-number (number-done (get-root (lent (now (nodes .entry)) (now (references .entry)) (now (bytes .entry)) (counts «node_count» «reference_count» «byte_count» root)))) (now (answer .entry)) ⌝ }
+    ensures { λ r. ⌜ reply r (now (answer .exit)) tt ≡ tell-number (number-done (get-root (lent (now (nodes .entry)) (now (references .entry)) (now (bytes .entry)) (counts-of «node_count» «reference_count» «byte_count» root)))) (now (answer .entry)) ⌝ }
 {
     if answer.len() < NUMBER {
         return BAD_TABLES;
@@ -491,7 +247,7 @@ pub extern "C" fn ruby_marshal_kind(
     handle: u32,
     answer: &mut [u64],
 ) -> u32
-    ensures { λ r. ⌜ reply r (now (answer .exit)) tt ≡ tell-number (number-done (get-kind handle (lent (now (nodes .entry)) (now (references .entry)) (now (bytes .entry)) (counts «node_count» «reference_count» «byte_count» root)))) (now (answer .entry)) ⌝ }
+    ensures { λ r. ⌜ reply r (now (answer .exit)) tt ≡ tell-number (number-done (get-kind handle (lent (now (nodes .entry)) (now (references .entry)) (now (bytes .entry)) (counts-of «node_count» «reference_count» «byte_count» root)))) (now (answer .entry)) ⌝ }
 {
     if answer.len() < NUMBER {
         return BAD_TABLES;
@@ -518,7 +274,7 @@ pub extern "C" fn ruby_marshal_get(
     handle: u32,
     answer: &mut [u64],
 ) -> u32
-    ensures { λ r. ⌜ reply r (now (answer .exit)) tt ≡ tell-words (words-done (get-words handle (lent (now (nodes .entry)) (now (references .entry)) (now (bytes .entry)) (counts «node_count» «reference_count» «byte_count» root)))) (now (answer .entry)) ⌝ }
+    ensures { λ r. ⌜ reply r (now (answer .exit)) tt ≡ tell-words (words-done (get-words handle (lent (now (nodes .entry)) (now (references .entry)) (now (bytes .entry)) (counts-of «node_count» «reference_count» «byte_count» root)))) (now (answer .entry)) ⌝ }
 {
     if answer.len() < WORDS {
         return BAD_TABLES;
@@ -545,7 +301,7 @@ pub extern "C" fn ruby_marshal_get_symbol(
     handle: u32,
     answer: &mut [u64],
 ) -> u32
-    ensures { λ r. ⌜ reply r (now (answer .exit)) tt ≡ tell-name (name-done (get-name handle (lent (now (nodes .entry)) (now (references .entry)) (now (bytes .entry)) (counts «node_count» «reference_count» «byte_count» root)))) (now (answer .entry)) ⌝ }
+    ensures { λ r. ⌜ reply r (now (answer .exit)) tt ≡ tell-name (name-done (get-name handle (lent (now (nodes .entry)) (now (references .entry)) (now (bytes .entry)) (counts-of «node_count» «reference_count» «byte_count» root)))) (now (answer .entry)) ⌝ }
 {
     if answer.len() < NAME {
         return BAD_TABLES;
@@ -575,7 +331,7 @@ pub extern "C" fn ruby_marshal_reading(
     double: &mut [f64],
     answer: &mut [u64],
 ) -> u32
-    ensures { λ r. ⌜ reply r (now (answer .exit)) (now (double .exit)) ≡ tell-reading (read-done (get-reading handle (lent (now (nodes .entry)) (now (references .entry)) (now (bytes .entry)) (counts «node_count» «reference_count» «byte_count» root)))) (now (double .entry)) (now (answer .entry)) ⌝ }
+    ensures { λ r. ⌜ reply r (now (answer .exit)) (now (double .exit)) ≡ tell-reading (read-done (get-reading handle (lent (now (nodes .entry)) (now (references .entry)) (now (bytes .entry)) (counts-of «node_count» «reference_count» «byte_count» root)))) (now (double .entry)) (now (answer .entry)) ⌝ }
 {
     if answer.len() < READ {
         return BAD_TABLES;
@@ -607,7 +363,7 @@ pub extern "C" fn ruby_marshal_wet_weight(
     weighing: &mut [f64],
     answer: &mut [u64],
 ) -> u32
-    ensures { λ r. ⌜ reply r (now (answer .exit)) (now (weighing .exit)) ≡ tell-weighed (weighed-done (wet-weight dry moisture (lent (now (nodes .entry)) (now (references .entry)) (now (bytes .entry)) (counts «node_count» «reference_count» «byte_count» root)))) (now (weighing .entry)) (now (answer .entry)) ⌝ }
+    ensures { λ r. ⌜ reply r (now (answer .exit)) (now (weighing .exit)) ≡ tell-weighed (weighed-done (wet-weight dry moisture (lent (now (nodes .entry)) (now (references .entry)) (now (bytes .entry)) (counts-of «node_count» «reference_count» «byte_count» root)))) (now (weighing .entry)) (now (answer .entry)) ⌝ }
 {
     if answer.len() < WEIGHED {
         return BAD_TABLES;
@@ -640,7 +396,7 @@ pub extern "C" fn ruby_marshal_batch_cost(
     prices: u32,
     answer: &mut [u64],
 ) -> u32
-    ensures { λ r. ⌜ reply r (now (answer .exit)) tt ≡ tell-costed (cost-done (batch-cost recipe prices (lent (now (nodes .entry)) (now (references .entry)) (now (bytes .entry)) (counts «node_count» «reference_count» «byte_count» root)))) (now (answer .entry)) ⌝ }
+    ensures { λ r. ⌜ reply r (now (answer .exit)) tt ≡ tell-costed (cost-done (batch-cost recipe prices (lent (now (nodes .entry)) (now (references .entry)) (now (bytes .entry)) (counts-of «node_count» «reference_count» «byte_count» root)))) (now (answer .entry)) ⌝ }
 {
     if answer.len() < COSTED {
         return BAD_TABLES;
@@ -664,7 +420,7 @@ pub extern "C" fn ruby_marshal_new(
     bytes: &mut [u8],
     answer: &mut [u64],
 ) -> u32
-    ensures { λ r. ⌜ reply r (now (answer .exit)) (tables (now (nodes .exit)) (now (references .exit)) (now (bytes .exit))) ≡ tell-new (new-call (tables (now (nodes .entry)) (now (references .entry)) (now (bytes .entry)))) (tables (now (nodes .entry)) (now (references .entry)) (now (bytes .entry))) (now (answer .entry)) ⌝ }
+    ensures { λ r. ⌜ reply r (now (answer .exit)) (tables-of (now (nodes .exit)) (now (references .exit)) (now (bytes .exit))) ≡ tell-new (new-call (tables-of (now (nodes .entry)) (now (references .entry)) (now (bytes .entry)))) (tables-of (now (nodes .entry)) (now (references .entry)) (now (bytes .entry))) (now (answer .entry)) ⌝ }
 {
     if answer.len() < BEGUN {
         return BAD_TABLES;
@@ -685,7 +441,7 @@ pub extern "C" fn ruby_marshal_replace_root(
     handle: u32,
     answer: &mut [u64],
 ) -> u32
-    ensures { λ r. ⌜ reply r (now (answer .exit)) (tables (now (nodes .entry)) (now (references .entry)) (now (bytes .entry))) ≡ tell-build (build-call (exchange-root handle) (lent (now (nodes .entry)) (now (references .entry)) (now (bytes .entry)) (counts «node_count» «reference_count» «byte_count» root))) (tables (now (nodes .entry)) (now (references .entry)) (now (bytes .entry))) (now (answer .entry)) ⌝ }
+    ensures { λ r. ⌜ reply r (now (answer .exit)) (tables-of (now (nodes .entry)) (now (references .entry)) (now (bytes .entry))) ≡ tell-build (build-call (exchange-root handle) (lent (now (nodes .entry)) (now (references .entry)) (now (bytes .entry)) (counts-of «node_count» «reference_count» «byte_count» root))) (tables-of (now (nodes .entry)) (now (references .entry)) (now (bytes .entry))) (now (answer .entry)) ⌝ }
 {
     if answer.len() < CREATED {
         return BAD_TABLES;
@@ -711,7 +467,7 @@ pub extern "C" fn ruby_marshal_create_nil(
     root: u32,
     answer: &mut [u64],
 ) -> u32
-    ensures { λ r. ⌜ reply r (now (answer .exit)) (tables (now (nodes .exit)) (now (references .entry)) (now (bytes .entry))) ≡ tell-build (build-call create-nil (lent (now (nodes .entry)) (now (references .entry)) (now (bytes .entry)) (counts «node_count» «reference_count» «byte_count» root))) (tables (now (nodes .entry)) (now (references .entry)) (now (bytes .entry))) (now (answer .entry)) ⌝ }
+    ensures { λ r. ⌜ reply r (now (answer .exit)) (tables-of (now (nodes .exit)) (now (references .entry)) (now (bytes .entry))) ≡ tell-build (build-call create-nil (lent (now (nodes .entry)) (now (references .entry)) (now (bytes .entry)) (counts-of «node_count» «reference_count» «byte_count» root))) (tables-of (now (nodes .entry)) (now (references .entry)) (now (bytes .entry))) (now (answer .entry)) ⌝ }
 {
     if answer.len() < CREATED {
         return BAD_TABLES;
@@ -738,7 +494,7 @@ pub extern "C" fn ruby_marshal_create_bool(
     value: bool,
     answer: &mut [u64],
 ) -> u32
-    ensures { λ r. ⌜ reply r (now (answer .exit)) (tables (now (nodes .exit)) (now (references .entry)) (now (bytes .entry))) ≡ tell-build (build-call (create-bool value) (lent (now (nodes .entry)) (now (references .entry)) (now (bytes .entry)) (counts «node_count» «reference_count» «byte_count» root))) (tables (now (nodes .entry)) (now (references .entry)) (now (bytes .entry))) (now (answer .entry)) ⌝ }
+    ensures { λ r. ⌜ reply r (now (answer .exit)) (tables-of (now (nodes .exit)) (now (references .entry)) (now (bytes .entry))) ≡ tell-build (build-call (create-bool value) (lent (now (nodes .entry)) (now (references .entry)) (now (bytes .entry)) (counts-of «node_count» «reference_count» «byte_count» root))) (tables-of (now (nodes .entry)) (now (references .entry)) (now (bytes .entry))) (now (answer .entry)) ⌝ }
 {
     if answer.len() < CREATED {
         return BAD_TABLES;
@@ -765,7 +521,7 @@ pub extern "C" fn ruby_marshal_create_fixnum(
     value: i32,
     answer: &mut [u64],
 ) -> u32
-    ensures { λ r. ⌜ reply r (now (answer .exit)) (tables (now (nodes .exit)) (now (references .entry)) (now (bytes .entry))) ≡ tell-build (build-call (create-fixnum value) (lent (now (nodes .entry)) (now (references .entry)) (now (bytes .entry)) (counts «node_count» «reference_count» «byte_count» root))) (tables (now (nodes .entry)) (now (references .entry)) (now (bytes .entry))) (now (answer .entry)) ⌝ }
+    ensures { λ r. ⌜ reply r (now (answer .exit)) (tables-of (now (nodes .exit)) (now (references .entry)) (now (bytes .entry))) ≡ tell-build (build-call (create-fixnum value) (lent (now (nodes .entry)) (now (references .entry)) (now (bytes .entry)) (counts-of «node_count» «reference_count» «byte_count» root))) (tables-of (now (nodes .entry)) (now (references .entry)) (now (bytes .entry))) (now (answer .entry)) ⌝ }
 {
     if answer.len() < CREATED {
         return BAD_TABLES;
@@ -792,7 +548,7 @@ pub extern "C" fn ruby_marshal_create_new_symbol(
     name: &[u8],
     answer: &mut [u64],
 ) -> u32
-    ensures { λ r. ⌜ reply r (now (answer .exit)) (tables (now (nodes .exit)) (now (references .entry)) (now (bytes .exit))) ≡ tell-build (build-call (create-new-symbol (now (name .entry))) (lent (now (nodes .entry)) (now (references .entry)) (now (bytes .entry)) (counts «node_count» «reference_count» «byte_count» root))) (tables (now (nodes .entry)) (now (references .entry)) (now (bytes .entry))) (now (answer .entry)) ⌝ }
+    ensures { λ r. ⌜ reply r (now (answer .exit)) (tables-of (now (nodes .exit)) (now (references .entry)) (now (bytes .exit))) ≡ tell-build (build-call (create-new-symbol (now (name .entry))) (lent (now (nodes .entry)) (now (references .entry)) (now (bytes .entry)) (counts-of «node_count» «reference_count» «byte_count» root))) (tables-of (now (nodes .entry)) (now (references .entry)) (now (bytes .entry))) (now (answer .entry)) ⌝ }
 {
     if answer.len() < CREATED {
         return BAD_TABLES;
@@ -819,7 +575,7 @@ pub extern "C" fn ruby_marshal_create_symbol(
     name: &[u8],
     answer: &mut [u64],
 ) -> u32
-    ensures { λ r. ⌜ reply r (now (answer .exit)) (tables (now (nodes .exit)) (now (references .entry)) (now (bytes .exit))) ≡ tell-build (build-call (create-symbol (now (name .entry))) (lent (now (nodes .entry)) (now (references .entry)) (now (bytes .entry)) (counts «node_count» «reference_count» «byte_count» root))) (tables (now (nodes .entry)) (now (references .entry)) (now (bytes .entry))) (now (answer .entry)) ⌝ }
+    ensures { λ r. ⌜ reply r (now (answer .exit)) (tables-of (now (nodes .exit)) (now (references .entry)) (now (bytes .exit))) ≡ tell-build (build-call (create-symbol (now (name .entry))) (lent (now (nodes .entry)) (now (references .entry)) (now (bytes .entry)) (counts-of «node_count» «reference_count» «byte_count» root))) (tables-of (now (nodes .entry)) (now (references .entry)) (now (bytes .entry))) (now (answer .entry)) ⌝ }
 {
     if answer.len() < CREATED {
         return BAD_TABLES;
@@ -846,7 +602,7 @@ pub extern "C" fn ruby_marshal_create_array(
     members: &[u32],
     answer: &mut [u64],
 ) -> u32
-    ensures { λ r. ⌜ reply r (now (answer .exit)) (tables (now (nodes .exit)) (now (references .exit)) (now (bytes .entry))) ≡ tell-build (build-call (create-array (now (members .entry))) (lent (now (nodes .entry)) (now (references .entry)) (now (bytes .entry)) (counts «node_count» «reference_count» «byte_count» root))) (tables (now (nodes .entry)) (now (references .entry)) (now (bytes .entry))) (now (answer .entry)) ⌝ }
+    ensures { λ r. ⌜ reply r (now (answer .exit)) (tables-of (now (nodes .exit)) (now (references .exit)) (now (bytes .entry))) ≡ tell-build (build-call (create-array (now (members .entry))) (lent (now (nodes .entry)) (now (references .entry)) (now (bytes .entry)) (counts-of «node_count» «reference_count» «byte_count» root))) (tables-of (now (nodes .entry)) (now (references .entry)) (now (bytes .entry))) (now (answer .entry)) ⌝ }
 {
     if answer.len() < CREATED {
         return BAD_TABLES;
@@ -874,7 +630,7 @@ pub extern "C" fn ruby_marshal_create_hash(
     default: u32,
     answer: &mut [u64],
 ) -> u32
-    ensures { λ r. ⌜ reply r (now (answer .exit)) (tables (now (nodes .exit)) (now (references .exit)) (now (bytes .entry))) ≡ tell-build (build-call (create-hash (now (pairs .entry)) default) (lent (now (nodes .entry)) (now (references .entry)) (now (bytes .entry)) (counts «node_count» «reference_count» «byte_count» root))) (tables (now (nodes .entry)) (now (references .entry)) (now (bytes .entry))) (now (answer .entry)) ⌝ }
+    ensures { λ r. ⌜ reply r (now (answer .exit)) (tables-of (now (nodes .exit)) (now (references .exit)) (now (bytes .entry))) ≡ tell-build (build-call (create-hash (now (pairs .entry)) default) (lent (now (nodes .entry)) (now (references .entry)) (now (bytes .entry)) (counts-of «node_count» «reference_count» «byte_count» root))) (tables-of (now (nodes .entry)) (now (references .entry)) (now (bytes .entry))) (now (answer .entry)) ⌝ }
 {
     if answer.len() < CREATED {
         return BAD_TABLES;
@@ -902,7 +658,7 @@ pub extern "C" fn ruby_marshal_create_object(
     pairs: &[u32],
     answer: &mut [u64],
 ) -> u32
-    ensures { λ r. ⌜ reply r (now (answer .exit)) (tables (now (nodes .exit)) (now (references .exit)) (now (bytes .entry))) ≡ tell-build (build-call (create-object name (now (pairs .entry))) (lent (now (nodes .entry)) (now (references .entry)) (now (bytes .entry)) (counts «node_count» «reference_count» «byte_count» root))) (tables (now (nodes .entry)) (now (references .entry)) (now (bytes .entry))) (now (answer .entry)) ⌝ }
+    ensures { λ r. ⌜ reply r (now (answer .exit)) (tables-of (now (nodes .exit)) (now (references .exit)) (now (bytes .entry))) ≡ tell-build (build-call (create-object name (now (pairs .entry))) (lent (now (nodes .entry)) (now (references .entry)) (now (bytes .entry)) (counts-of «node_count» «reference_count» «byte_count» root))) (tables-of (now (nodes .entry)) (now (references .entry)) (now (bytes .entry))) (now (answer .entry)) ⌝ }
 {
     if answer.len() < CREATED {
         return BAD_TABLES;
@@ -929,7 +685,7 @@ pub extern "C" fn ruby_marshal_create_string(
     value: &[u8],
     answer: &mut [u64],
 ) -> u32
-    ensures { λ r. ⌜ reply r (now (answer .exit)) (tables (now (nodes .exit)) (now (references .entry)) (now (bytes .exit))) ≡ tell-build (build-call (create-string (now (value .entry))) (lent (now (nodes .entry)) (now (references .entry)) (now (bytes .entry)) (counts «node_count» «reference_count» «byte_count» root))) (tables (now (nodes .entry)) (now (references .entry)) (now (bytes .entry))) (now (answer .entry)) ⌝ }
+    ensures { λ r. ⌜ reply r (now (answer .exit)) (tables-of (now (nodes .exit)) (now (references .entry)) (now (bytes .exit))) ≡ tell-build (build-call (create-string (now (value .entry))) (lent (now (nodes .entry)) (now (references .entry)) (now (bytes .entry)) (counts-of «node_count» «reference_count» «byte_count» root))) (tables-of (now (nodes .entry)) (now (references .entry)) (now (bytes .entry))) (now (answer .entry)) ⌝ }
 {
     if answer.len() < CREATED {
         return BAD_TABLES;
@@ -957,7 +713,7 @@ pub extern "C" fn ruby_marshal_create_user_defined(
     value: &[u8],
     answer: &mut [u64],
 ) -> u32
-    ensures { λ r. ⌜ reply r (now (answer .exit)) (tables (now (nodes .exit)) (now (references .entry)) (now (bytes .exit))) ≡ tell-build (build-call (create-user-defined name (now (value .entry))) (lent (now (nodes .entry)) (now (references .entry)) (now (bytes .entry)) (counts «node_count» «reference_count» «byte_count» root))) (tables (now (nodes .entry)) (now (references .entry)) (now (bytes .entry))) (now (answer .entry)) ⌝ }
+    ensures { λ r. ⌜ reply r (now (answer .exit)) (tables-of (now (nodes .exit)) (now (references .entry)) (now (bytes .exit))) ≡ tell-build (build-call (create-user-defined name (now (value .entry))) (lent (now (nodes .entry)) (now (references .entry)) (now (bytes .entry)) (counts-of «node_count» «reference_count» «byte_count» root))) (tables-of (now (nodes .entry)) (now (references .entry)) (now (bytes .entry))) (now (answer .entry)) ⌝ }
 {
     if answer.len() < CREATED {
         return BAD_TABLES;
@@ -984,7 +740,7 @@ pub extern "C" fn ruby_marshal_create_float(
     value: &[u8],
     answer: &mut [u64],
 ) -> u32
-    ensures { λ r. ⌜ reply r (now (answer .exit)) (tables (now (nodes .exit)) (now (references .entry)) (now (bytes .exit))) ≡ tell-build (build-call (create-float (now (value .entry))) (lent (now (nodes .entry)) (now (references .entry)) (now (bytes .entry)) (counts «node_count» «reference_count» «byte_count» root))) (tables (now (nodes .entry)) (now (references .entry)) (now (bytes .entry))) (now (answer .entry)) ⌝ }
+    ensures { λ r. ⌜ reply r (now (answer .exit)) (tables-of (now (nodes .exit)) (now (references .entry)) (now (bytes .exit))) ≡ tell-build (build-call (create-float (now (value .entry))) (lent (now (nodes .entry)) (now (references .entry)) (now (bytes .entry)) (counts-of «node_count» «reference_count» «byte_count» root))) (tables-of (now (nodes .entry)) (now (references .entry)) (now (bytes .entry))) (now (answer .entry)) ⌝ }
 {
     if answer.len() < CREATED {
         return BAD_TABLES;
@@ -1013,7 +769,7 @@ pub extern "C" fn ruby_marshal_create_bignum(
     high: u32,
     answer: &mut [u64],
 ) -> u32
-    ensures { λ r. ⌜ reply r (now (answer .exit)) (tables (now (nodes .exit)) (now (references .entry)) (now (bytes .entry))) ≡ tell-build (build-call (create-bignum minus low high) (lent (now (nodes .entry)) (now (references .entry)) (now (bytes .entry)) (counts «node_count» «reference_count» «byte_count» root))) (tables (now (nodes .entry)) (now (references .entry)) (now (bytes .entry))) (now (answer .entry)) ⌝ }
+    ensures { λ r. ⌜ reply r (now (answer .exit)) (tables-of (now (nodes .exit)) (now (references .entry)) (now (bytes .entry))) ≡ tell-build (build-call (create-bignum minus low high) (lent (now (nodes .entry)) (now (references .entry)) (now (bytes .entry)) (counts-of «node_count» «reference_count» «byte_count» root))) (tables-of (now (nodes .entry)) (now (references .entry)) (now (bytes .entry))) (now (answer .entry)) ⌝ }
 {
     if answer.len() < CREATED {
         return BAD_TABLES;

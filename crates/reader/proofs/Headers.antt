@@ -8,7 +8,8 @@ use lib.Dec.{eqb, leb, ltb}
 use lib.ListN.{length, getD}
 use borrow.Author.Tests.{lt-ltb, le-ltb, lt-leb, le-leb, eq-eqb, ne-eqb}
 use Rattle.definition.specs.Run.{ok, refused, refuse, pick, next, _>>=_}
-use Rattle.definition.specs.Load.{State, at-set, noted, note, read-byte, read-header}
+use Rattle.definition.specs.State.{State, at-set, noted}
+use Rattle.definition.specs.Load.{note, read-byte, read-header}
 use Rattle.definition.specs.declared.Refusal.the-variants.{ShortInput, InvalidVersion}
 use Rattle.reader.specs.Answers.{refusal-at, refusal-of, at-parts, Reads}
 

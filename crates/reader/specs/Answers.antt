@@ -5,7 +5,7 @@ use mathlib.Core.Path.{_≡_, refl, ap, _∙_}
 use lib.Dec.{eqb}
 use borrow.Author.Tests.{ne-eqb}
 use Rattle.definition.specs.Run.{ok, refused, pick}
-use Rattle.definition.specs.Load.{State, Reader, at-set, noted}
+use Rattle.definition.specs.State.{State, Reader, at-set, noted}
 use Rattle.definition.specs.declared.Refusal.{Refusal}
 use Rattle.definition.specs.declared.Refusal.the-variants.{InvalidVersion, ShortInput, InvalidKind, NegativeCount, MissingSymbol, MissingObject, NotASymbol, NotAnObject, TooDeep, NoSpace, BadSign, TooBig, WrongSign}
 
@@ -26,13 +26,17 @@ refusal-of limit n d =
     (pick (eqb n 19) (WrongSign (d % 256))
     (NoSpace d))))))))))))
 
--- the refusal that a number from 2^32 on says
+-- readers answer refusals from here on
+abbrev pub REFUSED : ℕ
+REFUSED = 4294967296
+
+-- the refusal that a number from there on says
 unfoldable pub refusal-at : ℕ → ℕ → Refusal
-refusal-at limit r = refusal-of limit (r / 4294967296) (r % 4294967296)
+refusal-at limit r = refusal-of limit (r / REFUSED) (r % REFUSED)
 
 -- the number that says it
 abbrev pub coded : ℕ → ℕ → ℕ
-coded n d = n * 4294967296 + d
+coded n d = n * REFUSED + d
 
 pub at-parts : (limit n d : ℕ) {r : ℕ} → r ≡ coded n d → d < 4294967296 → refusal-at limit r ≡ refusal-of limit n d
 unfolding refusal-at

@@ -11,7 +11,8 @@ use Rattle.definition.specs.Run.{ok, refused, pure, refuse, pick, next, _>>=_}
 use Rattle.definition.specs.Integer.{Form, value, data-bytes, form, little, low-bytes, wrong-sign, integer-bytes}
 use Rattle.definition.specs.Node.{equal}
 use Rattle.definition.specs.Arena.{range}
-use Rattle.definition.specs.Load.{State, at-set, noted, note, tell, read-byte, read-bytes, read-form, read-integer}
+use Rattle.definition.specs.State.{State, at-set, noted}
+use Rattle.definition.specs.Load.{note, integer-of, read-byte, read-bytes, read-form, read-integer}
 use Rattle.definition.specs.declared.Refusal.the-variants.{ShortInput, WrongSign}
 use Rattle.lists.specs.Integers.{same-form, form-agrees}
 use Rattle.reader.specs.Answers.{coded}
@@ -161,7 +162,7 @@ size-some b = some-byte (form b)
 
 module _ (input : List ℕ) (s : State) (b : ℕ) where
   -- with all its bytes there it comes to what they tell
-  form-there : (f : Form) → s .at < length input → s .at + size-of f ≤ length input → read-form input b f (at-set (s .at + 1) s) ≡ tell b (data-of (drop (s .at + 1) input) f) (word-of (drop (s .at + 1) input) f) (at-set (s .at + size-of f) s)
+  form-there : (f : Form) → s .at < length input → s .at + size-of f ≤ length input → read-form input b f (at-set (s .at + 1) s) ≡ integer-of b (data-of (drop (s .at + 1) input) f) (word-of (drop (s .at + 1) input) f) (at-set (s .at + size-of f) s)
   unfolding read-form size-of word-of data-of read-bytes range _>>=_ next pick
   form-there (value w) l h = refl
   form-there (data-bytes n above) l h =
@@ -175,7 +176,7 @@ module _ (input : List ℕ) (s : State) (b : ℕ) where
   form-short (data-bytes n above) l h = let lt : length input - (s .at + 1) < n = omega arith in simp (lt-leb _ _ lt)
 
 module _ (input : List ℕ) (s : State) where
-  integer-there : s .at + size-at input (s .at) ≤ length input → read-integer input s ≡ tell (getD input (s .at) 0) (data-at input (s .at)) (word-at input (s .at)) (at-set (s .at + size-at input (s .at)) s)
+  integer-there : s .at + size-at input (s .at) ≤ length input → read-integer input s ≡ integer-of (getD input (s .at) 0) (data-at input (s .at)) (word-at input (s .at)) (at-set (s .at + size-at input (s .at)) s)
   unfolding read-integer read-byte _>>=_ next pick
   integer-there h =
       let l : s .at < length input = omega (arith, size-some (getD input (s .at) 0)) in
@@ -183,12 +184,12 @@ module _ (input : List ℕ) (s : State) where
 
   -- all its bytes are there
   pub integer-read : s .at + size-at input (s .at) ≤ length input → wrong-at input (s .at) ≡ false → read-integer input s ≡ ok (word-at input (s .at)) (noted (dumped-at input (s .at)) (at-set (s .at + size-at input (s .at)) s))
-  unfolding tell note pure _>>=_ next pick
+  unfolding integer-of note pure _>>=_ next pick
   integer-read h e = integer-there h ∙ rw e refl
 
   -- and its size byte is against its sign
   pub integer-wrong : s .at + size-at input (s .at) ≤ length input → wrong-at input (s .at) ≡ true → read-integer input s ≡ refused (WrongSign (getD input (s .at) 0))
-  unfolding tell refuse pick
+  unfolding integer-of refuse pick
   integer-wrong h e = integer-there h ∙ rw e refl
 
   -- one is missing
@@ -202,7 +203,7 @@ module _ (input : List ℕ) (s : State) where
 
   -- an integer of one byte, which dump writes so
   pub integer-small : (w : ℕ) → form-at input (s .at) ≡ value w → w < 4294967296 → integer-bytes w ≡ getD input (s .at) 0 ∷ [] → s .at < length input → read-integer input s ≡ ok w (at-set (s .at + 1) s)
-  unfolding read-integer read-byte read-form tell note pure _>>=_ next pick
+  unfolding read-integer read-byte read-form integer-of note pure _>>=_ next pick
   integer-small w e u f l =
       let q = sym (same-form w f) in
       simp (lt-ltb _ _ l, e, form-agrees w _ [] u q, q)

@@ -3,6 +3,7 @@
 use definition::Answer;
 use definition::Bignum;
 use definition::Refusal;
+use definition::Slice;
 use definition::Taken;
 use definition::Text;
 ghost use mathlib.Core.Path.{_≡_};
@@ -14,11 +15,12 @@ ghost use Rattle.definition.specs.Integer.{value, form, low-bytes, integer-byte
 ghost use Rattle.definition.specs.Integer as integer;
 ghost use Rattle.definition.specs.Kind.{PLUS, MINUS};
 ghost use Rattle.definition.specs.Run.{refused};
+ghost use Rattle.definition.specs.Arena.{too-long};
 ghost use Rattle.definition.specs.Load.{read-header, read-integer};
 ghost use Rattle.definition.specs.Reader.{starting, left, next-byte, next-header, next-integer, next-byte-string};
 ghost use Rattle.reader.specs.Answers.{refusal-at, coded, Reads};
 ghost use Rattle.reader.specs.Integers.{size-of, word-of, data-of, as-dumped, size-at, data-at, word-at, least, sign-checked, Whole};
-ghost use Rattle.reader.specs.From.{taken-as, not-taken, no-text};
+ghost use Rattle.reader.specs.From.{taken-as, not-taken, no-text, byte-from, header-from, integer-from, text-from};
 
 // A reader answers a number, which comes back in a register: an enum comes back in memory. Below REFUSED it is a value;
 // from there on a refusal, whose number is the quotient and whose detail is the remainder by REFUSED.
@@ -42,11 +44,22 @@ pub const NOT_AN_OBJECT: u64 = 10 * REFUSED;
 
 pub const TOO_DEEP: u64 = 11 * REFUSED;
 
-pub const NO_SPACE: u64 = 12 * REFUSED;
+const NO_SPACE: u64 = 12 * REFUSED;
+
+// no room for one entry more in this table or list
+pub const NO_NODES: u64 = NO_SPACE + Slice::NODES as u64;
+
+pub const NO_REFERENCES: u64 = NO_SPACE + Slice::REFERENCES as u64;
+
+pub const NO_BYTES: u64 = NO_SPACE + Slice::BYTES as u64;
+
+pub const NO_SYMBOLS: u64 = NO_SPACE + Slice::SYMBOLS as u64;
+
+pub const NO_OBJECTS: u64 = NO_SPACE + Slice::OBJECTS as u64;
 
 const BAD_SIGN: u64 = 15 * REFUSED;
 
-pub const TOO_BIG: u64 = 16 * REFUSED;
+pub const BIGNUM_TOO_BIG: u64 = 16 * REFUSED;
 
 const WRONG_SIGN: u64 = 19 * REFUSED;
 
@@ -334,8 +347,8 @@ fn took(value: u32, at: usize, form: bool) -> Taken
 }
 
 // A byte.
-pub fn byte_from(input: &[u8], at: usize) -> Taken
-    ensures { λ r. ⌜ r ≡ next-byte (now (input .entry)) at ⌝ }
+fn take_byte(input: &[u8], at: usize) -> Taken
+    ensures { λ r. ⌜ r ≡ byte-from (now (input .entry)) at ⌝ }
 {
     if at < input.len() {
         return took(byte(input[at]), at + 1, true);
@@ -344,8 +357,8 @@ pub fn byte_from(input: &[u8], at: usize) -> Taken
 }
 
 // The header.
-pub fn header_from(input: &[u8], at: usize) -> Taken
-    ensures { λ r. ⌜ r ≡ next-header (now (input .entry)) at ⌝ }
+fn take_header(input: &[u8], at: usize) -> Taken
+    ensures { λ r. ⌜ r ≡ header-from (now (input .entry)) at ⌝ }
 {
     if input.len() < at {
         return not_taken(Refusal::ShortInput, at);
@@ -373,8 +386,8 @@ fn whole_integer(input: &[u8], at: usize) -> u64
 }
 
 // An integer.
-pub fn integer_from(input: &[u8], at: usize) -> Taken
-    ensures { λ r. ⌜ r ≡ next-integer (now (input .entry)) at ⌝ }
+fn take_integer(input: &[u8], at: usize) -> Taken
+    ensures { λ r. ⌜ r ≡ integer-from (now (input .entry)) at ⌝ }
 {
     let r = whole_integer(&input[..], at);
     if REFUSED <= r {
@@ -398,8 +411,8 @@ fn no_text(q: Refusal, at: usize) -> Text
 }
 
 // A byte string.
-pub fn byte_string_from(input: &[u8], at: usize) -> Text
-    ensures { λ r. ⌜ r ≡ next-byte-string (now (input .entry)) at ⌝ }
+fn take_byte_string(input: &[u8], at: usize) -> Text
+    ensures { λ r. ⌜ r ≡ text-from (now (input .entry)) at ⌝ }
 {
     let r = whole_integer(&input[..], at);
     if REFUSED <= r {
@@ -421,6 +434,55 @@ pub fn byte_string_from(input: &[u8], at: usize) -> Text
         offset: start + k,
         form: in_form(input[at], w),
     }
+}
+
+// ---- the same of any input: one that is too long is refused before anything else
+
+// Is the input longer than a slice may be?
+fn too_long(input: &[u8]) -> bool
+    ensures { λ r. ⌜ r ≡ too-long (length (now (input .entry))) ⌝ }
+{
+    Slice::GREATEST < input.len()
+}
+
+// A byte.
+pub fn byte_from(input: &[u8], at: usize) -> Taken
+    ensures { λ r. ⌜ r ≡ next-byte (now (input .entry)) at ⌝ }
+{
+    if too_long(&input[..]) {
+        return not_taken(Refusal::BadTables(Slice::INPUT), at);
+    }
+    take_byte(&input[..], at)
+}
+
+// The header.
+pub fn header_from(input: &[u8], at: usize) -> Taken
+    ensures { λ r. ⌜ r ≡ next-header (now (input .entry)) at ⌝ }
+{
+    if too_long(&input[..]) {
+        return not_taken(Refusal::BadTables(Slice::INPUT), at);
+    }
+    take_header(&input[..], at)
+}
+
+// An integer.
+pub fn integer_from(input: &[u8], at: usize) -> Taken
+    ensures { λ r. ⌜ r ≡ next-integer (now (input .entry)) at ⌝ }
+{
+    if too_long(&input[..]) {
+        return not_taken(Refusal::BadTables(Slice::INPUT), at);
+    }
+    take_integer(&input[..], at)
+}
+
+// A byte string.
+pub fn byte_string_from(input: &[u8], at: usize) -> Text
+    ensures { λ r. ⌜ r ≡ next-byte-string (now (input .entry)) at ⌝ }
+{
+    if too_long(&input[..]) {
+        return no_text(Refusal::BadTables(Slice::INPUT), at);
+    }
+    take_byte_string(&input[..], at)
 }
 
 // ---- the reader

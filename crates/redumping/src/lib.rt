@@ -1,6 +1,10 @@
 // What the program redump writes: an input loaded, and its arena dumped.
 use console::LIMIT;
+use console::NUMBERED;
 use console::load_input;
+use console::put_all;
+use console::put_refusal;
+use console::within;
 use definition::Answer;
 use definition::Dumped;
 use dump::dump;
@@ -34,4 +38,46 @@ pub fn redump(
             written: 0,
         },
     }
+}
+
+// The dump or the refusal's row.
+fn put_dumped(out: &mut [u8], at: usize, r: Dumped, output: &[u8]) -> usize {
+    let answer = r.answer;
+    let written = r.written;
+    match answer {
+        Answer::Accepted => {
+            let n = within(written, &output[..]);
+            put_all(out, at, &output[..n])
+        }
+        Answer::Refused(q) => put_refusal(out, at, Answer::Refused(q)),
+    }
+}
+
+// The input's dump, put into `out` from `at` on, or the refusal's row; the position after it.
+pub fn put_redump(
+    out: &mut [u8],
+    at: usize,
+    input: &[u8],
+    nodes: &mut [u32],
+    references: &mut [u32],
+    bytes: &mut [u8],
+    symbols: &mut [u32],
+    objects: &mut [u32],
+) -> usize {
+    let mut scratch = [0u32; NUMBERED];
+    // 65,536 bytes hold every dump of the programs' tables, which takes at most 2 + 16,384 + 1,000 * 12 + 4,001 * 4 = 44,390:
+    // the header; the byte strings, each laid out once; for each node `I`, its kind, a length and a count of 3 bytes each
+    // (a fixnum's 6 are fewer), and 4 for a link as its name or default; the root and each reference as a link of 4.
+    let mut output = io::large_buffer();
+    let r = redump(
+        &input[..],
+        nodes,
+        references,
+        bytes,
+        symbols,
+        objects,
+        &mut scratch,
+        &mut output,
+    );
+    put_dumped(out, at, r, &output)
 }

@@ -1,19 +1,11 @@
 // The numbers of documents 01 and 02 for a refusal, for programs that print them.
 use definition::Answer;
 use definition::Fault;
+use definition::Numbers;
 use definition::Refusal;
 ghost use mathlib.Core.Path.{_≡_};
 ghost use mathlib.Core.Bool.{false};
-ghost use Rattle.definition.specs.Refused.{numbers, answer-numbers};
-ghost use Rattle.refusal.specs.Shown.{shown};
-
-// A refusal's number and two details; the first detail is below 0 where `below` says so.
-pub struct Numbers {
-    pub number: u32,
-    pub below: bool,
-    pub first: u32,
-    pub second: u32,
-}
+ghost use Rattle.definition.specs.Refused.{numbers-told, answer-told};
 
 fn plain(number: u32, first: u32, second: u32) -> Numbers
     ensures { λ r. ⌜ r ≡ record { number = number; below = false; first = first; second = second } ⌝ }
@@ -26,8 +18,9 @@ fn plain(number: u32, first: u32, second: u32) -> Numbers
     }
 }
 
+// A refusal's number and details.
 pub fn numbers_of(q: Refusal) -> Numbers
-    ensures { λ r. ⌜ shown r ≡ numbers q ⌝ }
+    ensures { λ r. ⌜ r ≡ numbers-told q ⌝ }
 {
     match q {
         Refusal::BadTables(slice) => plain(1, slice, 0),
@@ -75,7 +68,7 @@ pub fn numbers_of(q: Refusal) -> Numbers
 
 // An answer's; 0 is accepted.
 pub fn answer_numbers(a: Answer) -> Numbers
-    ensures { λ r. ⌜ shown r ≡ answer-numbers a ⌝ }
+    ensures { λ r. ⌜ r ≡ answer-told a ⌝ }
 {
     match a {
         Answer::Accepted => plain(0, 0, 0),

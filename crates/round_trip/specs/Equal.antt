@@ -8,10 +8,11 @@ use lib.ListN.{length, getD, take, drop, getElem?, length-map}
 use lib.Seq.{getD-take, getD-drop}
 use native.Mathlib.Omega.{arith}
 use Rattle.definition.specs.Run.{ok}
-use Rattle.definition.specs.Node.{Row, fixnum, kind, row-of, row, rows}
+use Rattle.definition.specs.Node.{Row, fixnum, kind, row-of, row, rows, width, START}
 use Rattle.definition.specs.Arena.{Tables, Arena, arena, node, range, fault}
 use Rattle.definition.specs.Dump.{Written, dump, dump-wrong, DumpCall}
 use Rattle.definition.specs.Graph.{SameGraph}
+use Rattle.definition.specs.Slice.{greatest-length}
 use Rattle.definition.specs.declared.Counts.{Counts}
 use Rattle.lists.specs.Lists.{At, at-lt, len-snoc, apart}
 use Rattle.lists.specs.Ranges.{length-range}
@@ -40,9 +41,9 @@ use Rattle.round_trip.specs.Theorem.{same-text}
 
 -- no table has more than 2,147,483,647 entries
 pub record Small (A : Arena) : Type 0 where
-  pub nodes : length (A .nodes) ≤ 2147483647
-  pub references : length (A .references) ≤ 2147483647
-  pub bytes : length (A .bytes) ≤ 2147483647
+  pub nodes : length (A .nodes) ≤ greatest-length
+  pub references : length (A .references) ≤ greatest-length
+  pub bytes : length (A .bytes) ≤ greatest-length
 
 abbrev BoundedNode : Node → Type 0
 BoundedNode (leaf k w) = w < 4294967296
@@ -77,7 +78,7 @@ module _ (A : Arena) (m : Small A) where
 
 -- ---- a forest that describes such nodes
 
-described : {t : List Node} {g : F} {vs : List ℕ} {σ σ′ : Num} → ((v : ℕ) (n : Node) → At t v n → BoundedNode n) → length (σ′ .objs) ≤ 2147483647 → length (σ′ .syms) ≤ 2147483647 → E t g vs σ σ′ → Bounded g
+described : {t : List Node} {g : F} {vs : List ℕ} {σ σ′ : Num} → ((v : ℕ) (n : Node) → At t v n → BoundedNode n) → length (σ′ .objs) ≤ greatest-length → length (σ′ .syms) ≤ greatest-length → E t g vs σ σ′ → Bounded g
 described f o s eEnd = tt
 described f o s (eLeaf {k = k} {x = x} {v = v} a d) = (f v (leaf k x) a, described f o s d)
 described f o s (eBox {h = h} {v = v} {us = us} {ms = ms} {σ₁ = σ₁} a d₀ n d₁ d) =
@@ -113,8 +114,8 @@ pub describes-bounded : (A : Arena) → Right A → Fixnums A → Small A → (g
 describes-bounded A ρ fx m g σ d =
     let k = taken (seen A) g (A .root) σ d in
     let l = length-seen A in
-    let o : length (σ .objs) ≤ 2147483647 = omega (arith, boxes-numbered d, k .objects, boxes-most (seen A), m .nodes) in
-    let s : length (σ .syms) ≤ 2147483647 = omega (arith, symbols-numbered d, k .symbols, symbols-most (seen A), m .nodes) in
+    let o : length (σ .objs) ≤ greatest-length = omega (arith, boxes-numbered d, k .objects, boxes-most (seen A), m .nodes) in
+    let s : length (σ .syms) ≤ greatest-length = omega (arith, symbols-numbered d, k .symbols, symbols-most (seen A), m .nodes) in
     described (node-bounded A m ρ fx) o s d
 
 -- ---- equal bytes, the same graph
@@ -153,10 +154,10 @@ rows-fixnum : (n : ℕ) (t : List ℕ) → ((k : ℕ) → getD t k 0 < 429496729
 unfolding rows row
 rows-fixnum zero t b i w e = apart (cc)
 rows-fixnum (suc n) t b zero w e =
-    let q : row (take 7 t) ≡ fixnum w = cc in
-    let z = fixnum-word _ (getD (take 7 t) 1 0) _ _ _ _ _ w q in
-    omega (arith, z, getD-take 7 t 1 0 (omega arith), b 1)
-rows-fixnum (suc n) t b (suc i) w e = rows-fixnum n (drop 7 t) (λ k. rw (getD-drop 7 t k 0) (b (7 + k))) i w e
+    let q : row (take width t) ≡ fixnum w = cc in
+    let z = fixnum-word _ (getD (take width t) START 0) _ _ _ _ _ w q in
+    omega (arith, z, getD-take width t START 0 (omega arith), b START)
+rows-fixnum (suc n) t b (suc i) w e = rows-fixnum n (drop width t) (λ k. rw (getD-drop width t k 0) (b (width + k))) i w e
 
 fixnums : (T : Tables) (c : Counts) → AreWords (T .nodes) → Fixnums (arena T c)
 unfolding arena

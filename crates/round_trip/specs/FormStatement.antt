@@ -41,7 +41,20 @@ YesExactlyWhen =
 abbrev pub RefusedSaysNo : Type 0
 RefusedSaysNo = (X : List ℕ) (T : Lists) (limit : ℕ) (r : Refusal) → load-call X T limit .answer .answer ≡ Refused r → load-call X T limit .answer .form ≡ false
 
--- X is loaded, and the arena filled is dumped under any limit, with any scratch and output: both are accepted, and C is written. Among all inputs that hold this graph just those that begin with C are in dump form: C is (loaded with tables, lists and limit as demand 3 asks), and any load that says yes and filled an arena with the same graph used the bytes C
+-- two loads that say yes and filled arenas with the same graph used the same bytes: a graph has at most one form
+abbrev pub AtMostOneForm : Type 1
+AtMostOneForm =
+    (X Y : List ℕ) (T U : Lists) (limit-x limit-y : ℕ) → AreBytes X → AreBytes Y → LoadAccepted X T limit-x → LoadAccepted Y U limit-y
+    → Yes X T limit-x → Yes Y U limit-y → SameGraph (filled X T limit-x) (filled Y U limit-y) → used-bytes X T limit-x ≡ used-bytes Y U limit-y
+
+-- it has one only where it can be dumped: if a load that says yes filled an arena with X's graph, dumping X's arena under that load's limit, with any allowed scratch and any allowed output of at least the bytes that it used, is accepted and writes these
+abbrev pub FormIsDumped : Type 1
+FormIsDumped =
+    (X Y : List ℕ) (T U : Lists) (limit-x limit-y : ℕ) → AreBytes Y → LoadAccepted X T limit-x → LoadAccepted Y U limit-y → Yes Y U limit-y → SameGraph (filled X T limit-x) (filled Y U limit-y)
+    → (scratch output : List ℕ) → DumpAllowed (tables X T limit-x) scratch output limit-y → used Y U limit-y ≤ length output
+    → DumpAccepted (tables X T limit-x) (counts X T limit-x) scratch output limit-y × (written (tables X T limit-x) (counts X T limit-x) scratch output limit-y ≡ used-bytes Y U limit-y)
+
+-- and where it can be dumped it has one. X is loaded, and the arena filled is dumped under any limit, with any scratch and output: both are accepted, and C is written. Among all inputs that hold this graph just those that begin with C are in dump form: C is (loaded with tables, lists and limit as demand 3 asks), and any load that says yes and filled an arena with the same graph used the bytes C
 abbrev pub OneForm : Type 1
 OneForm =
     (X : List ℕ) (T : Lists) (limit-x : ℕ) → AreBytes X → LoadAccepted X T limit-x

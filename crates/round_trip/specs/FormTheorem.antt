@@ -11,12 +11,16 @@ use native.Mathlib.Omega.{arith}
 use borrow.Author.Tests.{le-ltb}
 use Rattle.definition.specs.Run.{Outcome, ok, refused, pick}
 use Rattle.definition.specs.Arena.{Arena, Tables, too-long, bad-nodes, lowest}
-use Rattle.definition.specs.Load.{State, Lists, room-of, begin, load, load-wrong, load-done, load-if, load-call}
-use Rattle.definition.specs.Dump.{dump-wrong}
+use Rattle.definition.specs.State.{State}
+use Rattle.definition.specs.Load.{Lists, room-of, begin, load, load-wrong, load-done, load-if, load-call}
+use Rattle.definition.specs.Dump.{dump-wrong, dump-call}
+use Rattle.definition.specs.Node.{width}
+use Rattle.definition.specs.Slice.{greatest-length, greatest-limit}
 use Rattle.definition.specs.declared.Answer.the-variants.{Refused}
+use Rattle.definition.specs.declared.Dumped.{Dumped}
 use Rattle.definition.specs.declared.Loaded.{Loaded}
 use Rattle.lists.specs.Lists.{apart}
-use Rattle.lists.specs.Slices.{lowest-none}
+use Rattle.lists.specs.Slices.{lowest-none, short}
 use Rattle.graph.specs.Forest.{Node, fresh}
 use Rattle.graph.specs.Describe.{E, Says}
 use Rattle.graph.specs.Build.{num}
@@ -27,8 +31,9 @@ use Rattle.states.specs.States.{seen-root}
 use Rattle.load_forest.specs.Sound.{LoadWrites, load-writes}
 use Rattle.load_forest.specs.Call.{AcceptedLoad, load-allowed, load-accepted, accepted-load, load-used, call-arena, call-well-formed, call-used, load-lengths}
 use Rattle.load_text.specs.Back.{describes}
-use Rattle.round_trip.specs.Statement.{AreBytes, LoadAllowed, NoSmaller, LoadAccepted, used, tables, counts, DumpAccepted, written}
-use Rattle.round_trip.specs.FormStatement.{Yes, used-bytes, Enough, WritesUsed, YesExactlyWhen, RefusedSaysNo, OneForm}
+use Rattle.round_trip.specs.Statement.{AreBytes, LoadAllowed, NoSmaller, LoadAccepted, used, tables, counts, DumpAllowed, DumpAccepted, written}
+use Rattle.round_trip.specs.FormStatement.{Yes, used-bytes, Enough, WritesUsed, YesExactlyWhen, RefusedSaysNo, AtMostOneForm, FormIsDumped, OneForm}
+use Rattle.round_trip.specs.Graphs.{dump-sees-graph}
 use Rattle.round_trip.specs.Theorem.{back, trip, same-load, up-refl, dumps-text, room-largest, room-larger, input-allowed, round-trip}
 
 -- ---- an accepted load's answer
@@ -81,21 +86,18 @@ writes-yes X T limit by l scratch output (d, w) =
 
 -- no slice of a dump is wrong
 none-wrong : (T : Tables) (scratch output : List ℕ) (limit : ℕ) → bad-nodes (length (T .nodes)) ≡ false → too-long (length (T .references)) ≡ false → too-long (length (T .bytes)) ≡ false
-    → length output ≤ 2147483647 → limit ≤ 128 → length scratch ≤ 2147483647 → length (T .nodes) / 7 ≤ length scratch → dump-wrong T scratch output limit ≡ 0
+    → length output ≤ greatest-length → limit ≤ greatest-limit → length scratch ≤ greatest-length → length (T .nodes) / width ≤ length scratch → dump-wrong T scratch output limit ≡ 0
 unfolding dump-wrong lowest too-long pick
 none-wrong T scratch output limit n r b o l s m =
-    rw (n, r, b, le-ltb 2147483647 (length output) o, le-ltb 128 limit l, le-ltb 2147483647 (length scratch) s, le-ltb (length scratch) (length (T .nodes) / 7) m)
+    rw (n, r, b, le-ltb greatest-length (length output) o, le-ltb greatest-limit limit l, le-ltb greatest-length (length scratch) s, le-ltb (length scratch) (length (T .nodes) / width) m)
 
 module _ (X : List ℕ) (T : Lists) (limit : ℕ) (a : AcceptedLoad X T limit) where
   abbrev some-scratch : List ℕ
-  some-scratch = replicate (length (tables X T limit .nodes) / 7) 0
+  some-scratch = replicate (length (tables X T limit .nodes) / width) 0
 
-  abbrev some-output : List ℕ
-  some-output = replicate (used X T limit) 0
-
-  some-enough : Enough X T limit some-scratch some-output
+  output-enough : (output : List ℕ) → length output ≤ greatest-length → used X T limit ≤ length output → Enough X T limit some-scratch output
   unfolding load-wrong
-  some-enough =
+  output-enough output short enough =
       let al = load-allowed X T limit (a .none-wrong) in
       let (n, e₁) = lowest-none 0 _ _ (a .none-wrong) in
       let (r, e₂) = lowest-none 1 _ _ e₁ in
@@ -104,12 +106,17 @@ module _ (X : List ℕ) (T : Lists) (limit : ℕ) (a : AcceptedLoad X T limit) w
       let q₁ = ap (λ (t : Lists). length (t .nodes)) (a .left) ∙ ls .nodes-length in
       let q₂ = ap (λ (t : Lists). length (t .references)) (a .left) ∙ ls .references-length in
       let q₃ = ap (λ (t : Lists). length (t .bytes)) (a .left) ∙ ls .bytes-length in
-      let k₁ = length-replicate {A = ℕ} (length (tables X T limit .nodes) / 7) 0 in
-      let k₂ = length-replicate {A = ℕ} (used X T limit) 0 in
-      let u = load-used X (room-of T) limit (a .root) (a .state) (a .loads) in (
-        none-wrong (tables X T limit) some-scratch some-output limit (rw q₁ n) (rw q₂ r) (rw q₃ b) (omega (arith, k₂, u, used-is X T limit a, al .input-most)) (al .limit-most) (omega (arith, k₁, q₁, al .nodes-most)) (omega (arith, k₁)),
-        omega (arith, k₂),
-      )
+      let k₁ = length-replicate {A = ℕ} (length (tables X T limit .nodes) / width) 0 in
+      (none-wrong (tables X T limit) some-scratch output limit (rw q₁ n) (rw q₂ r) (rw q₃ b) short (al .limit-most) (omega (arith, k₁, q₁, al .nodes-most)) (omega (arith, k₁)), enough)
+
+  abbrev some-output : List ℕ
+  some-output = replicate (used X T limit) 0
+
+  some-enough : Enough X T limit some-scratch some-output
+  some-enough =
+      let k = length-replicate {A = ℕ} (used X T limit) 0 in
+      let u = load-used X (room-of T) limit (a .root) (a .state) (a .loads) in
+      output-enough some-output (omega (arith, k, u, used-is X T limit a, load-allowed X T limit (a .none-wrong) .input-most)) (omega (arith, k))
 
 -- ---- the statements
 
@@ -163,3 +170,25 @@ one-form X T limit-x bx lx scratch output limit-p d = (
       let r = round-trip X Y T U limit-x limit-y bx by lx ly scratch (some-scratch Y U limit-y a) output (some-output Y U limit-y a) limit-p limit-y d e .0 in
       (λ g. psym w ∙ psym (r .1 g), λ c. r .0 (psym c ∙ psym w)),
 )
+
+pub at-most-one-form : AtMostOneForm
+at-most-one-form X Y T U limit-x limit-y bx by lx ly x y g =
+    let (d, w) = yes-writes X T limit-x bx lx x _ _ (some-enough X T limit-x (load-accepted X T limit-x lx)) in
+    psym w ∙ psym (one-form X T limit-x bx lx _ _ limit-x d .1 Y U limit-y by ly y .0 g)
+
+-- an output that 1 does not refuse is not too long
+output-most : (T : Tables) (scratch output : List ℕ) (limit : ℕ) → DumpAllowed T scratch output limit → length output ≤ greatest-length
+unfolding dump-wrong
+output-most T scratch output limit e = short (length output) (lowest-none 5 _ _ (lowest-none 2 _ _ (lowest-none 1 _ _ (lowest-none 0 _ _ e .1) .1) .1) .0)
+
+pub form-is-dumped : FormIsDumped
+form-is-dumped X Y T U limit-x limit-y by lx ly y g scratch output al en =
+    let a = load-accepted X T limit-x lx in
+    let b = load-accepted Y U limit-y ly in
+    let other : List ℕ = replicate (length output) 0 in
+    let k : length other ≡ length output = length-replicate {A = ℕ} (length output) 0 in
+    let enough = output-enough Y U limit-y b other (omega (arith, k, output-most (tables X T limit-x) scratch output limit-y al)) (omega (arith, k, en)) in
+    let (d, w) = yes-writes Y U limit-y by ly y _ _ enough in
+    let (p, q) = dump-sees-graph (tables X T limit-x) (tables Y U limit-y) (counts X T limit-x) (counts Y U limit-y) (call-well-formed X T limit-x a) (call-well-formed Y U limit-y b) g scratch _ output other limit-y al (enough .0) (psym k) in
+    let e : written (tables X T limit-x) (counts X T limit-x) scratch output limit-y ≡ written (tables Y U limit-y) (counts Y U limit-y) (some-scratch Y U limit-y b) other limit-y = λ i. take (p i .written) (q i) in
+    (ap (λ (r : Dumped). r .answer) p ∙ d, e ∙ w)

@@ -1,22 +1,22 @@
 -- What an arena that load filled is: well formed, no two symbols of one name, no nil, bool or fixnum shared.
-use Prim.Native.Nat.{ℕ, _+_, _≤_, _<_}
+use Prim.Native.Nat.{ℕ, zero, suc, _+_, _≤_, _<_}
 use mathlib.Core.Path.{_≡_, refl, ap, subst}
 use mathlib.Core.Path.{sym as psym, _∙_}
-use mathlib.Core.Bool.{true, false}
 use mathlib.Core.Option.{none, some}
 use mathlib.Core.List.{List}
 use native.Mathlib.Omega.{arith}
 use native.Mathlib.Decide.{ℕ-discrete}
 use Rattle.definition.specs.Run.{ok}
-use Rattle.definition.specs.Node.{Row, nil, bool, fixnum, symbol, array, hash, object, string, user, float, bignum, kind}
+use Rattle.definition.specs.Node.{Row, symbol, kind}
 use Rattle.definition.specs.Arena.{Arena, range, fault}
+use Rattle.definition.specs.State.{State}
+use Rattle.definition.specs.Load.{Lists, room-of, load}
 use Rattle.definition.specs.Graph.{Header, header, links}
-use Rattle.definition.specs.Load.{State, Lists, room-of, load}
 use Rattle.lists.specs.Lists.{At, apart}
 use Rattle.graph.specs.Sums.{weight, total-one, total-two}
 use Rattle.graph.specs.Forest.{Node, sym, box}
 use Rattle.graph.specs.Build.{Names, node-leaf, lf, w, Φ}
-use Rattle.graph.specs.View.{see, seen, arena-of, see-at}
+use Rattle.graph.specs.View.{node-by-kind, node-of, see, header-kind, Headed, nil-headed, bool-headed, fixnum-headed, symbol-headed, box-headed, headed, seen, arena-of, see-at}
 use Rattle.load_forest.specs.Names.{load-arena-names}
 use Rattle.load_forest.specs.Space.{only, only-there, load-once}
 use Rattle.load_forest.specs.Call.{load-accepted, call-arena, call-well-formed}
@@ -35,7 +35,7 @@ abbrev pub DistinctNames : Arena → Type 0
 DistinctNames A = (i j s l s′ l′ : ℕ) → At (A .nodes) i (symbol s l) → At (A .nodes) j (symbol s′ l′) → range (A .bytes) s l ≡ range (A .bytes) s′ l′ → i ≡ j
 
 names-distinct : (A : Arena) → Names (seen A) → DistinctNames A
-unfolding see
+unfolding see header
 names-distinct A n i j s l s′ l′ a b e = n i j (range (A .bytes) s l) (see-at A i (symbol s l) a) (see-at A j (symbol s′ l′) b ∙ ap (λ (x : List ℕ). some (sym x)) (psym e))
 
 pub loaded-names : (input : List ℕ) (T : Lists) (limit : ℕ) → LoadAccepted input T limit → DistinctNames (filled input T limit)
@@ -54,33 +54,25 @@ pub record Unshared (A : Arena) : Type 0 where
 
 -- a row with links is seen as a box, a row of kind 0 to 2 as a leaf
 links-box : (A : Arena) (r : Row) (k v : ℕ) → At (links A r) k v → see A r ≡ box (header A r) (links A r)
-unfolding see links header
-links-box A nil k v e = apart (cc)
-links-box A (bool b) k v e = apart (cc)
-links-box A (fixnum x) k v e = apart (cc)
-links-box A (symbol s l) k v e = apart (cc)
-links-box A (array s n) k v e = refl
-links-box A (hash s n d) k v e = refl
-links-box A (object s n c) k v e = refl
-links-box A (string s l y) k v e = refl
-links-box A (user s l c y) k v e = refl
-links-box A (float s l) k v e = refl
-links-box A (bignum low high m) k v e = refl
+unfolding see
+links-box A r k v e = go (headed A r) e
+  where
+    go : {h : Header} {ms : List ℕ} → Headed h ms → At ms k v → node-of h ms ≡ box h ms
+    go (nil-headed x) e = apart (cc)
+    go (bool-headed x) e = apart (cc)
+    go (fixnum-headed x) e = apart (cc)
+    go (symbol-headed b) e = apart (cc)
+    go (box-headed k x b n p ms) e = refl
 
 scalar-leaf : (A : Arena) (x : Row) → kind x < 3 → node-leaf (see A x) ≡ 1
-unfolding see kind
-scalar-leaf A nil h = refl
-scalar-leaf A (bool true) h = refl
-scalar-leaf A (bool false) h = refl
-scalar-leaf A (fixnum y) h = refl
-scalar-leaf A (symbol s l) h = absurd (omega arith)
-scalar-leaf A (array s n) h = absurd (omega arith)
-scalar-leaf A (hash s n d) h = absurd (omega arith)
-scalar-leaf A (object s n c) h = absurd (omega arith)
-scalar-leaf A (string s l y) h = absurd (omega arith)
-scalar-leaf A (user s l c y) h = absurd (omega arith)
-scalar-leaf A (float s l) h = absurd (omega arith)
-scalar-leaf A (bignum low high m) h = absurd (omega arith)
+unfolding see
+scalar-leaf A x h = go (header A x .kind) (rw (header-kind A x) h)
+  where
+    go : (k : ℕ) → k < 3 → node-leaf (node-by-kind k (header A x) (links A x)) ≡ 1
+    go zero l = refl
+    go (suc zero) l = refl
+    go (suc (suc zero)) l = refl
+    go (suc (suc (suc k))) l = absurd (omega arith)
 
 module _ (P : List Node) (v : ℕ) where
   -- a box with v weighs at least 1

@@ -6,8 +6,9 @@ use mathlib.Core.List.{List, [], _∷_, _++_}
 use lib.ListN.{length}
 use native.Mathlib.Omega.{arith}
 use Rattle.definition.specs.Run.{ok}
+use Rattle.definition.specs.State.{State, Room}
+use Rattle.definition.specs.Load.{load}
 use Rattle.definition.specs.Graph.{Header}
-use Rattle.definition.specs.Load.{State, Room, load}
 use Rattle.lists.specs.Lists.{At, Distinct, Below, at-lt, at-snoc-inv, apart, below-join}
 use Rattle.graph.specs.Sums.{sumL, sumL-app, sumTo, sum-distinct, total, weigh, sum-to-total}
 use Rattle.graph.specs.Forest.{Node, sym, box, Num, addO, addS, fresh, F, refsOf, bytesOf, boxesOf, symsOf, node-words, node-bytes, node-box, node-sym}

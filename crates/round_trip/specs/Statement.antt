@@ -20,7 +20,7 @@ AreBytes input = (k v : ℕ) → getElem? input k ≡ some v → v < 256
 abbrev pub LoadAllowed : Lists → ℕ → Type 0
 LoadAllowed T limit = load-wrong [] T limit ≡ 0
 
--- "each no smaller", in entries
+-- "no smaller", in entries
 pub record NoSmaller (T U : Lists) : Type 0 where
   pub nodes : length (T .nodes) ≤ length (U .nodes)
   pub references : length (T .references) ≤ length (U .references)
@@ -63,12 +63,12 @@ module _ (T : Tables) (c : Counts) (scratch output : List ℕ) (limit : ℕ) whe
 
 -- C, which dumping the arena P wrote, is loaded with these tables and lists and this limit
 pub record Again (P : Arena) (C : List ℕ) (T : Lists) (limit : ℕ) : Type 1 where
-  -- "loading C is accepted, uses all its bytes"
+  -- "Loading C .. succeeds, uses all its bytes"
   pub accepted : LoadAccepted C T limit
   pub all-used : used C T limit ≡ length C
-  -- "and fills an arena that holds the same graph as P"
+  -- "fills an arena with P's graph"
   pub same : SameGraph P (filled C T limit)
-  -- "dumping that arena under that same limit, with any allowed scratch and any allowed output that C fits, is accepted and writes exactly C"
+  -- "dumping that under the same limit writes exactly C", with any allowed scratch and any allowed output that C fits
   pub dumps : (scratch output : List ℕ) → DumpAllowed (tables C T limit) scratch output limit → length C ≤ length output
       → DumpAccepted (tables C T limit) (counts C T limit) scratch output limit × (written (tables C T limit) (counts C T limit) scratch output limit ≡ C)
 

@@ -11,9 +11,11 @@ use native.Mathlib.Omega.{arith}
 use borrow.Author.Tests.{lt-leb}
 use Rattle.definition.specs.Run.{Outcome, ok}
 use Rattle.definition.specs.Arena.{Arena, Tables, arena, too-long, fault}
-use Rattle.definition.specs.Graph.{SameGraph}
-use Rattle.definition.specs.Load.{State, Room, Lists, room-of, load, load-wrong}
+use Rattle.definition.specs.State.{State, Room}
+use Rattle.definition.specs.Load.{Lists, room-of, load, load-wrong}
 use Rattle.definition.specs.Dump.{Written, dump, dump-wrong, DumpCall}
+use Rattle.definition.specs.Graph.{SameGraph}
+use Rattle.definition.specs.Slice.{greatest-length}
 use Rattle.definition.specs.declared.Counts.{Counts}
 use Rattle.definition.specs.declared.Loaded.{Loaded}
 use Rattle.lists.specs.Slices.{lowest-none, short, tables-right}
@@ -47,7 +49,7 @@ pub record Smaller (room room′ : Room) : Type 0 where
 
 -- no slice is longer
 abbrev pub largest : Room
-largest = record { nodes = 2147483647; references = 2147483647; bytes = 2147483647; symbols = 2147483647; objects = 2147483647 }
+largest = record { nodes = greatest-length; references = greatest-length; bytes = greatest-length; symbols = greatest-length; objects = greatest-length }
 
 room-up : (room room′ : Room) (g : F) → Smaller room room′ → RoomFor room g → RoomFor room′ g
 room-up room room′ g l r = record {
@@ -79,17 +81,17 @@ room-larger T U l = record { nodes = omega (arith, l .nodes); references = l .re
 
 -- ---- what is lent and allowed
 
-output-most : (T : Tables) (scratch output : List ℕ) (limit : ℕ) → dump-wrong T scratch output limit ≡ 0 → length output ≤ 2147483647
+output-most : (T : Tables) (scratch output : List ℕ) (limit : ℕ) → dump-wrong T scratch output limit ≡ 0 → length output ≤ greatest-length
 unfolding dump-wrong
 output-most T scratch output limit e =
     short (length output) (lowest-none 5 _ _ (tables-right _ _ _ _ e .1) .0)
 
-pub not-long : (n : ℕ) → n ≤ 2147483647 → too-long n ≡ false
+pub not-long : (n : ℕ) → n ≤ greatest-length → too-long n ≡ false
 unfolding too-long
 not-long n h = lt-leb 2147483648 n (omega arith)
 
 -- an input that isn't too long is allowed wherever the empty one is
-pub input-allowed : (input : List ℕ) (T : Lists) (limit : ℕ) → length input ≤ 2147483647 → LoadAllowed T limit → load-wrong input T limit ≡ 0
+pub input-allowed : (input : List ℕ) (T : Lists) (limit : ℕ) → length input ≤ greatest-length → LoadAllowed T limit → load-wrong input T limit ≡ 0
 unfolding load-wrong
 input-allowed input T limit h e = rw (not-long (length input) h) (rw (not-long 0 (omega arith)) at e)
 
@@ -107,10 +109,10 @@ pub record Trip (P : Arena) (room : Room) (C : List ℕ) (limit : ℕ) : Type 0 
   names : Names (seen P)
   fits : RoomFor room forest
   in-largest : Smaller room largest
-  pub length-most : length C ≤ 2147483647
+  pub length-most : length C ≤ greatest-length
 
 trip-of : (X : List ℕ) (room : Room) (limit h : ℕ) (s : State) → AreBytes X → 1 ≤ room .nodes → Smaller room largest → load X room limit ≡ ok h s → Right (arena-of s h)
-    → (size : ℕ) → size ≤ 2147483647 → (dump-limit : ℕ) (w : Written) → dump size (arena-of s h) dump-limit ≡ ok tt w → Trip (arena-of s h) room (w .bytes) dump-limit
+    → (size : ℕ) → size ≤ greatest-length → (dump-limit : ℕ) (w : Written) → dump size (arena-of s h) dump-limit ≡ ok tt w → Trip (arena-of s h) room (w .bytes) dump-limit
 trip-of X room limit h s by one sm e ρ size m dump-limit w f =
     let d = dump-sound size (arena-of s h) dump-limit w ρ (load-small X room limit h s by e .fixnums) f in
     record {

@@ -1,5 +1,6 @@
 // The library that users link: load, dump, the reader of an input, the arena's getters and builder, a node read as a number
-// and weighed, and a recipe's cost.
+// and weighed, and a recipe's cost. What reads from a Reader is there on a slice and an offset too (load_at, byte_from ..): a
+// caller of these needs no proof by hand.
 pub use batch_cost::batch_cost;
 pub use definition::Answer;
 pub use definition::Begun;
@@ -11,15 +12,18 @@ pub use definition::Decimal;
 pub use definition::Dumped;
 pub use definition::Fault;
 pub use definition::Hashed;
+pub use definition::LIMIT;
 pub use definition::Loaded;
 pub use definition::Measured;
 pub use definition::Name;
 pub use definition::Node;
 pub use definition::Number;
+pub use definition::Numbers;
 pub use definition::Read;
 pub use definition::Reading;
 pub use definition::Recipe;
 pub use definition::Refusal;
+pub use definition::Slice;
 pub use definition::Taken;
 pub use definition::Text;
 pub use definition::ValueKind;
@@ -28,11 +32,17 @@ pub use definition::Weighing;
 pub use definition::Words;
 pub use dump::dump;
 pub use load::load;
+pub use load::load_at;
 pub use load::load_hashed;
 pub use load::load_measured;
 pub use load::load_next;
 pub use reader::Reader;
+pub use reader::byte_from;
+pub use reader::byte_string_from;
 pub use reader::bytes_left;
+pub use reader::header_from;
+pub use reader::integer_from;
+pub use reader::left_at;
 pub use reader::moved;
 pub use reader::offset;
 pub use reader::read_byte;
@@ -41,7 +51,6 @@ pub use reader::read_header;
 pub use reader::read_integer;
 pub use reader::start;
 pub use reader::start_at;
-pub use refusal::Numbers;
 pub use refusal::answer_numbers;
 pub use refusal::numbers_of;
 pub use value_arena::create_array;

@@ -1,7 +1,7 @@
 -- A right row: its ranges are inside, its links lead to nodes, its names are symbols and its number is right; then the definition's test holds.
 use Prim.Native.Nat.{ℕ, zero, suc, _+_, _*_, _≤_}
 use mathlib.Core.Path.{_≡_, refl, ap}
-use mathlib.Core.Bool.{Bool, true, false, not, _&&_}
+use mathlib.Core.Bool.{Bool, true, false, not, _&&_, _||_}
 use mathlib.Core.List.{List, [], _∷_, _++_}
 use lib.Dec.{eqb}
 use lib.ListN.{length}
@@ -16,21 +16,19 @@ use Rattle.lists.specs.Joined.{yes-and}
 use Rattle.lists.specs.Lists.{At, at-app, apart, Below}
 use Rattle.well_formed.specs.Nodes.{node-at, Name}
 use Rattle.well_formed.specs.Right.{NumberRight}
-use Rattle.states.specs.Rows.{bytes-start, bytes-length, list-start, list-length, vars-start, vars-length, row-words, Within, vars-links-same, links-same}
+use Rattle.states.specs.Rows.{bytes-start, bytes-length, list-start, list-length, vars-start, vars-length, row-words, Within, links-same, ranges}
 
--- the names of a row: an object's or a user-defined node's, and the first of each pair
+-- the names among an object's or a user-defined node's links: the first, and then the first of each pair
+unfoldable pub own-names : List ℕ → List ℕ
+own-names [] = []
+own-names (c ∷ ls) = c ∷ firsts ls
+
+-- the names among the links of a row, by its kind: an object's or a user-defined node's, a string's
+unfoldable pub names-by-kind : ℕ → List ℕ → List ℕ
+names-by-kind k ls = pick (eqb k 7) (firsts ls) (pick (eqb k 6 || eqb k 8) (own-names ls) [])
+
 unfoldable pub row-names : Arena → Row → List ℕ
-row-names A nil = []
-row-names A (bool b) = []
-row-names A (fixnum w) = []
-row-names A (symbol s l) = []
-row-names A (array s n) = []
-row-names A (hash s n d) = []
-row-names A (object s n c) = c ∷ firsts (range (A .references) s (n * 2))
-row-names A (string s l v) = firsts (vars-links A v)
-row-names A (user s l c v) = c ∷ firsts (vars-links A v)
-row-names A (float s l) = []
-row-names A (bignum low high m) = []
+row-names A r = names-by-kind (kind r) (links A r)
 
 -- a row that is a Bignum has a right number
 abbrev pub Numbered : Row → Type 0
@@ -50,18 +48,8 @@ names-first A c ns n h (suc k) d a = h k d a
 -- ---- a row is right in a later arena, where its words are the same
 
 names-same : (A B : Arena) (r : Row) → row-words B r ≡ row-words A r → row-names B r ≡ row-names A r
-unfolding row-names list-start list-length
-names-same A B nil e = refl
-names-same A B (bool b) e = refl
-names-same A B (fixnum w) e = refl
-names-same A B (symbol s l) e = refl
-names-same A B (array s n) e = refl
-names-same A B (hash s n d) e = refl
-names-same A B (object s n c) e = ap (λ (l : List ℕ). c ∷ firsts l) e
-names-same A B (string s l v) e = ap firsts (vars-links-same A B v e)
-names-same A B (user s l c v) e = ap (λ (x : List ℕ). c ∷ firsts x) (vars-links-same A B v e)
-names-same A B (float s l) e = refl
-names-same A B (bignum low high m) e = refl
+unfolding row-names
+names-same A B r e = ap (names-by-kind (kind r)) (links-same A B r e)
 
 -- from A to B nodes are only added, names stay names, and bytes and words are only added
 pub record Onward (A B : Arena) : Type 0 where
@@ -151,7 +139,7 @@ unfolding links
 default-below A p n d f = default-most A d (above-left _ (range (A .references) p (n * 2)) (default-link d) (f .below))
 
 pub right-yes : (A : Arena) (r : Row) → RightIn A r → row-right A r ≡ true
-unfolding row-right bytes-right links row-names bytes-start bytes-length list-start list-length
+unfolding row-right bytes-right links row-names bytes-start bytes-length list-start list-length ranges names-by-kind own-names kind pick
 right-yes A nil f = refl
 right-yes A (bool b) f = refl
 right-yes A (fixnum w) f = refl

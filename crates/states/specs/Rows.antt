@@ -10,36 +10,11 @@ use Rattle.definition.specs.Node.{Row, Vars, nil, bool, fixnum, symbol, array, 
 use Rattle.definition.specs.Magnitude.{magnitude}
 use Rattle.definition.specs.Arena.{Arena, range}
 use Rattle.definition.specs.Graph.{header, header-of, links, vars-links, vars-count, vars-present, default-link, default-present}
+use Rattle.lists.specs.Lists.{apart}
 use Rattle.graph.specs.Forest.{sym, box}
 use Rattle.graph.specs.View.{see}
 
 -- ---- the ranges of a row: its bytes, and the words of its list
-
-unfoldable pub bytes-start : Row → ℕ
-bytes-start nil = 0
-bytes-start (bool b) = 0
-bytes-start (fixnum w) = 0
-bytes-start (symbol s l) = s
-bytes-start (array s n) = 0
-bytes-start (hash s n d) = 0
-bytes-start (object s n c) = 0
-bytes-start (string s l v) = s
-bytes-start (user s l c v) = s
-bytes-start (float s l) = s
-bytes-start (bignum low high m) = 0
-
-unfoldable pub bytes-length : Row → ℕ
-bytes-length nil = 0
-bytes-length (bool b) = 0
-bytes-length (fixnum w) = 0
-bytes-length (symbol s l) = l
-bytes-length (array s n) = 0
-bytes-length (hash s n d) = 0
-bytes-length (object s n c) = 0
-bytes-length (string s l v) = l
-bytes-length (user s l c v) = l
-bytes-length (float s l) = l
-bytes-length (bignum low high m) = 0
 
 unfoldable pub vars-start : Vars → ℕ
 vars-start absent = 0
@@ -49,31 +24,40 @@ unfoldable pub vars-length : Vars → ℕ
 vars-length absent = 0
 vars-length (present s n) = n * 2
 
+pub record Ranges : Type 0 where
+  pub first-byte : ℕ
+  pub byte-count : ℕ
+  pub first-word : ℕ
+  pub word-count : ℕ
+
+abbrev ranged : ℕ → ℕ → ℕ → ℕ → Ranges
+ranged b l w n = record { first-byte = b; byte-count = l; first-word = w; word-count = n }
+
+-- 0 for a range that a row doesn't have
+unfoldable pub ranges : Row → Ranges
+ranges nil = ranged 0 0 0 0
+ranges (bool b) = ranged 0 0 0 0
+ranges (fixnum w) = ranged 0 0 0 0
+ranges (symbol s l) = ranged s l 0 0
+ranges (array s n) = ranged 0 0 s n
+ranges (hash s n d) = ranged 0 0 s (n * 2)
+ranges (object s n c) = ranged 0 0 s (n * 2)
+ranges (string s l v) = ranged s l (vars-start v) (vars-length v)
+ranges (user s l c v) = ranged s l (vars-start v) (vars-length v)
+ranges (float s l) = ranged s l 0 0
+ranges (bignum low high m) = ranged 0 0 0 0
+
+unfoldable pub bytes-start : Row → ℕ
+bytes-start r = ranges r .first-byte
+
+unfoldable pub bytes-length : Row → ℕ
+bytes-length r = ranges r .byte-count
+
 unfoldable pub list-start : Row → ℕ
-list-start nil = 0
-list-start (bool b) = 0
-list-start (fixnum w) = 0
-list-start (symbol s l) = 0
-list-start (array s n) = s
-list-start (hash s n d) = s
-list-start (object s n c) = s
-list-start (string s l v) = vars-start v
-list-start (user s l c v) = vars-start v
-list-start (float s l) = 0
-list-start (bignum low high m) = 0
+list-start r = ranges r .first-word
 
 unfoldable pub list-length : Row → ℕ
-list-length nil = 0
-list-length (bool b) = 0
-list-length (fixnum w) = 0
-list-length (symbol s l) = 0
-list-length (array s n) = n
-list-length (hash s n d) = n * 2
-list-length (object s n c) = n * 2
-list-length (string s l v) = vars-length v
-list-length (user s l c v) = vars-length v
-list-length (float s l) = 0
-list-length (bignum low high m) = 0
+list-length r = ranges r .word-count
 
 -- a row's ranges lie inside
 pub record Within (references bytes : List ℕ) (r : Row) : Type 0 where
@@ -93,7 +77,7 @@ vars-links-same A A′ absent w = refl
 vars-links-same A A′ (present s n) w = w
 
 pub links-same : (A B : Arena) (r : Row) → row-words B r ≡ row-words A r → links B r ≡ links A r
-unfolding links list-start list-length
+unfolding links list-start list-length ranges
 links-same A B nil e = refl
 links-same A B (bool b) e = refl
 links-same A B (fixnum w) e = refl
@@ -107,7 +91,7 @@ links-same A B (float s l) e = refl
 links-same A B (bignum low high m) e = refl
 
 pub header-same : (A A′ : Arena) (r : Row) → row-bytes A′ r ≡ row-bytes A r → header A′ r ≡ header A r
-unfolding header bytes-start bytes-length
+unfolding header bytes-start bytes-length ranges
 header-same A A′ nil b = refl
 header-same A A′ (bool false) b = refl
 header-same A A′ (bool true) b = refl
@@ -123,19 +107,8 @@ header-same A A′ (bignum low high m) b = refl
 
 -- a row is seen alike where its two ranges hold the same
 pub see-same : (A A′ : Arena) (r : Row) → row-bytes A′ r ≡ row-bytes A r → row-words A′ r ≡ row-words A r → see A′ r ≡ see A r
-unfolding see bytes-start bytes-length
-see-same A A′ nil b w = refl
-see-same A A′ (bool false) b w = refl
-see-same A A′ (bool true) b w = refl
-see-same A A′ (fixnum x) b w = refl
-see-same A A′ (symbol s l) b w = ap sym b
-see-same A A′ (array s n) b w = rw (header-same A A′ (array s n) b, links-same A A′ (array s n) w)
-see-same A A′ (hash s n d) b w = rw (header-same A A′ (hash s n d) b, links-same A A′ (hash s n d) w)
-see-same A A′ (object s n c) b w = rw (header-same A A′ (object s n c) b, links-same A A′ (object s n c) w)
-see-same A A′ (string s l v) b w = rw (header-same A A′ (string s l v) b, links-same A A′ (string s l v) w)
-see-same A A′ (user s l c v) b w = rw (header-same A A′ (user s l c v) b, links-same A A′ (user s l c v) w)
-see-same A A′ (float s l) b w = rw (header-same A A′ (float s l) b, links-same A A′ (float s l) w)
-see-same A A′ (bignum low high m) b w = rw (header-same A A′ (bignum low high m) b, links-same A A′ (bignum low high m) w)
+unfolding see
+see-same A A′ r b w = rw (header-same A A′ r b, links-same A A′ r w)
 
 -- a row whose members are the words from p on
 pub data Listed (p : ℕ) : Row → Type 0 where
@@ -146,6 +119,10 @@ pub data Listed (p : ℕ) : Row → Type 0 where
 pub data Varied (p n : ℕ) : Row → Row → Type 0 where
   varied-string : {s l : ℕ} {v : Vars} → Varied p n (string s l v) (string s l (present p n))
   varied-user : {s l c : ℕ} {v : Vars} → Varied p n (user s l c v) (user s l c (present p n))
+
+pub varied-some : {p n : ℕ} {r r′ : Row} → Varied p n r r′ → r ≡ nil → ⊥
+varied-some varied-string e = apart (cc)
+varied-some varied-user e = apart (cc)
 
 -- ---- how a row is seen, once its words are known
 
@@ -184,5 +161,5 @@ unfolding see header links
 see-bignum A low high n m e = ap (λ (x : ℕ). box (header-of 10 x [] 0 m) []) e
 
 pub see-symbol : (A : Arena) (s l : ℕ) (b : List ℕ) → range (A .bytes) s l ≡ b → see A (symbol s l) ≡ sym b
-unfolding see
+unfolding see header
 see-symbol A s l b e = ap sym e

@@ -9,13 +9,15 @@ use lib.ListN.{length, set, length-set, length-append, length-map, replicate}
 use native.Mathlib.Omega.{arith}
 use Rattle.definition.specs.Node.{Row, nil, bool, fixnum, symbol, hash, object, user, bignum, absent}
 use Rattle.definition.specs.Arena.{range, compared-among}
-use Rattle.definition.specs.Load.{State, at-set, nodes-set, references-set, bytes-set, symbols-set, objects-set, notes-set, copied-more, compared-more, begin}
+use Rattle.definition.specs.State.{State, at-set, nodes-set, references-set, bytes-set, symbols-set, objects-set, notes-set, copied-more, compared-more}
+use Rattle.definition.specs.Load.{begin}
 use Rattle.lists.specs.Lists.{At, at-app, at-snoc-inv, at-set-same, at-set-other, at-set-inv, apart, map-set, map-ext, map-at, map-at-inv, len-snoc, at-lt}
 use Rattle.lists.specs.Ranges.{range-next, range-same, range-more, range-last}
 use Rattle.graph.specs.Forest.{Node, sym, leaf, Texted, text-string, text-float}
 use Rattle.graph.specs.Build.{St, push, pushO, addSym, put}
 use Rattle.graph.specs.View.{see, text-row, seen, arena-of, state-seen}
-use Rattle.states.specs.Rows.{bytes-start, bytes-length, vars-start, vars-length, list-start, list-length, row-words, Within, see-same, see-symbol, Listed, is-array, is-hash, Varied, varied-string, varied-user}
+use Rattle.states.specs.Rows.{bytes-start, bytes-length, vars-start, vars-length, list-start, list-length, row-words, Within, see-same, see-symbol, Listed, is-array, is-hash, Varied, varied-string, varied-user, ranges}
+use Rattle.definition.specs.Graph.{header}
 
 -- a row of a state, seen
 abbrev pub row-seen : State → Row → Node
@@ -190,7 +192,7 @@ seen-word i v s h f =
 
 -- opened: the node is nil and on the object list
 nil-seen : (s : State) → row-seen s nil ≡ leaf 0 0
-unfolding see
+unfolding see header
 nil-seen s = refl
 
 pub opened-seen : (s : State) → state-seen (with-object-node nil s) ≡ pushO (leaf 0 0) (state-seen s)
@@ -243,49 +245,49 @@ ranged-word i v s h k r e = inside-up s (with-word i v s) r (omega arith) (omega
 
 -- a row with no list and no bytes
 pub inside-nil : (s : State) → Inside s nil
-unfolding bytes-start bytes-length list-start list-length
+unfolding bytes-start bytes-length list-start list-length ranges
 inside-nil s = record { bytes-inside = omega arith; list-inside = omega arith }
 
 pub inside-bool : (b : Bool) (s : State) → Inside s (bool b)
-unfolding bytes-start bytes-length list-start list-length
+unfolding bytes-start bytes-length list-start list-length ranges
 inside-bool b s = record { bytes-inside = omega arith; list-inside = omega arith }
 
 pub inside-fixnum : (w : ℕ) (s : State) → Inside s (fixnum w)
-unfolding bytes-start bytes-length list-start list-length
+unfolding bytes-start bytes-length list-start list-length ranges
 inside-fixnum w s = record { bytes-inside = omega arith; list-inside = omega arith }
 
 pub inside-symbol : (s : State) (a l : ℕ) → a + l ≤ length (s .bytes) → Inside s (symbol a l)
-unfolding bytes-start bytes-length list-start list-length
+unfolding bytes-start bytes-length list-start list-length ranges
 inside-symbol s a l h = record { bytes-inside = h; list-inside = omega arith }
 
 pub inside-text : {k n : ℕ} (q : Texted k n) (s : State) (a l : ℕ) → a + l ≤ length (s .bytes) → Inside s (text-row q a l)
-unfolding bytes-start bytes-length list-start list-length vars-start vars-length
+unfolding bytes-start bytes-length list-start list-length vars-start vars-length ranges
 inside-text text-string s a l h = record { bytes-inside = h; list-inside = omega arith }
 inside-text text-float s a l h = record { bytes-inside = h; list-inside = omega arith }
 
 pub inside-bignum : (low high : ℕ) (m : Bool) (s : State) → Inside s (bignum low high m)
-unfolding bytes-start bytes-length list-start list-length
+unfolding bytes-start bytes-length list-start list-length ranges
 inside-bignum low high m s = record { bytes-inside = omega arith; list-inside = omega arith }
 
 pub inside-user : (s : State) (a l c : ℕ) → a + l ≤ length (s .bytes) → Inside s (user a l c absent)
-unfolding bytes-start bytes-length list-start list-length vars-start vars-length
+unfolding bytes-start bytes-length list-start list-length vars-start vars-length ranges
 inside-user s a l c h = record { bytes-inside = h; list-inside = omega arith }
 
 pub inside-listed : {p : ℕ} (s : State) (r : Row) → Listed p r → p + list-length r ≤ length (s .references) → Inside s r
-unfolding bytes-start bytes-length list-start list-length
+unfolding bytes-start bytes-length list-start list-length ranges
 inside-listed s r (is-array n) h = record { bytes-inside = omega arith; list-inside = h }
 inside-listed s r (is-hash n) h = record { bytes-inside = omega arith; list-inside = h }
 
 pub inside-hash : (s : State) (p n d : ℕ) → p + n * 2 ≤ length (s .references) → Inside s (hash p n d)
-unfolding bytes-start bytes-length list-start list-length
+unfolding bytes-start bytes-length list-start list-length ranges
 inside-hash s p n d h = record { bytes-inside = omega arith; list-inside = h }
 
 pub inside-object : (s : State) (p n c : ℕ) → p + n * 2 ≤ length (s .references) → Inside s (object p n c)
-unfolding bytes-start bytes-length list-start list-length
+unfolding bytes-start bytes-length list-start list-length ranges
 inside-object s p n c h = record { bytes-inside = omega arith; list-inside = h }
 
 pub inside-varied : {p n : ℕ} (s : State) (r r′ : Row) → Varied p n r r′ → p + n * 2 ≤ length (s .references) → Inside s r → Inside s r′
-unfolding bytes-start bytes-length list-start list-length vars-start vars-length
+unfolding bytes-start bytes-length list-start list-length vars-start vars-length ranges
 inside-varied s r r′ varied-string h x = record { bytes-inside = x .bytes-inside; list-inside = h }
 inside-varied s r r′ varied-user h x = record { bytes-inside = x .bytes-inside; list-inside = h }
 
@@ -385,49 +387,49 @@ abbrev pub Above : ℕ → Row → Type 0
 Above p r = (list-start r + list-length r ≡ 0) ⊎ (p ≤ list-start r)
 
 pub above-nil : (p : ℕ) → Above p nil
-unfolding list-start list-length
+unfolding list-start list-length ranges
 above-nil p = inl refl
 
 pub above-bool : (p : ℕ) (b : Bool) → Above p (bool b)
-unfolding list-start list-length
+unfolding list-start list-length ranges
 above-bool p b = inl refl
 
 pub above-fixnum : (p w : ℕ) → Above p (fixnum w)
-unfolding list-start list-length
+unfolding list-start list-length ranges
 above-fixnum p w = inl refl
 
 pub above-symbol : (p a l : ℕ) → Above p (symbol a l)
-unfolding list-start list-length
+unfolding list-start list-length ranges
 above-symbol p a l = inl refl
 
 pub above-text : {k n : ℕ} (q : Texted k n) (p a l : ℕ) → Above p (text-row q a l)
-unfolding list-start list-length vars-start vars-length
+unfolding list-start list-length vars-start vars-length ranges
 above-text text-string p a l = inl refl
 above-text text-float p a l = inl refl
 
 pub above-bignum : (p low high : ℕ) (m : Bool) → Above p (bignum low high m)
-unfolding list-start list-length
+unfolding list-start list-length ranges
 above-bignum p low high m = inl refl
 
 pub above-user : (p a l c : ℕ) → Above p (user a l c absent)
-unfolding list-start list-length vars-start vars-length
+unfolding list-start list-length vars-start vars-length ranges
 above-user p a l c = inl refl
 
 pub above-listed : {p : ℕ} (q : ℕ) (r : Row) → q ≤ p → Listed p r → Above q r
-unfolding list-start
+unfolding list-start ranges
 above-listed q r h (is-array n) = inr h
 above-listed q r h (is-hash n) = inr h
 
 pub above-hash : (q p n d : ℕ) → q ≤ p → Above q (hash p n d)
-unfolding list-start
+unfolding list-start ranges
 above-hash q p n d h = inr h
 
 pub above-object : (q p n c : ℕ) → q ≤ p → Above q (object p n c)
-unfolding list-start
+unfolding list-start ranges
 above-object q p n c h = inr h
 
 pub above-varied : {p n : ℕ} (q : ℕ) (r r′ : Row) → q ≤ p → Varied p n r r′ → Above q r′
-unfolding list-start vars-start
+unfolding list-start vars-start ranges
 above-varied q r r′ h varied-string = inr h
 above-varied q r r′ h varied-user = inr h
 

@@ -1,54 +1,51 @@
 -- The search for a symbol by its name: what it finds is seen with that name, and it misses none.
 use Prim.Native.Nat.{ℕ, zero, suc, _+_}
 use mathlib.Core.Path.{_≡_, refl, ap}
-use mathlib.Core.Path.{sym as psym}
+use mathlib.Core.Path.{sym as psym, _∙_}
 use mathlib.Core.Bool.{Bool, true, false}
 use mathlib.Core.Option.{Option, none, some}
 use mathlib.Core.List.{List, [], _∷_}
+use lib.Dec.{eqb}
 use native.Mathlib.Omega.{arith}
+use borrow.Author.Tests.{eqb-true}
 use Rattle.definition.specs.Run.{pick}
-use Rattle.definition.specs.Node.{Row, nil, bool, fixnum, symbol, array, hash, object, string, user, float, bignum, kind}
+use Rattle.definition.specs.Node.{Row, symbol, symbol-kind, kind, equal, words}
 use Rattle.definition.specs.Arena.{Arena, range, name-of, named, find-symbol}
-use Rattle.definition.specs.Load.{State}
+use Rattle.definition.specs.State.{State}
+use Rattle.definition.specs.Graph.{Header, header, links}
+use Rattle.lists.specs.Joined.{and-left, and-right}
 use Rattle.lists.specs.Lists.{At, NotIn, apart}
 use Rattle.lists.specs.Words.{equal-true, equal-self}
+use Rattle.well_formed.specs.Nodes.{symbol-row}
 use Rattle.graph.specs.Forest.{sym}
-use Rattle.graph.specs.View.{see, arena-of, state-seen}
+use Rattle.graph.specs.View.{node-by-kind, see, header-kind, arena-of, state-seen}
 use Rattle.states.specs.States.{row-seen, seen-at, seen-at-inv}
 
 -- a row of kind 3 with the name b is seen as the symbol b, and no other row is
 named-seen : (s : State) (b : List ℕ) (r : Row) → named (s .bytes) b r ≡ true → row-seen s r ≡ sym b
-unfolding named kind name-of see
-named-seen s b nil e = apart (cc)
-named-seen s b (bool x) e = apart (cc)
-named-seen s b (fixnum w) e = apart (cc)
-named-seen s b (symbol a l) e = ap sym (psym (equal-true b (range (s .bytes) a l) e))
-named-seen s b (array a n) e = apart (cc)
-named-seen s b (hash a n d) e = apart (cc)
-named-seen s b (object a n c) e = apart (cc)
-named-seen s b (string a l v) e = apart (cc)
-named-seen s b (user a l c v) e = apart (cc)
-named-seen s b (float a l) e = apart (cc)
-named-seen s b (bignum low high m) e = apart (cc)
+unfolding named name-of kind words pick see header
+named-seen s b r e =
+    let t : Bool = equal b (name-of (s .bytes) r) in
+    let (a, l, q) = symbol-row r (eqb-true (kind r) symbol-kind (and-left (eqb (kind r) symbol-kind) t e)) in
+    rw q (ap sym (psym (equal-true b (range (s .bytes) a l) (rw q at (and-right (eqb (kind r) symbol-kind) t e)))))
 
--- a row that is seen as a symbol
+-- what is seen as a symbol is of its kind, with its bytes
+sym-headed : (k : ℕ) (h : Header) (ms b : List ℕ) → node-by-kind k h ms ≡ sym b → (k ≡ symbol-kind) × (h .bytes ≡ b)
+sym-headed zero h ms b e = apart (cc)
+sym-headed (suc zero) h ms b e = apart (cc)
+sym-headed (suc (suc zero)) h ms b e = apart (cc)
+sym-headed (suc (suc (suc zero))) h ms b e = (refl, cc)
+sym-headed (suc (suc (suc (suc k)))) h ms b e = apart (cc)
+
 pub symbol-of : (A : Arena) (b : List ℕ) (r : Row) → see A r ≡ sym b → (a : ℕ) × (l : ℕ) × (r ≡ symbol a l) × (range (A .bytes) a l ≡ b)
-unfolding see
-symbol-of A b nil e = apart (cc)
-symbol-of A b (bool true) e = apart (cc)
-symbol-of A b (bool false) e = apart (cc)
-symbol-of A b (fixnum w) e = apart (cc)
-symbol-of A b (symbol a l) e = (a, l, refl, cc)
-symbol-of A b (array a n) e = apart (cc)
-symbol-of A b (hash a n d) e = apart (cc)
-symbol-of A b (object a n c) e = apart (cc)
-symbol-of A b (string a l v) e = apart (cc)
-symbol-of A b (user a l c v) e = apart (cc)
-symbol-of A b (float a l) e = apart (cc)
-symbol-of A b (bignum low high m) e = apart (cc)
+unfolding see header
+symbol-of A b r e =
+    let (k, n) = sym-headed (header A r .kind) (header A r) (links A r) b e in
+    let (a, l, q) = symbol-row r (psym (header-kind A r) ∙ k) in
+    (a, l, q, ap (λ (x : Row). header A x .bytes) (psym q) ∙ n)
 
 named-symbol : (bytes b : List ℕ) (a l : ℕ) → range bytes a l ≡ b → named bytes b (symbol a l) ≡ true
-unfolding named kind name-of
+unfolding named kind name-of words pick
 named-symbol bytes b a l e = rw e (equal-self b)
 
 seen-named : (s : State) (b : List ℕ) (r : Row) → row-seen s r ≡ sym b → named (s .bytes) b r ≡ true

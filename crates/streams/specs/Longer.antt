@@ -6,39 +6,31 @@ use mathlib.Core.List.{List, _++_}
 use lib.ListN.{length, take, drop, take-append-drop, length-append, length-take}
 use lib.Seq.{take-take, length-take-le}
 use native.Mathlib.Omega.{arith}
-use borrow.Author.Tests.{le-ltb}
 use Rattle.definition.specs.Run.{Outcome, ok, refused}
-use Rattle.definition.specs.Arena.{too-long}
-use Rattle.definition.specs.Load.{State, Lists, LoadCall, room-of, load, load-wrong, load-done, load-if, load-call}
+use Rattle.definition.specs.Slice.{greatest-length}
+use Rattle.definition.specs.State.{State}
+use Rattle.definition.specs.Load.{Lists, LoadCall, room-of, load, load-wrong, load-done, load-if, load-call}
 use Rattle.definition.specs.declared.Answer.{Answer}
 use Rattle.definition.specs.declared.Answer.the-variants.{Refused}
 use Rattle.definition.specs.declared.Loaded.{Loaded}
 use Rattle.definition.specs.declared.Refusal.{Refusal}
 use Rattle.definition.specs.declared.Refusal.the-variants.{ShortInput}
 use Rattle.lists.specs.Lists.{apart}
-use Rattle.load_forest.specs.Call.{AcceptedLoad, load-allowed, load-accepted, load-used, call-used}
+use Rattle.lists.specs.Offsets.{wrong-same}
+use Rattle.load_forest.specs.Call.{AcceptedLoad, load-allowed, load-accepted, load-used, call-used, call-done}
 use Rattle.round_trip.specs.Statement.{LoadAccepted, used}
 use Rattle.streams.specs.Readers as R
 use Rattle.streams.specs.Readers.{Alike, same, both, short, stopped, ended}
 
 -- "No lent slice .. has more than 2,147,483,647 entries"
 abbrev pub Lendable : List ℕ → Type 0
-Lendable input = length input ≤ 2147483647
+Lendable input = length input ≤ greatest-length
 
 -- what a load of the input answers: accepted, or a refusal
 abbrev pub answered : List ℕ → Lists → ℕ → Answer
 answered input T limit = load-call input T limit .answer .answer
 
 -- ---- more behind the input
-
--- the test of what is lent asks only whether the input is too long
-wrong-same : (x y : List ℕ) (T : Lists) (limit : ℕ) → Lendable x → Lendable y → load-wrong x T limit ≡ load-wrong y T limit
-unfolding load-wrong too-long
-wrong-same x y T limit h k = rw (le-ltb 2147483647 (length x) h, le-ltb 2147483647 (length y) k)
-
-call-done : (input : List ℕ) (T : Lists) (limit : ℕ) → load-wrong input T limit ≡ 0 → load-call input T limit ≡ load-done T (load input (room-of T) limit)
-unfolding load-call load-if
-call-done input T limit e = rw e
 
 done-same : (T : Lists) {n start : ℕ} {o p : Outcome State ℕ} → Alike n start o p → load-done T o .answer .answer ≢ Refused ShortInput → load-done T p ≡ load-done T o
 unfolding load-done
@@ -75,7 +67,7 @@ prefix-goes-on input i j T limit h l ne =
     let z : take i input ++ drop i (take j input) ≡ take j input = rw (← (take-take i j input h)) (take-append-drop i (take j input)) in
     rw z at (goes-on (take i input) (drop i (take j input)) T limit (rw z (lendable-take j input l)) ne)
 
--- so "refused alike" is kept by every longer prefix
+-- so every longer prefix is refused alike
 pub refused-alike : (input : List ℕ) (i j : ℕ) (T : Lists) (limit : ℕ) → i ≤ j → Lendable input → (r : Refusal) → answered (take i input) T limit ≡ Refused r → r ≢ ShortInput
     → load-call (take j input) T limit ≡ load-call (take i input) T limit
 refused-alike input i j T limit h l r a ne = prefix-goes-on input i j T limit h l (λ e. ne (cc))

@@ -1,15 +1,20 @@
 -- Dumps that stand one after the other in one input, loaded one after the other.
 use Prim.Native.Nat.{ℕ, _+_, _≤_}
 use mathlib.Core.Path.{_≡_, refl, ap, sym, _∙_, subst}
+use mathlib.Core.Bool.{Bool, true, false}
 use mathlib.Core.List.{List, [], _∷_, _++_}
+use lib.Dec.{leb}
+use borrow.Author.Tests.{leb-true, leb-false}
 use lib.ListN.{length, drop}
 use native.Mathlib.Omega.{arith}
-use Rattle.definition.specs.Arena.{Arena, arena}
+use Rattle.definition.specs.Slice.{greatest-length}
+use Rattle.definition.specs.Arena.{Arena, arena, tables-of}
 use Rattle.definition.specs.Load.{Lists, LoadCall, load-call}
 use Rattle.definition.specs.Reader.{load-next, offset-after}
 use Rattle.definition.specs.Graph.{SameGraph}
 use Rattle.definition.specs.declared.Answer.the-variants.{Accepted, Refused}
 use Rattle.definition.specs.declared.Refusal.{Refusal}
+use Rattle.lists.specs.Offsets.{next-allowed, next-denied}
 use Rattle.load_text.specs.Input.{Ahead, ahead-past}
 use Rattle.round_trip.specs.Statement.{AreBytes, LoadAllowed, NoSmaller, LoadAccepted, DumpAccepted, tables, counts, filled, written, Again}
 use Rattle.round_trip.specs.Theorem.{round-trip}
@@ -50,11 +55,15 @@ abbrev pub stream : List Part → List ℕ
 stream [] = []
 stream (p ∷ ps) = C p ++ stream ps
 
+-- the arena that a call filled
+abbrev pub arena-in : LoadCall → Arena
+arena-in c = arena (tables-of (c .lent .nodes) (c .lent .references) (c .lent .bytes)) (c .answer .counts)
+
 -- the load at an offset where a part stands
 pub record LoadsPart (input : List ℕ) (offset : ℕ) (p : Part) : Type 1 where
   pub accepted : load-next input offset (p .T′) (p .limit) .answer .answer ≡ Accepted
   -- it fills an arena that holds the same graph as P
-  pub same : SameGraph (P p) (filled (drop offset input) (p .T′) (p .limit))
+  pub same : SameGraph (P p) (arena-in (load-next input offset (p .T′) (p .limit)))
   -- it leaves the offset at the end of C
   pub ends : offset-after input offset (p .T′) (p .limit) ≡ offset + length (C p)
   -- its answer, and everything lent as it then stands, are those of a load of C alone
@@ -73,23 +82,27 @@ StreamLoads = (ps : List Part) → Lendable (stream ps) → Loads (stream ps) 0 
 
 -- a refused load leaves the offset
 pub refused-stays : (input : List ℕ) (offset : ℕ) (T : Lists) (limit : ℕ) (r : Refusal) → load-next input offset T limit .answer .answer ≡ Refused r → offset-after input offset T limit ≡ offset
-refused-stays input offset T limit r e = omega (arith, refused-none (drop offset input) T limit r e)
+refused-stays input offset T limit r e = by (leb (length input) greatest-length) refl
+  where
+    -- a call that is load's, of some input
+    stays : (i : List ℕ) → load-next input offset T limit ≡ load-call i T limit → offset-after input offset T limit ≡ offset
+    stays i f = let u : load-next input offset T limit .answer .used ≡ 0 = ap (λ (c : LoadCall). c .answer .used) f ∙ refused-none i T limit r (sym (ap (λ (c : LoadCall). c .answer .answer) f) ∙ e) in omega (arith, u)
+
+    by : (t : Bool) → leb (length input) greatest-length ≡ t → offset-after input offset T limit ≡ offset
+    by true q = stays (drop offset input) (next-allowed input offset T limit (leb-true _ _ q))
+    by false q = stays input (next-denied input offset T limit (leb-false _ _ q))
 
 again : (p : Part) → Again (P p) (C p) (p .T′) (p .limit)
 again p =
     round-trip (p .X) (p .X) (p .T) (p .T) (p .limit-x) (p .limit-x) (p .are-bytes) (p .are-bytes) (p .loaded) (p .loaded)
     (p .scratch-p) (p .scratch-p) (p .output-p) (p .output-p) (p .limit-p) (p .limit-p) (p .dumped) (p .dumped) .1 (p .T′) (p .limit) (p .allowed) (p .no-smaller) (p .no-lower)
 
--- the arena that a call filled
-abbrev arena-in : LoadCall → Arena
-arena-in c = arena (record { nodes = c .lent .nodes; references = c .lent .references; bytes = c .lent .bytes }) (c .answer .counts)
-
 -- a part with anything behind it
 loads-part : (input : List ℕ) (offset : ℕ) (p : Part) (more : List ℕ) → Lendable input → Ahead input offset (C p ++ more) → LoadsPart input offset p
 loads-part input offset p more m a =
     let g = again p in
     let e : load-next input offset (p .T′) (p .limit) ≡ load-call (C p) (p .T′) (p .limit) =
-    ap (λ (i : List ℕ). load-call i (p .T′) (p .limit)) (a .rest) ∙ accepted-goes-on (C p) more (p .T′) (p .limit) (omega (arith, a .size)) (g .accepted) in
+    next-allowed input offset (p .T′) (p .limit) m ∙ ap (λ (i : List ℕ). load-call i (p .T′) (p .limit)) (a .rest) ∙ accepted-goes-on (C p) more (p .T′) (p .limit) (omega (arith, a .size)) (g .accepted) in
     record {
       accepted = ap (λ (c : LoadCall). c .answer .answer) e ∙ g .accepted;
       same = subst (SameGraph (P p)) (sym (ap arena-in e)) (g .same);

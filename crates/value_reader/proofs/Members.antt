@@ -13,11 +13,17 @@ use mir.Val.{Fits}
 use Rattle.definition.specs.Run.{pure, pick, look, next, _>>=_}
 use Rattle.definition.specs.Kind.{HASH, HASH-DEFAULT, STRING}
 use Rattle.definition.specs.Node.{array, hash, object}
-use Rattle.definition.specs.Load.{Room, Reader, Hash, HashDefault, note, head, value-of, read-hash, read-variables, read-instance-variables, read-elements, read-pairs, read-default, read-value, read-symbol-like, put-reference, fill, counted}
-use Rattle.loader.specs.Holds.{Symbols, Lent, lent, Held, Goes, Leads, Meets, Free, Leaf, slot, slots, more-of, members, settle, after-i, nodes-of, references-of}
-use Rattle.loader.proofs.Laws.{then, still, held, held-goes, goes-to, goes-part, grew-there, still-below, lead-first, lead-after, lead-stop, lead-as, gives, bind-assoc}
-use Rattle.loader.proofs.Readers.{headed}
-use Rattle.loader.proofs.Run.{slot-put, slot-value}
+use Rattle.definition.specs.State.{Room, Reader}
+use Rattle.definition.specs.Load.{Hash, HashDefault, note, head, value-of, read-hash, read-variables, read-instance-variables, read-elements, read-pairs, read-default, read-value, read-symbol-like, put-reference, fill, counted}
+use Rattle.definition.specs.Slice.{greatest-length}
+use Rattle.load_state.specs.Holds.{Symbols, Lent, lent, Held, Goes, Leads, Meets, Free, nodes-of, references-of}
+use Rattle.leaf_reader.specs.Parts.{Leaf}
+use Rattle.run_reader.specs.Run.{slot, slots, more-of, members}
+use Rattle.loader.specs.Parts.{settle, after-i}
+use Rattle.load_state.specs.Laws.{then, still, held, held-goes, goes-to, goes-part, grew-there, still-below, lead-first, lead-after, lead-stop, lead-as, gives, bind-assoc}
+use Rattle.input_reader.proofs.Heads.{headed}
+use Rattle.run_reader.proofs.Run.{slot-put, slot-value}
+use Rattle.reader.specs.Answers.{REFUSED}
 
 -- ---- words as elements and as pairs
 
@@ -56,10 +62,10 @@ module _ {A : Type 0} (name inner : Reader ℕ) (names more : ℕ) where
     through-members = subst (λ (x : ℕ). Leads input room limit (rest g x start) (g w) T c w T' c') e (lead-as (λ i s. sym (bind-assoc (slots name inner names (end - start) start) (λ _. more-of inner more) g s) i) (lead-first g k))
 
     -- the members are read, and then the rest; one of them is refused
-    pub rest-goes : {m' : Reader A} {r : ℕ} {T'' : Lent} {c'' : List ℕ} → w < 4294967296 → Leads input room limit (g w) m' T' c' r T'' c'' → Leads input room limit (rest g n start) m' T c r T'' c''
+    pub rest-goes : {m' : Reader A} {r : ℕ} {T'' : Lent} {c'' : List ℕ} → w < REFUSED → Leads input room limit (g w) m' T' c' r T'' c'' → Leads input room limit (rest g n start) m' T c r T'' c''
     rest-goes l m = lead-after (through-members .goes l) m
 
-    pub rest-stops : {m' : Reader A} {T'' : Lent} {c'' : List ℕ} → 4294967296 ≤ w → Leads input room limit (rest g n start) m' T c w T'' c''
+    pub rest-stops : {m' : Reader A} {T'' : Lent} {c'' : List ℕ} → REFUSED ≤ w → Leads input room limit (rest g n start) m' T c w T'' c''
     rest-stops l = lead-stop l through-members
 
 -- what comes after the count, by the kind: the members, and then the node
@@ -98,17 +104,17 @@ module _ (name inner : Reader ℕ) (h : ℕ) where
     variables-rest names e = ap (λ (m : Reader (Unit {0})). m >>= λ _. settle h p n) (sym (slots-pairs name inner names n p e))
 
 -- the count and the words are read, then the members: one is refused, or the rest is left
-module _ {input : List ℕ} {room : Room} {limit : ℕ} {T T₁ T₂ : Lent} {c c₁ c₂ : List ℕ} {w : ℕ} (name inner : Reader ℕ) (k : ℕ → ℕ → Reader ℕ) (each names more n start end : ℕ) (g : ℕ → Reader ℕ) (f : k start n ≡ rest name inner names more g (n * each) start) (p : end - n * each ≡ start) (e : n * each ≤ end) (W : Leads input room limit (counted input room each k) (k (end - n * each) n) T c n T₁ c₁) (l : n < 4294967296) (M : Meets input room limit (members name inner names more (end - start) start) T₁ c₁ w T₂ c₂) where
+module _ {input : List ℕ} {room : Room} {limit : ℕ} {T T₁ T₂ : Lent} {c c₁ c₂ : List ℕ} {w : ℕ} (name inner : Reader ℕ) (k : ℕ → ℕ → Reader ℕ) (each names more n start end : ℕ) (g : ℕ → Reader ℕ) (f : k start n ≡ rest name inner names more g (n * each) start) (p : end - n * each ≡ start) (e : n * each ≤ end) (W : Leads input room limit (counted input room each k) (k (end - n * each) n) T c n T₁ c₁) (l : n < REFUSED) (M : Meets input room limit (members name inner names more (end - start) start) T₁ c₁ w T₂ c₂) where
   come-in : Goes input room (counted input room each k) T c (rest name inner names more g (n * each) start) T₁ c₁
   come-in = goes-to (ap (λ (x : ℕ). k x n) p ∙ f) (W .goes l)
 
   sized : end - start ≡ n * each
   sized = omega arith
 
-  pub contained-stops : {m' : Reader ℕ} {T' : Lent} {c' : List ℕ} → 4294967296 ≤ w → Leads input room limit (counted input room each k) m' T c w T' c'
+  pub contained-stops : {m' : Reader ℕ} {T' : Lent} {c' : List ℕ} → REFUSED ≤ w → Leads input room limit (counted input room each k) m' T c w T' c'
   contained-stops h = lead-after come-in (rest-stops name inner names more g start end (n * each) sized M h)
 
-  pub contained : {m' : Reader ℕ} {T' : Lent} {c' : List ℕ} {r : ℕ} → w < 4294967296 → Leads input room limit (g w) m' T₂ c₂ r T' c' → Leads input room limit (counted input room each k) m' T c r T' c'
+  pub contained : {m' : Reader ℕ} {T' : Lent} {c' : List ℕ} {r : ℕ} → w < REFUSED → Leads input room limit (g w) m' T₂ c₂ r T' c' → Leads input room limit (counted input room each k) m' T c r T' c'
   contained h m = lead-after come-in (rest-goes name inner names more g start end (n * each) sized M h m)
 
 -- what the reader of members asks of a list that ends at `end`, and of no value more
@@ -145,12 +151,12 @@ named-below to end (suc zero) names l f h e = absurd (omega (arith, f refl, e))
 named-below to end (suc (suc more)) names l f h e = absurd (omega arith)
 
 -- a default's word
-pub default-fits : (d more n : ℕ) → more ≤ 1 → (more ≡ 0 → d ≡ 0) → (more ≡ 1 → d < n) → n ≤ 2147483647 → Fits w32 (d + more)
+pub default-fits : (d more n : ℕ) → more ≤ 1 → (more ≡ 0 → d ≡ 0) → (more ≡ 1 → d < n) → n ≤ greatest-length → Fits w32 (d + more)
 default-fits d zero n l f g h = record { fits = omega (arith, f refl) }
 default-fits d (suc zero) n l f g h = record { fits = omega (arith, g refl) }
 default-fits d (suc (suc more)) n l f g h = absurd (omega arith)
 
-pub nodes-few : {input : List ℕ} {T : Lent} {c : List ℕ} → Held input T c → nodes-of c ≤ 2147483647
+pub nodes-few : {input : List ℕ} {T : Lent} {c : List ℕ} → Held input T c → nodes-of c ≤ greatest-length
 nodes-few H = omega arith
 
 -- a hash by either kind byte
@@ -254,7 +260,7 @@ module _ {input no₀ re₀ by₀ : List ℕ} {sy₀ : Symbols} {ob₀ c₀ : Li
       lead-after (come more room limit) (lead-as (λ i. members (read-symbol-like input room) (read-value input room limit levels) names (z i) (e i) to) (gives 0 (omega arith)))
 
   -- a member is refused
-  module _ {m' : Reader ℕ} {T' T'' : Lent} {c' c'' : List ℕ} {r : ℕ} (more : ℕ) (h : 4294967296 ≤ r) (room : Room) (limit : ℕ) where
+  module _ {m' : Reader ℕ} {T' T'' : Lent} {c' c'' : List ℕ} {r : ℕ} (more : ℕ) (h : REFUSED ≤ r) (room : Room) (limit : ℕ) where
     slot-stop : to < end → Leads input room limit (slot (read-symbol-like input room) (read-value input room limit levels) names to) m' (lent no re by sy ob) c r T' c' → Meets input room limit (left input room limit levels names more end start) (lent no₀ re₀ by₀ sy₀ ob₀) c₀ r T'' c''
     unfolding slots
     slot-stop l k =
@@ -278,7 +284,7 @@ module _ {input no₀ re₀ by₀ : List ℕ} {sy₀ : Symbols} {ob₀ c₀ : Li
       λ i. members (read-symbol-like input room) (read-value input room limit levels) names (z i) (e i) to
 
   module _ {T' T'' : Lent} {c' c'' : List ℕ} {r : ℕ} (more : ℕ) (k : to < end + more) (one : more ≤ 1) (room : Room) (limit : ℕ) where
-    pub value-stop : 4294967296 ≤ r → (to % 2 ≡ names → ⊥) → Meets input room limit (read-value input room limit levels) (lent no re by sy ob) c r T' c' → Meets input room limit (left input room limit levels names more end start) (lent no₀ re₀ by₀ sy₀ ob₀) c₀ r T'' c''
+    pub value-stop : REFUSED ≤ r → (to % 2 ≡ names → ⊥) → Meets input room limit (read-value input room limit levels) (lent no re by sy ob) c r T' c' → Meets input room limit (left input room limit levels names more end start) (lent no₀ re₀ by₀ sy₀ ob₀) c₀ r T'' c''
     value-stop h n m = go (ltb to end) refl
       where
         go : (t : Bool) → ltb to end ≡ t → Meets input room limit (left input room limit levels names more end start) (lent no₀ re₀ by₀ sy₀ ob₀) c₀ r T'' c''
@@ -289,7 +295,7 @@ module _ {input no₀ re₀ by₀ : List ℕ} {sy₀ : Symbols} {ob₀ c₀ : Li
   value-last more k one e room limit m = lead-after (come more room limit) (lead-as (after-words more (omega arith) k one room limit) m)
 
   -- a name is read, or a value, and stored
-  module _ {no' re' by' : List ℕ} {sy' : Symbols} {ob' c' : List ℕ} {v : ℕ} (l : to < end) (h : v < 4294967296) (n : length no' ≡ length no) (r : length re' ≡ length re) (b : length by' ≡ length by) (s : length (sy' .list) ≡ length (sy .list)) (u : length (sy' .buckets) ≡ length (sy .buckets)) (o : length ob' ≡ length ob) where
+  module _ {no' re' by' : List ℕ} {sy' : Symbols} {ob' c' : List ℕ} {v : ℕ} (l : to < end) (h : v < REFUSED) (n : length no' ≡ length no) (r : length re' ≡ length re) (b : length by' ≡ length by) (s : length (sy' .list) ≡ length (sy .list)) (u : length (sy' .buckets) ≡ length (sy .buckets)) (o : length ob' ≡ length ob) where
     stored : ((room : Room) (limit : ℕ) → Goes input room (slot (read-symbol-like input room) (read-value input room limit levels) names to) (lent no re by sy ob) c (pure v) (lent no' re' by' sy' ob') c') → Turning input no₀ re₀ by₀ sy₀ ob₀ c₀ start end names levels no' (set re' to v) by' sy' ob' c' (to + 1)
     stored g =
         let grew = grew-there {m = λ room. slot _ _ names to} {m' = λ room. pure v} (R .held) (λ room. g room 0) in

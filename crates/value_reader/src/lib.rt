@@ -1,30 +1,35 @@
 // The reader of values, and the readers of what has members: they call one another.
 //
-// The contracts are as in the crate loader. `levels` are those still allowed: in the value reader for the value, in the
+// Contracts speak of what is held (crate load_state). `levels` are those still allowed: in the value reader for the value, in the
 // others for the members. They fall from a value to its members.
 use definition::Node;
 use definition::ValueKind;
-use loader::AT;
-use loader::REFERENCES;
+use input_reader::read_header;
+use leaf_reader::read_leaf;
+use load_state::AT;
+use load_state::COUNTS;
+use load_state::REFERENCES;
 use loader::fill_node;
 use loader::note_inner;
 use loader::open_node;
-use loader::read_header;
-use loader::read_leaf;
-use loader::read_run;
-use loader::read_symbol_like;
 use loader::read_words;
 use loader::set_variables;
 use reader::REFUSED;
 use reader::SHORT_INPUT;
 use reader::TOO_DEEP;
+use run_reader::read_run;
+use symbol_reader::read_symbol_like;
 ghost use mathlib.Core.Path.{_≡_};
 ghost use Prim.Native.Nat.{ℕ, _-_, _<_, _≤_};
 ghost use lib.Dec.{eqb};
 ghost use Rattle.definition.specs.Kind.{HASH-DEFAULT};
-ghost use Rattle.definition.specs.Load.{Room, read-array, read-hash, read-object, read-variables, read-value, read-symbol-like};
-ghost use Rattle.loader.specs.Holds.{lent, by-buckets, Held, Meets, after-i, members, nodes-of, references-of};
+ghost use Rattle.definition.specs.State.{Room};
+ghost use Rattle.definition.specs.Load.{read-array, read-hash, read-object, read-variables, read-value, read-symbol-like};
+ghost use Rattle.load_state.specs.Holds.{lent, by-buckets, Held, Meets, nodes-of, references-of};
+ghost use Rattle.loader.specs.Parts.{after-i};
+ghost use Rattle.run_reader.specs.Run.{members};
 ghost use Rattle.value_reader.specs.Root.{whole};
+ghost use Rattle.reader.specs.Answers.{REFUSED};
 
 // The parity of names in a list without names.
 const NONE: usize = 2;
@@ -41,7 +46,7 @@ fn read_members(
     symbols: &mut [u32],
     objects: &mut [u32],
     buckets: &mut [u32],
-    c: &mut [usize; 10],
+    c: &mut [usize; COUNTS],
     start: usize,
     end: usize,
     more: usize,
@@ -50,7 +55,7 @@ fn read_members(
 ) -> u64
     requires { ⌜ (start ≤ end) × (end ≤ references-of (now c)) × (more ≤ 1) × (more ≡ 1 → names ≡ 2) × Held (now input) (lent (now nodes) (now references) (now bytes) (by-buckets (now symbols) (now buckets)) (now objects)) (now c) ⌝ }
     ensures { λ r. ⌜ ((room : Room) (limit : ℕ) → Meets (now (input .entry)) room limit (members (read-symbol-like (now (input .entry)) room) (read-value (now (input .entry)) room limit levels) names more (end - start) start) (lent (now (nodes .entry)) (now (references .entry)) (now (bytes .entry)) (by-buckets (now (symbols .entry)) (now (buckets .entry))) (now (objects .entry))) (now (c .entry)) r (lent (now (nodes .exit)) (now (references .exit)) (now (bytes .exit)) (by-buckets (now (symbols .exit)) (now (buckets .exit))) (now (objects .exit))) (now (c .exit))) ⌝ }
-    ensures { λ r. ⌜ (r < 4294967296 → (more ≡ 0 → r ≡ 0) × (more ≡ 1 → r < nodes-of (now (c .exit)))) ⌝ }
+    ensures { λ r. ⌜ (r < REFUSED → (more ≡ 0 → r ≡ 0) × (more ≡ 1 → r < nodes-of (now (c .exit)))) ⌝ }
 {
     let mut to = start;
     while to < end + more {
@@ -109,12 +114,12 @@ fn read_array(
     symbols: &mut [u32],
     objects: &mut [u32],
     buckets: &mut [u32],
-    c: &mut [usize; 10],
+    c: &mut [usize; COUNTS],
     levels: u32,
 ) -> u64
     requires { ⌜ Held (now input) (lent (now nodes) (now references) (now bytes) (by-buckets (now symbols) (now buckets)) (now objects)) (now c) ⌝ }
     ensures { λ r. ⌜ ((room : Room) (limit : ℕ) → Meets (now (input .entry)) room limit (read-array (now (input .entry)) room (read-value (now (input .entry)) room limit levels)) (lent (now (nodes .entry)) (now (references .entry)) (now (bytes .entry)) (by-buckets (now (symbols .entry)) (now (buckets .entry))) (now (objects .entry))) (now (c .entry)) r (lent (now (nodes .exit)) (now (references .exit)) (now (bytes .exit)) (by-buckets (now (symbols .exit)) (now (buckets .exit))) (now (objects .exit))) (now (c .exit))) ⌝ }
-    ensures { λ r. ⌜ (r < 4294967296 → r < nodes-of (now (c .exit))) ⌝ }
+    ensures { λ r. ⌜ (r < REFUSED → r < nodes-of (now (c .exit))) ⌝ }
 {
     let h = open_node(nodes, objects, c);
     if REFUSED <= h {
@@ -163,13 +168,13 @@ fn read_hash(
     symbols: &mut [u32],
     objects: &mut [u32],
     buckets: &mut [u32],
-    c: &mut [usize; 10],
+    c: &mut [usize; COUNTS],
     more: usize,
     levels: u32,
 ) -> u64
     requires { ⌜ (more ≤ 1) × Held (now input) (lent (now nodes) (now references) (now bytes) (by-buckets (now symbols) (now buckets)) (now objects)) (now c) ⌝ }
     ensures { λ r. ⌜ ((room : Room) (limit : ℕ) → Meets (now (input .entry)) room limit (read-hash (eqb more 1) (now (input .entry)) room (read-value (now (input .entry)) room limit levels)) (lent (now (nodes .entry)) (now (references .entry)) (now (bytes .entry)) (by-buckets (now (symbols .entry)) (now (buckets .entry))) (now (objects .entry))) (now (c .entry)) r (lent (now (nodes .exit)) (now (references .exit)) (now (bytes .exit)) (by-buckets (now (symbols .exit)) (now (buckets .exit))) (now (objects .exit))) (now (c .exit))) ⌝ }
-    ensures { λ r. ⌜ (r < 4294967296 → r < nodes-of (now (c .exit))) ⌝ }
+    ensures { λ r. ⌜ (r < REFUSED → r < nodes-of (now (c .exit))) ⌝ }
 {
     let h = open_node(nodes, objects, c);
     if REFUSED <= h {
@@ -218,12 +223,12 @@ fn read_object(
     symbols: &mut [u32],
     objects: &mut [u32],
     buckets: &mut [u32],
-    c: &mut [usize; 10],
+    c: &mut [usize; COUNTS],
     levels: u32,
 ) -> u64
     requires { ⌜ Held (now input) (lent (now nodes) (now references) (now bytes) (by-buckets (now symbols) (now buckets)) (now objects)) (now c) ⌝ }
     ensures { λ r. ⌜ ((room : Room) (limit : ℕ) → Meets (now (input .entry)) room limit (read-object (now (input .entry)) room (read-value (now (input .entry)) room limit levels)) (lent (now (nodes .entry)) (now (references .entry)) (now (bytes .entry)) (by-buckets (now (symbols .entry)) (now (buckets .entry))) (now (objects .entry))) (now (c .entry)) r (lent (now (nodes .exit)) (now (references .exit)) (now (bytes .exit)) (by-buckets (now (symbols .exit)) (now (buckets .exit))) (now (objects .exit))) (now (c .exit))) ⌝ }
-    ensures { λ r. ⌜ (r < 4294967296 → r < nodes-of (now (c .exit))) ⌝ }
+    ensures { λ r. ⌜ (r < REFUSED → r < nodes-of (now (c .exit))) ⌝ }
 {
     let h = open_node(nodes, objects, c);
     if REFUSED <= h {
@@ -278,12 +283,12 @@ fn read_inner(
     symbols: &mut [u32],
     objects: &mut [u32],
     buckets: &mut [u32],
-    c: &mut [usize; 10],
+    c: &mut [usize; COUNTS],
     levels: u32,
 ) -> u64
     requires { ⌜ Held (now input) (lent (now nodes) (now references) (now bytes) (by-buckets (now symbols) (now buckets)) (now objects)) (now c) ⌝ }
     ensures { λ r. ⌜ ((room : Room) (limit : ℕ) → Meets (now (input .entry)) room limit (after-i (now (input .entry)) (read-value (now (input .entry)) room limit levels)) (lent (now (nodes .entry)) (now (references .entry)) (now (bytes .entry)) (by-buckets (now (symbols .entry)) (now (buckets .entry))) (now (objects .entry))) (now (c .entry)) r (lent (now (nodes .exit)) (now (references .exit)) (now (bytes .exit)) (by-buckets (now (symbols .exit)) (now (buckets .exit))) (now (objects .exit))) (now (c .exit))) ⌝ }
-    ensures { λ r. ⌜ (r < 4294967296 → r < nodes-of (now (c .exit))) ⌝ }
+    ensures { λ r. ⌜ (r < REFUSED → r < nodes-of (now (c .exit))) ⌝ }
 {
     let at = c[AT];
     if 0 < levels {
@@ -330,12 +335,12 @@ fn read_variables(
     symbols: &mut [u32],
     objects: &mut [u32],
     buckets: &mut [u32],
-    c: &mut [usize; 10],
+    c: &mut [usize; COUNTS],
     levels: u32,
 ) -> u64
     requires { ⌜ Held (now input) (lent (now nodes) (now references) (now bytes) (by-buckets (now symbols) (now buckets)) (now objects)) (now c) ⌝ }
     ensures { λ r. ⌜ ((room : Room) (limit : ℕ) → Meets (now (input .entry)) room limit (read-variables (now (input .entry)) room (read-value (now (input .entry)) room limit levels)) (lent (now (nodes .entry)) (now (references .entry)) (now (bytes .entry)) (by-buckets (now (symbols .entry)) (now (buckets .entry))) (now (objects .entry))) (now (c .entry)) r (lent (now (nodes .exit)) (now (references .exit)) (now (bytes .exit)) (by-buckets (now (symbols .exit)) (now (buckets .exit))) (now (objects .exit))) (now (c .exit))) ⌝ }
-    ensures { λ r. ⌜ (r < 4294967296 → r < nodes-of (now (c .exit))) ⌝ }
+    ensures { λ r. ⌜ (r < REFUSED → r < nodes-of (now (c .exit))) ⌝ }
 {
     let h = read_inner(
         &input[..],
@@ -387,12 +392,12 @@ fn read_value(
     symbols: &mut [u32],
     objects: &mut [u32],
     buckets: &mut [u32],
-    c: &mut [usize; 10],
+    c: &mut [usize; COUNTS],
     levels: u32,
 ) -> u64
     requires { ⌜ Held (now input) (lent (now nodes) (now references) (now bytes) (by-buckets (now symbols) (now buckets)) (now objects)) (now c) ⌝ }
     ensures { λ r. ⌜ ((room : Room) (limit : ℕ) → Meets (now (input .entry)) room limit (read-value (now (input .entry)) room limit levels) (lent (now (nodes .entry)) (now (references .entry)) (now (bytes .entry)) (by-buckets (now (symbols .entry)) (now (buckets .entry))) (now (objects .entry))) (now (c .entry)) r (lent (now (nodes .exit)) (now (references .exit)) (now (bytes .exit)) (by-buckets (now (symbols .exit)) (now (buckets .exit))) (now (objects .exit))) (now (c .exit))) ⌝ }
-    ensures { λ r. ⌜ (r < 4294967296 → r < nodes-of (now (c .exit))) ⌝ }
+    ensures { λ r. ⌜ (r < REFUSED → r < nodes-of (now (c .exit))) ⌝ }
 {
     if levels == 0 {
         return TOO_DEEP;
@@ -462,12 +467,12 @@ pub fn read_root(
     symbols: &mut [u32],
     objects: &mut [u32],
     buckets: &mut [u32],
-    c: &mut [usize; 10],
+    c: &mut [usize; COUNTS],
     limit: u32,
 ) -> u64
     requires { ⌜ Held (now input) (lent (now nodes) (now references) (now bytes) (by-buckets (now symbols) (now buckets)) (now objects)) (now c) ⌝ }
     ensures { λ r. ⌜ ((room : Room) → Meets (now (input .entry)) room limit (whole (now (input .entry)) room limit) (lent (now (nodes .entry)) (now (references .entry)) (now (bytes .entry)) (by-buckets (now (symbols .entry)) (now (buckets .entry))) (now (objects .entry))) (now (c .entry)) r (lent (now (nodes .exit)) (now (references .exit)) (now (bytes .exit)) (by-buckets (now (symbols .exit)) (now (buckets .exit))) (now (objects .exit))) (now (c .exit))) ⌝ }
-    ensures { λ r. ⌜ (r < 4294967296 → r < nodes-of (now (c .exit))) ⌝ }
+    ensures { λ r. ⌜ (r < REFUSED → r < nodes-of (now (c .exit))) ⌝ }
 {
     let w = read_header(&input[..], c);
     if REFUSED <= w {

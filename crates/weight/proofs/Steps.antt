@@ -14,7 +14,7 @@ use Rattle.definition.specs.declared.Reading.{Reading}
 use Rattle.definition.specs.declared.Reading.the-variants.{NotANumber}
 use Rattle.definition.specs.declared.Refusal.{Refusal}
 use Rattle.definition.specs.declared.Refusal.the-variants.{NotAWeight, BadMoisture}
-use Rattle.value_arena.proofs.Calls.{on, stop}
+use Rattle.call_check.proofs.Answers.{on, stop}
 use Rattle.weight.specs.Gives.{Has, Gives}
 use Rattle.weight.specs.declared.Given.{Given}
 use Rattle.weight.specs.declared.Given.the-variants as G

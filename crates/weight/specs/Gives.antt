@@ -5,7 +5,7 @@ use mathlib.Core.List.{List}
 use lib.ListN.{length, getD, take}
 use lib.Ieee.{Float}
 use Rattle.definition.specs.Run.{Run, ok, refused}
-use Rattle.definition.specs.Node.{width, row}
+use Rattle.definition.specs.Node.{width, row, START, LENGTH}
 use Rattle.definition.specs.Arena.{node}
 use Rattle.definition.specs.Build.{Lent, held, words-at}
 use Rattle.weight.specs.declared.Given.{Given}
@@ -15,7 +15,7 @@ use Rattle.weight.specs.declared.Given.the-variants.{Double, Refused}
 abbrev pub Inside : List ℕ → List ℕ → ℕ → ℕ → Type 0
 Inside nodes bytes stored h =
     (h * width + width ≤ length nodes)
-    × (getD nodes (h * width) 0 ≡ 9 → getD nodes (h * width + 1) 0 + getD nodes (h * width + 2) 0 ≤ stored)
+    × (getD nodes (h * width) 0 ≡ 9 → getD nodes (h * width + START) 0 + getD nodes (h * width + LENGTH) 0 ≤ stored)
     × (stored ≤ length bytes)
 
 -- what is lent has these bytes stored, and node h as this table has it

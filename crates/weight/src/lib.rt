@@ -1,5 +1,8 @@
 // A node read as a number, and wet weight from dry weight.
 use arena_check::size;
+use bits::signed;
+use call_check::begin_handle;
+use call_check::begin_handles;
 use decimal::read_decimal;
 use definition::Answer;
 use definition::Counts;
@@ -9,9 +12,6 @@ use definition::Reading;
 use definition::Refusal;
 use definition::Weighed;
 use definition::Weighing;
-use value_arena::begin_handle;
-use value_arena::begin_handles;
-use value_arena::signed;
 ghost use mathlib.Core.Path.{_≡_};
 ghost use lib.ListN.{take};
 ghost use Rattle.definition.specs.Node.{row};
@@ -19,7 +19,7 @@ ghost use Rattle.definition.specs.Build.{Lent, lent, words-at};
 ghost use Rattle.definition.specs.Weight.{row-reading, get-reading, weigh-nodes, wet-weight, read-done, weighed-done};
 ghost use Rattle.definition.specs.Weight as W;
 ghost use Rattle.definition.specs.Run as R;
-ghost use Rattle.value_arena.specs.Calls.{Says};
+ghost use Rattle.call_check.specs.Tests.{Says};
 ghost use Rattle.weight.specs.Gives.{Inside, Has, Gives};
 
 // ---- a node's reading

@@ -7,9 +7,9 @@ use mathlib.Core.Option.{Option, none, some}
 use lib.Dec.{T}
 use lib.Ieee.{Float, nan, inf, fin, isNan}
 use lib.Ieee.Scale.{finite}
-use Rattle.definition.specs.Run.{Outcome, ok, refused, pure, next, _>>=_, look}
+use Rattle.definition.specs.Run.{Outcome, ok, refused, pure, next, _>>=_, look, pick}
 use Rattle.definition.specs.Refused.{signed}
-use Rattle.definition.specs.Node.{Row, nil, bool, fixnum, symbol, array, hash, object, string, user, float, bignum}
+use Rattle.definition.specs.Node.{Row, nil, bool, fixnum, symbol, array, hash, object, string, user, float, bignum, kind, words}
 use Rattle.definition.specs.Arena.{node, range}
 use Rattle.definition.specs.Build.{Lent, held, handles-checked}
 use Rattle.definition.specs.Weight.{Decimal, decimal, double, text-reading, row-reading, node-reading, get-reading, read-done, Nearest}
@@ -33,19 +33,33 @@ unfolding text-reading
 text-sized none text e = tt
 text-sized (some d) text e = (d .minus, reading-plain text d e)
 
+-- a row by what it reads as: a Fixnum, a Float, or no number
+data Reads (bytes : List ℕ) : Row → Reading → Type 0 where
+  from-fixnum : (w : ℕ) → Reads bytes (fixnum w) (Whole (signed w))
+  from-float : (s l : ℕ) → Reads bytes (float s l) (text-reading (decimal (range bytes s l)))
+  from-none : (r : Row) → Reads bytes r NotANumber
+
+reads : (bytes : List ℕ) (r : Row) → Reads bytes r (row-reading bytes r)
+unfolding row-reading kind words pick
+reads bytes nil = from-none nil
+reads bytes (bool b) = from-none (bool b)
+reads bytes (fixnum w) = from-fixnum w
+reads bytes (symbol s l) = from-none (symbol s l)
+reads bytes (array s n) = from-none (array s n)
+reads bytes (hash s n d) = from-none (hash s n d)
+reads bytes (object s n c) = from-none (object s n c)
+reads bytes (string s l v) = from-none (string s l v)
+reads bytes (user s l c v) = from-none (user s l c v)
+reads bytes (float s l) = from-float s l
+reads bytes (bignum low high m) = from-none (bignum low high m)
+
 pub row-sized : (bytes : List ℕ) (r : Row) → Sized (row-reading bytes r)
-unfolding row-reading
-row-sized bytes nil = tt
-row-sized bytes (bool b) = tt
-row-sized bytes (fixnum w) = (w, refl)
-row-sized bytes (symbol s l) = tt
-row-sized bytes (array s n) = tt
-row-sized bytes (hash s n d) = tt
-row-sized bytes (object s n c) = tt
-row-sized bytes (string s l v) = tt
-row-sized bytes (user s l c v) = tt
-row-sized bytes (float s l) = text-sized (decimal (range bytes s l)) (range bytes s l) refl
-row-sized bytes (bignum low high m) = tt
+row-sized bytes r = go (reads bytes r)
+  where
+    go : {r : Row} {q : Reading} → Reads bytes r q → Sized q
+    go (from-fixnum w) = (w, refl)
+    go (from-float s l) = text-sized (decimal (range bytes s l)) (range bytes s l) refl
+    go (from-none r) = tt
 
 -- a row that reads as a double is a Float, whose text is a decimal's
 double-read : (o : Option Decimal) (x : Float) → text-reading o ≡ Double x → (d : Decimal) × (o ≡ some d) × (double d ≡ x)
@@ -65,30 +79,24 @@ pub record FromText (bytes : List ℕ) (r : Row) (x : Float) : Type 0 where
   pub nearest : Nearest x (number written) (power written)
 
 pub row-double : (bytes : List ℕ) (r : Row) (x : Float) → row-reading bytes r ≡ Double x → FromText bytes r x
-unfolding row-reading
-row-double bytes nil x e = impossible (cc)
-row-double bytes (bool b) x e = impossible (cc)
-row-double bytes (fixnum w) x e = impossible (cc)
-row-double bytes (symbol s l) x e = impossible (cc)
-row-double bytes (array s n) x e = impossible (cc)
-row-double bytes (hash s n d) x e = impossible (cc)
-row-double bytes (object s n c) x e = impossible (cc)
-row-double bytes (string s l v) x e = impossible (cc)
-row-double bytes (user s l c v) x e = impossible (cc)
-row-double bytes (bignum low high m) x e = impossible (cc)
-row-double bytes (float s l) x e =
-    let k = double-read (decimal (range bytes s l)) x e in
-    let p = decimal-sound (range bytes s l) (k .0) (k .1) in
-    record {
-      start = s;
-      size = l;
-      written = k .0;
-      is-float = refl;
-      spelt = p .0;
-      proper = p .1;
-      plain = subst (Plain (k .0 .minus)) (k .2) (double-plain (k .0) (p .1));
-      nearest = subst (λ (z : Float). Nearest z (number (k .0)) (power (k .0))) (k .2) (double-nearest (k .0) (p .1));
-    }
+row-double bytes r x e = go (reads bytes r) e
+  where
+    go : {r : Row} {q : Reading} → Reads bytes r q → q ≡ Double x → FromText bytes r x
+    go (from-fixnum w) e = impossible (cc)
+    go (from-none r) e = impossible (cc)
+    go (from-float s l) e =
+        let k = double-read (decimal (range bytes s l)) x e in
+        let p = decimal-sound (range bytes s l) (k .0) (k .1) in
+        record {
+          start = s;
+          size = l;
+          written = k .0;
+          is-float = refl;
+          spelt = p .0;
+          proper = p .1;
+          plain = subst (Plain (k .0 .minus)) (k .2) (double-plain (k .0) (p .1));
+          nearest = subst (λ (z : Float). Nearest z (number (k .0)) (power (k .0))) (k .2) (double-nearest (k .0) (p .1));
+        }
 
 -- ---- the call
 

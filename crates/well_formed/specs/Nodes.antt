@@ -1,9 +1,10 @@
 -- The node at a place of an arena.
 use Prim.Native.Nat.{ℕ, _+_, _*_, _≤_, _<_}
-use mathlib.Core.Path.{_≡_, ap, _∙_}
+use mathlib.Core.Path.{_≡_, refl, ap, _∙_}
 use mathlib.Core.List.{List}
 use lib.ListN.{length, getD, List·getD-eq-default}
-use Rattle.definition.specs.Node.{Row, nil, symbol, width, row-of, rows}
+use native.Mathlib.Omega.{arith}
+use Rattle.definition.specs.Node.{Row, nil, bool, fixnum, symbol, array, hash, object, string, user, float, bignum, width, START, LENGTH, LIST, COUNT, NAME, DEFAULT, symbol-kind, kind, row-of, rows}
 use Rattle.definition.specs.Arena.{Arena, node}
 use Rattle.lists.specs.Lists.{At, getD-at, at-getD}
 use Rattle.lists.specs.Tables.{length-rows, words-row}
@@ -16,6 +17,21 @@ pub at-node : (A : Arena) (i : ℕ) → i < length (A .nodes) → At (A .nodes) 
 unfolding node
 at-node A i h = at-getD (A .nodes) i nil h
 
+-- a row of that kind is a symbol
+pub symbol-row : (r : Row) → kind r ≡ symbol-kind → (s : ℕ) × (l : ℕ) × (r ≡ symbol s l)
+unfolding kind
+symbol-row nil e = absurd (omega arith)
+symbol-row (bool b) e = absurd (omega arith)
+symbol-row (fixnum w) e = absurd (omega arith)
+symbol-row (symbol s l) e = (s, l, refl)
+symbol-row (array s n) e = absurd (omega arith)
+symbol-row (hash s n d) e = absurd (omega arith)
+symbol-row (object s n c) e = absurd (omega arith)
+symbol-row (string s l v) e = absurd (omega arith)
+symbol-row (user s l c v) e = absurd (omega arith)
+symbol-row (float s l) e = absurd (omega arith)
+symbol-row (bignum low high m) e = absurd (omega arith)
+
 -- node c is a symbol
 abbrev pub Name : Arena → ℕ → Type 0
 Name A c = (s : ℕ) × (l : ℕ) × At (A .nodes) c (symbol s l)
@@ -23,7 +39,7 @@ Name A c = (s : ℕ) × (l : ℕ) × At (A .nodes) c (symbol s l)
 -- ---- a node by the words of the table
 
 module _ (A : Arena) (count : ℕ) (t : List ℕ) (e : A .nodes ≡ rows count t) (i : ℕ) where
-  pub node-row : i < count → node A i ≡ row-of (getD t (i * width) 0) (getD t (i * width + 1) 0) (getD t (i * width + 2) 0) (getD t (i * width + 3) 0) (getD t (i * width + 4) 0) (getD t (i * width + 5) 0) (getD t (i * width + 6) 0)
+  pub node-row : i < count → node A i ≡ row-of (getD t (i * width) 0) (getD t (i * width + START) 0) (getD t (i * width + LENGTH) 0) (getD t (i * width + LIST) 0) (getD t (i * width + COUNT) 0) (getD t (i * width + NAME) 0) (getD t (i * width + DEFAULT) 0)
   unfolding node
   node-row l = ap (λ (rs : List Row). getD rs i nil) e ∙ words-row count t i l
 

@@ -10,7 +10,7 @@ use lib.ListN.{length, getD}
 use lib.Seq.{length-take-le}
 use native.Mathlib.Omega.{arith}
 use borrow.Author.Tests.{eqb-true, eq-eqb, leb-true, ltb-true}
-use Rattle.definition.specs.Node.{Row, Vars, nil, bool, fixnum, symbol, array, hash, object, string, user, float, bignum, absent, present, width, kind, row, rows, is-row}
+use Rattle.definition.specs.Node.{Row, Vars, nil, bool, fixnum, symbol, array, hash, object, string, user, float, bignum, absent, present, width, symbol-kind, kind, row, rows, is-row}
 use Rattle.definition.specs.Magnitude.{fits, magnitude}
 use Rattle.definition.specs.Arena.{Tables, Arena, arena, node, range, firsts, all-below, is-name, all-names, bytes-right, list-right, pairs-right, vars-right, number-right, row-right, node-right, counts-fit, fault}
 use Rattle.definition.specs.Graph.{links, vars-links, default-link}
@@ -18,7 +18,7 @@ use Rattle.definition.specs.declared.Counts.{Counts}
 use Rattle.lists.specs.Joined.{and-left, and-right, pick-true}
 use Rattle.lists.specs.Lists.{At, at-lt, no-at, apart, Below, below-join, below-first, getD-at}
 use Rattle.lists.specs.Tables.{length-rows, rows-at, faulty-words, no-fault}
-use Rattle.well_formed.specs.Nodes.{at-node, Name}
+use Rattle.well_formed.specs.Nodes.{at-node, symbol-row, Name}
 use Rattle.definition.specs.Build.{words-at}
 
 -- ---- tests that hold
@@ -86,24 +86,11 @@ below-of n (m ∷ l) e k v a = let (p, q) = pick-true (ltb m n) (all-below n l) 
 module _ (A : Arena) where
   pub name-of-test : (c : ℕ) → is-name A c ≡ true → Name A c
   unfolding is-name kind node
-  name-of-test c e = go (A .nodes) c (eqb-true (kind (getD (A .nodes) c nil)) 3 e)
+  name-of-test c e = go (A .nodes) c (eqb-true (kind (getD (A .nodes) c nil)) symbol-kind e)
     where
-      one : (r : Row) → kind r ≡ 3 → (s : ℕ) × (l : ℕ) × (r ≡ symbol s l)
-      one nil e = absurd (omega arith)
-      one (bool b) e = absurd (omega arith)
-      one (fixnum w) e = absurd (omega arith)
-      one (symbol s l) e = (s, l, refl)
-      one (array s n) e = absurd (omega arith)
-      one (hash s n d) e = absurd (omega arith)
-      one (object s n c) e = absurd (omega arith)
-      one (string s l v) e = absurd (omega arith)
-      one (user s l c v) e = absurd (omega arith)
-      one (float s l) e = absurd (omega arith)
-      one (bignum low high m) e = absurd (omega arith)
-
-      go : (l : List Row) (k : ℕ) → kind (getD l k nil) ≡ 3 → (s : ℕ) × (n : ℕ) × At l k (symbol s n)
+      go : (l : List Row) (k : ℕ) → kind (getD l k nil) ≡ symbol-kind → (s : ℕ) × (n : ℕ) × At l k (symbol s n)
       go [] k e = absurd (omega arith)
-      go (x ∷ l) zero e = let (s, n, q) = one x e in (s, n, ap some q)
+      go (x ∷ l) zero e = let (s, n, q) = symbol-row x e in (s, n, ap some q)
       go (x ∷ l) (suc k) e = go l k e
 
   pub names-of : (l : List ℕ) → all-names A l ≡ true → (k c : ℕ) → At l k c → Name A c

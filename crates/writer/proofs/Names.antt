@@ -5,10 +5,10 @@ use mathlib.Core.Path.{_≡_, refl, sym, ap, _∙_, subst}
 use mathlib.Core.List.{List, _∷_, _++_}
 use lib.ListN.{length, getD, set, take, drop, length-drop}
 use lib.Seq.{sets, length-take-le}
-use Rattle.definition.specs.Run.{look}
+use Rattle.definition.specs.Run.{look, pick}
 use Rattle.definition.specs.Integer.{integer-bytes}
 use Rattle.definition.specs.Kind.{SYMBOL, SYMBOL-LINK}
-use Rattle.definition.specs.Node.{width, Row, symbol, kind, row-of}
+use Rattle.definition.specs.Node.{width, Row, symbol, kind, row-of, START, LENGTH, words}
 use Rattle.definition.specs.Arena.{Arena, node, range, name-of}
 use Rattle.definition.specs.Dump.{_>>_, write, number-symbol, link-or, byte-string-bytes, write-symbol, write-name}
 use Rattle.lists.specs.Ranges.{length-range, range-front}
@@ -54,25 +54,25 @@ is-three k a b s n c f e = kind-is k a b s n c f 3 e (omega arith)
 
 module _ {A : Arena} {no by : List ℕ} {v : ℕ} (L : Lent A no by) (S : IsSymbol A v) where
   abbrev start : ℕ
-  start = getD no (v * width + 1) 0
+  start = getD no (v * width + START) 0
 
   abbrev count : ℕ
-  count = getD no (v * width + 2) 0
+  count = getD no (v * width + LENGTH) 0
 
-  symbol-row : node A v ≡ symbol (getD no (v * width + 1) 0) (getD no (v * width + 2) 0)
+  symbol-row : node A v ≡ symbol (getD no (v * width + START) 0) (getD no (v * width + LENGTH) 0)
   symbol-row =
       let e = L .noded .row-at v (S .below) in
       let k : getD no (v * width) 0 ≡ 3 = is-three _ _ _ _ _ _ _ (ap kind (sym e) ∙ S .kind-three) in
       e ∙ row-3 _ _ _ _ _ _ _ k
 
-  symbol-inside : BytesIn A (getD no (v * width + 1) 0) (getD no (v * width + 2) 0)
+  symbol-inside : BytesIn A (getD no (v * width + START) 0) (getD no (v * width + LENGTH) 0)
   symbol-inside = right-row L v (S .below) _ symbol-row
 
-  pub symbol-fits : getD no (v * width + 1) 0 + getD no (v * width + 2) 0 ≤ length by
+  pub symbol-fits : getD no (v * width + START) 0 + getD no (v * width + LENGTH) 0 ≤ length by
   symbol-fits = omega (arith, symbol-inside, L .bytes-fit)
 
   name-bytes : byte-string-bytes (name-of (A .bytes) (node A v)) ≡ integer-bytes count ++ take count (drop start by)
-  unfolding name-of
+  unfolding name-of kind words pick
   name-bytes = ap (λ (r : Row). byte-string-bytes (name-of (A .bytes) r)) symbol-row ∙ string-bytes start count L symbol-inside
 
   -- its number and its name, or a link

@@ -7,9 +7,10 @@ use mathlib.Core.List.{List, [], _∷_}
 use lib.Dec.{eqb}
 use lib.ListN.{length, getD}
 use borrow.Author.Tests.{eq-eqb, ne-eqb}
+use Rattle.definition.specs.Run.{pick}
 use Rattle.definition.specs.Integer.{integer-bytes}
 use Rattle.definition.specs.Kind.{NIL, TRUE, FALSE, FIXNUM}
-use Rattle.definition.specs.Node.{width, Row, nil, bool, fixnum, symbol, kind}
+use Rattle.definition.specs.Node.{width, Row, nil, bool, fixnum, symbol, kind, words}
 use Rattle.definition.specs.Arena.{Arena, node, name-of}
 use Rattle.definition.specs.Dump.{Writer, write, write-name, write-symbol, write-row}
 use Rattle.lists.specs.Rows.{row-1, row-2, row-3, row-nil}
@@ -58,7 +59,7 @@ module _ (room : ℕ) (A : Arena) (level : Writer) (inner : ℕ → Writer) (v :
   false-same x e q = ap (write-row room A level inner v) (e ∙ ap bool (ne-eqb x 1 q))
 
   pub symbol-same : (s l : ℕ) → node A v ≡ symbol s l → write-row room A level inner v (node A v) ≡ write-name room A v
-  unfolding write-row write-name name-of
+  unfolding write-row write-name name-of kind words pick
   symbol-same s l e = ap (write-row room A level inner v) e ∙ sym (ap (λ (r : Row). write-symbol room v (name-of (A .bytes) r)) e)
 
 -- a byte by a test that was made, in either case

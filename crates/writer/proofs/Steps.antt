@@ -14,6 +14,7 @@ use Rattle.definition.specs.Run.{pure, next, _>>=_, pick}
 use Rattle.definition.specs.Node.{kind}
 use Rattle.definition.specs.Arena.{Arena, node}
 use Rattle.definition.specs.Dump.{Written, Writer, _>>_, write, number-in, number-symbol}
+use Rattle.definition.specs.Slice.{greatest-length}
 use Rattle.lists.specs.Lists.{stored-behind}
 use Rattle.writer.specs.Held.{Buffers, buffers, word, marked, marks, Holds, Goes, stopped, Meets}
 
@@ -170,5 +171,5 @@ module _ {A : Arena} {room : ℕ} {sc out : List ℕ} {c : List ℕ} where
   }
 
 -- the number's place is a word
-pub number-fits : {A : Arena} {room : ℕ} {s : Written} {sc out c : List ℕ} → Holds A room s (buffers sc out) c → (v : ℕ) → v < length (A .nodes) → getD sc v 0 ≡ 0 → getD c 1 0 + getD c 2 0 < 2147483647
+pub number-fits : {A : Arena} {room : ℕ} {s : Written} {sc out c : List ℕ} → Holds A room s (buffers sc out) c → (v : ℕ) → v < length (A .nodes) → getD sc v 0 ≡ 0 → getD c 1 0 + getD c 2 0 < greatest-length
 number-fits {sc = sc} H v l e = omega (arith, H .numbered, H .count-symbols, H .count-objects, H .scratch-small, marks-lt sc v (omega (arith, H .scratch-fits)) e)

@@ -6,9 +6,10 @@ use mathlib.Core.Option.{Option, none, some}
 use mathlib.Core.List.{List, [], _∷_}
 use lib.ListN.{length, getD, set, take}
 use Rattle.definition.specs.Run.{Outcome, refused, pure}
-use Rattle.definition.specs.Node.{width, kind, row-of}
+use Rattle.definition.specs.Node.{width, kind, row-of, START, LENGTH, LIST, COUNT, NAME, DEFAULT}
 use Rattle.definition.specs.Arena.{Arena, node}
 use Rattle.definition.specs.Dump.{Written, Writer, number-in}
+use Rattle.definition.specs.Slice.{OUTPUT, greatest-length}
 use Rattle.definition.specs.declared.Refusal.{Refusal}
 use Rattle.definition.specs.declared.Refusal.the-variants.{TooDeep, NoSpace}
 use Rattle.well_formed.specs.Right.{Right}
@@ -37,9 +38,9 @@ marks (x ∷ l) = marked x + marks l
 
 -- A's rows are those of the table
 pub record Noded (A : Arena) (no : List ℕ) : Type 0 where
-  pub nodes-small : length no ≤ 2147483647
+  pub nodes-small : length no ≤ greatest-length
   pub nodes-fit : length (A .nodes) * width ≤ length no
-  pub row-at : (i : ℕ) → i < length (A .nodes) → node A i ≡ row-of (getD no (i * width) 0) (getD no (i * width + 1) 0) (getD no (i * width + 2) 0) (getD no (i * width + 3) 0) (getD no (i * width + 4) 0) (getD no (i * width + 5) 0) (getD no (i * width + 6) 0)
+  pub row-at : (i : ℕ) → i < length (A .nodes) → node A i ≡ row-of (getD no (i * width) 0) (getD no (i * width + START) 0) (getD no (i * width + LENGTH) 0) (getD no (i * width + LIST) 0) (getD no (i * width + COUNT) 0) (getD no (i * width + NAME) 0) (getD no (i * width + DEFAULT) 0)
 
 -- A is well formed, and its rows and bytes are those of the tables
 pub record Lent (A : Arena) (no by : List ℕ) : Type 0 where
@@ -50,13 +51,13 @@ pub record Lent (A : Arena) (no by : List ℕ) : Type 0 where
 
 -- A's references are those of the table
 pub record Listed (A : Arena) (re : List ℕ) : Type 0 where
-  pub references-small : length re ≤ 2147483647
+  pub references-small : length re ≤ greatest-length
   pub references-fit : length (A .references) ≤ length re
   pub references-same : A .references ≡ take (length (A .references)) re
 
 -- output begins with the bytes written; the three counts; in scratch each node's number + 1, or 0
 pub record Holds (A : Arena) (room : ℕ) (s : Written) (B : Buffers) (c : List ℕ) : Type 0 where
-  pub small : room ≤ 2147483647
+  pub small : room ≤ greatest-length
   pub counts : length c ≡ 3
   pub sized : length (B .output) ≡ room
   pub fits : length (s .bytes) ≤ room
@@ -64,7 +65,7 @@ pub record Holds (A : Arena) (room : ℕ) (s : Written) (B : Buffers) (c : List 
   pub count-written : getD c 0 0 ≡ length (s .bytes)
   pub count-symbols : getD c 1 0 ≡ length (s .symbols)
   pub count-objects : getD c 2 0 ≡ length (s .objects)
-  pub scratch-small : length (B .scratch) ≤ 2147483647
+  pub scratch-small : length (B .scratch) ≤ greatest-length
   pub scratch-fits : length (A .nodes) ≤ length (B .scratch)
   pub numbered : length (s .symbols) + length (s .objects) ≡ marks (B .scratch)
   pub symbol-words : (i : ℕ) → i < length (A .nodes) → kind (node A i) ≡ 3 → getD (B .scratch) i 0 ≡ word (number-in (s .symbols) i 0)
@@ -99,7 +100,7 @@ Refuses A room m B c q = (s : Written) → Holds A room s B c → m s ≡ refuse
 
 -- the refusal that an answer of 2 or more says
 unfoldable pub stopped : ℕ → ℕ → Refusal
-stopped limit zero = NoSpace 6
+stopped limit zero = NoSpace OUTPUT
 stopped limit (suc k) = TooDeep limit
 
 -- by the answer: 0, m has come to m'; 2 and more, m is refused

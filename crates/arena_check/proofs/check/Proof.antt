@@ -1,8 +1,7 @@
 -- The proof of check.
 use borrow.Author.Needs.{needs}
 use mathlib.Core.Path.{refl, sym, _∙_}
-use Rattle.definition.specs.Arena.{arena}
-use Rattle.arena_check.specs.Held.{tables}
+use Rattle.definition.specs.Arena.{arena, tables-of}
 use Rattle.arena_check.proofs.Rights.{held, fit-if, checked-in, checked-out}
 use Rattle.arena_check.proofs.check.Statement.{statement}
 use Rattle.arena_check.proofs.check.Tie as tie
@@ -18,7 +17,7 @@ first-faulty-requires c κs =
 returns : tie.Need-returns
 returns c =
     let a = c .before .before .before .before .before .before .args in
-    let T = tables (a .nodes .now) (a .references .now) (a .bytes .now) in
+    let T = tables-of (a .nodes .now) (a .references .now) (a .bytes .now) in
     let t = c .before .if1 .taken in
     let f = c .before .before .counts-fit-at .ensures .1 t in
     (checked-in T (a .counts) _ (sym t ∙ c .before .before .counts-fit-at .ensures .0 T refl refl refl) (c .first-faulty .ensures (arena T (a .counts)) (held T (a .counts) f)), fit-if (c .first-faulty .result) f)
@@ -26,7 +25,7 @@ returns c =
 returns-2 : tie.Need-returns-2
 returns-2 c =
     let a = c .before .before .before .before .before .args in
-    let T = tables (a .nodes .now) (a .references .now) (a .bytes .now) in
+    let T = tables-of (a .nodes .now) (a .references .now) (a .bytes .now) in
     (checked-out T (a .counts) (sym (c .if1 .left) ∙ c .before .counts-fit-at .ensures .0 T refl refl refl), tt)
 
 pub check-spec : {M : Type 1} → statement M

@@ -5,6 +5,7 @@ use Prim.Native.Nat.{_-_, _*_, _≤_}
 use mathlib.Core.Path.{_≡_, sym, _∙_}
 use lib.ListN.{drop}
 use Rattle.definition.specs.Arena.{Arena, faulty}
+use Rattle.definition.specs.Node.{width}
 use Rattle.arena_check.specs.Held.{Held}
 use Rattle.arena_check.proofs.Rights.{faulty-on, faulty-here, faulty-none, faulty-start}
 use Rattle.arena_check.proofs.first_faulty.Statement.{statement}
@@ -12,7 +13,7 @@ use Rattle.arena_check.proofs.first_faulty.Tie as tie
 
 abbrev Inv-loop : tie.InvT-loop
 Inv-loop nodes references count used stored i₀ i =
-    (i ≤ count) × ((A : Arena) → Held A nodes references count used stored → faulty A count 0 nodes ≡ faulty A (count - i) i (drop (i * 7) nodes))
+    (i ≤ count) × ((A : Arena) → Held A nodes references count used stored → faulty A count 0 nodes ≡ faulty A (count - i) i (drop (i * width) nodes))
 
 abbrev μ-loop : tie.MeasureT-loop
 μ-loop nodes references count used stored i₀ i =

@@ -6,6 +6,7 @@ use mathlib.Core.Path.{sym, _∙_}
 use Rattle.arena_check.proofs.Rights.{node-words, node-fixnum, node-in, node-out}
 use Rattle.arena_check.proofs.node_right_at.Statement.{statement}
 use Rattle.arena_check.proofs.node_right_at.Tie as tie
+use Rattle.definition.specs.Node.{width}
 
 mul-at : tie.Need-mul-at
 mul-at c = search needs
@@ -77,7 +78,7 @@ returns : tie.Need-returns
 returns c =
     let start = c .before .before .before .before .before .before .before .before .before .before .before in
     let a = start .args in
-    λ A H. c .all-zero .ensures ∙ node-fixnum A _ _ _ _ _ _ _ _ (node-words (a .nodes .now) (a .i * 7) (omega (arith, start .pre .0, start .pre .1))) (c .before .if1 .taken)
+    λ A H. c .all-zero .ensures ∙ node-fixnum A _ _ _ _ _ _ _ _ (node-words (a .nodes .now) (a .i * width) (omega (arith, start .pre .0, start .pre .1))) (c .before .if1 .taken)
 
 is-row-of-requires : tie.Need-is-row-of-requires
 is-row-of-requires c κs = c .if1 .left
@@ -89,13 +90,13 @@ returns-2 : tie.Need-returns-2
 returns-2 c =
     let start = c .before .before .before .before .before .before .before .before .before .before .before .before .before in
     let a = start .args in
-    λ A H. c .row-right-at .ensures A H ∙ node-in A _ _ _ _ _ _ _ _ (node-words (a .nodes .now) (a .i * 7) (omega (arith, start .pre .0, start .pre .1))) (sym (c .before .if2 .taken) ∙ c .before .before .is-row-of .ensures)
+    λ A H. c .row-right-at .ensures A H ∙ node-in A _ _ _ _ _ _ _ _ (node-words (a .nodes .now) (a .i * width) (omega (arith, start .pre .0, start .pre .1))) (sym (c .before .if2 .taken) ∙ c .before .before .is-row-of .ensures)
 
 returns-3 : tie.Need-returns-3
 returns-3 c =
     let start = c .before .before .before .before .before .before .before .before .before .before .before .before in
     let a = start .args in
-    λ A H. node-out A _ _ _ _ _ _ _ _ (node-words (a .nodes .now) (a .i * 7) (omega (arith, start .pre .0, start .pre .1))) (sym (c .if2 .left) ∙ c .before .is-row-of .ensures)
+    λ A H. node-out A _ _ _ _ _ _ _ _ (node-words (a .nodes .now) (a .i * width) (omega (arith, start .pre .0, start .pre .1))) (sym (c .if2 .left) ∙ c .before .is-row-of .ensures)
 
 pub node-right-at-spec : {M : Type 1} → statement M
 node-right-at-spec =

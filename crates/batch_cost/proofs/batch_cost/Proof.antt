@@ -4,7 +4,7 @@ use mathlib.Core.Path.{sym, ap, _∙_}
 use mathlib.Core.List.{[], _∷_}
 use Rattle.definition.specs.Build.{lent, handles-checked}
 use Rattle.definition.specs.Cost.{cost-done}
-use Rattle.value_arena.proofs.Calls.{accepted, not-accepted, below-of}
+use Rattle.call_check.proofs.Answers.{accepted, not-accepted, below-of}
 use Rattle.well_formed.specs.Checks.{was-checked}
 use Rattle.batch_cost.proofs.Steps.{no-handles, both-handles}
 use Rattle.batch_cost.proofs.batch_cost.Statement.{statement}

@@ -6,7 +6,7 @@ use mathlib.Core.Path.{_≡_, refl, sym, _∙_}
 use lib.ListN.{length, drop}
 use Rattle.definition.specs.Build.{Lent, held}
 use Rattle.definition.specs.Cost.{check-entries}
-use Rattle.value_arena.proofs.Tests.{held-nodes}
+use Rattle.call_check.proofs.Tests.{held-nodes}
 use Rattle.batch_cost.proofs.Steps.{entries-key, entries-value, entries-on, entries-end}
 use Rattle.batch_cost.proofs.check_entries_at.Statement.{statement}
 use Rattle.batch_cost.proofs.check_entries_at.Tie as tie

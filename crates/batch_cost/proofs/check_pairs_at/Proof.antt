@@ -6,7 +6,7 @@ use mathlib.Core.Path.{_≡_, sym, subst}
 use mathlib.Core.List.{List}
 use lib.ListN.{length}
 use Rattle.definition.specs.Cost.{check-entries}
-use Rattle.value_arena.specs.Calls.{Says}
+use Rattle.call_check.specs.Tests.{Says}
 use Rattle.batch_cost.proofs.Rows.{list-is, even-list}
 use Rattle.batch_cost.proofs.check_pairs_at.Statement.{statement}
 use Rattle.batch_cost.proofs.check_pairs_at.Tie as tie

@@ -1,7 +1,7 @@
 -- The proof of check_prices_at.
 use borrow.Author.Needs.{needs}
 use Rattle.definition.specs.Cost.{check-entries, check-prices}
-use Rattle.value_arena.proofs.Calls.{says-on}
+use Rattle.call_check.proofs.Answers.{says-on}
 use Rattle.batch_cost.proofs.Hashes.{prices-no, prices-yes}
 use Rattle.batch_cost.proofs.check_prices_at.Statement.{statement}
 use Rattle.batch_cost.proofs.check_prices_at.Tie as tie

@@ -1,7 +1,7 @@
 -- The proof of check_recipe_at.
 use borrow.Author.Needs.{needs}
 use Rattle.definition.specs.Cost.{check-entries, check-recipe}
-use Rattle.value_arena.proofs.Calls.{says-on}
+use Rattle.call_check.proofs.Answers.{says-on}
 use Rattle.batch_cost.proofs.Hashes.{recipe-no, recipe-many, recipe-yes}
 use Rattle.batch_cost.proofs.check_recipe_at.Statement.{statement}
 use Rattle.batch_cost.proofs.check_recipe_at.Tie as tie

@@ -3,7 +3,7 @@ use borrow.Author.Needs.{needs}
 use mathlib.Core.Path.{sym, ap, _∙_}
 use Rattle.definition.specs.Build.{lent}
 use Rattle.definition.specs.Cost.{surviving, sum, check-recipe, check-prices, cost-done}
-use Rattle.value_arena.proofs.Calls.{accepted, not-accepted}
+use Rattle.call_check.proofs.Answers.{accepted, not-accepted}
 use Rattle.batch_cost.proofs.Rows.{in-table, listed}
 use Rattle.batch_cost.proofs.Hashes.{held-here, recipe-told, prices-told}
 use Rattle.batch_cost.proofs.Steps.{no-recipe, no-prices, costs}

@@ -2,6 +2,7 @@
 use borrow.Author.Needs.{needs}
 use Prim.Native.Nat.{_+_, _*_}
 use native.Mathlib.Omega.{arith}
+use Rattle.definition.specs.Node.{width, LIST}
 use Rattle.definition.specs.Build.{lent}
 use Rattle.costing.proofs.Shape.{root-inside, nodes-inside, not-array, other-number, two-inside, two-elements}
 use Rattle.costing.proofs.cost_root.Statement.{statement}
@@ -74,7 +75,7 @@ size-requires-2 c κs = search needs
 
 mul-recipe : tie.Need-mul-recipe
 mul-recipe c =
-    omega (arith, c .size2 .ensures, c .before .shared-slice-known6 .given (c .before .before .before .before .before .before .size .result * 7 + 3))
+    omega (arith, c .size2 .ensures, c .before .shared-slice-known6 .given (c .before .before .before .before .before .before .size .result * width + LIST))
 
 shared-slice-read-recipe : tie.Need-shared-slice-read-recipe
 shared-slice-read-recipe c =
@@ -85,11 +86,11 @@ shared-slice-read-recipe c =
 
 add-prices : tie.Need-add-prices
 add-prices c =
-    omega (arith, c .before .size2 .ensures, c .before .before .shared-slice-known6 .given (c .before .before .before .before .before .before .before .size .result * 7 + 3))
+    omega (arith, c .before .size2 .ensures, c .before .before .shared-slice-known6 .given (c .before .before .before .before .before .before .before .size .result * width + LIST))
 
 mul-prices : tie.Need-mul-prices
 mul-prices c =
-    omega (arith, c .before .size2 .ensures, c .before .before .shared-slice-known6 .given (c .before .before .before .before .before .before .before .size .result * 7 + 3))
+    omega (arith, c .before .size2 .ensures, c .before .before .shared-slice-known6 .given (c .before .before .before .before .before .before .before .size .result * width + LIST))
 
 shared-slice-read-prices : tie.Need-shared-slice-read-prices
 shared-slice-read-prices c =

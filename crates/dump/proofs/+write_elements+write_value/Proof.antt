@@ -5,7 +5,7 @@ use Prim.Native.Nat.{_+_, _-_, _*_}
 use mathlib.Core.Path.{refl, _∙_}
 use Rattle.writer.specs.Laws.{lead-as, ready-as}
 use Rattle.writer.proofs.Members.{member-below, value-deep, value-row}
-use Rattle.dumper.specs.Laws.{head-linked, head-stop, deep-here}
+use Rattle.object_writer.specs.Laws.{head-linked, head-stop, deep-here}
 use Rattle.dump.proofs.Loops.{Turning, turning-start, shorts-go, rest-ready, turned, all-turned, element-deep, element-goes, element-stops, down, down-list, down-value, list-ready, list-stops, no-default, zero-default, default-ready, with-default}
 use Prim.Native.Nat.{ℕ, _<_}
 use borrow.Fn.Kinds.{In}

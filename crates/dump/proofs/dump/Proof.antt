@@ -1,10 +1,10 @@
 -- The proof of dump.
 use mathlib.Core.Path.{_∙_}
-use Rattle.arena_check.specs.Held.{tables}
 use Rattle.dump.proofs.Whole.{Sound, past, tables-wrong, arena-wrong, ready-start, written-fits, refused-answer, accepted, turned-down}
 use borrow.Author.Needs.{needs}
 use Rattle.dump.proofs.dump.Statement.{statement}
 use Rattle.dump.proofs.dump.Tie as tie
+use Rattle.definition.specs.Arena.{tables-of}
 
 -- where the arena was found well formed
 known : (c : tie.After-enum-told) → let a = c .before .before .before .before .before .before .before .before .before .before .before .args in Sound (a .nodes .now) (a .references .now) (a .bytes .now) (a .counts) (a .scratch .now) (a .output .now) (a .limit) (c .before .before .before .size .result)
@@ -23,7 +23,7 @@ returns : tie.Need-returns
 returns c =
     let a = c .before .before .before .before .before .before .before .args in
     let wrong-slice = c .before .wrong-slice in
-    tables-wrong (tables (a .nodes .now) (a .references .now) (a .bytes .now)) (a .counts) (a .scratch .now) (a .output .now) (a .limit) _ (wrong-slice .ensures .0) (c .if1 .taken)
+    tables-wrong (tables-of (a .nodes .now) (a .references .now) (a .bytes .now)) (a .counts) (a .scratch .now) (a .output .now) (a .limit) _ (wrong-slice .ensures .0) (c .if1 .taken)
 
 size-requires : tie.Need-size-requires
 size-requires c κs = search needs
@@ -95,7 +95,7 @@ returns-3 c =
     let if1 = c .before .before .before .before .before .if1 in
     let check = c .before .before .before .check in
     let f = c .before .f in
-    arena-wrong (tables (a .nodes .now) (a .references .now) (a .bytes .now)) (a .counts) (a .scratch .now) (a .output .now) (a .limit) _ (wrong-slice .ensures .0) (if1 .left) _ _ (check .ensures .0) (f .given .1)
+    arena-wrong (tables-of (a .nodes .now) (a .references .now) (a .bytes .now)) (a .counts) (a .scratch .now) (a .output .now) (a .limit) _ (wrong-slice .ensures .0) (if1 .left) _ _ (check .ensures .0) (f .given .1)
 
 same-length-3 : tie.Need-same-length-3
 same-length-3 c = search needs

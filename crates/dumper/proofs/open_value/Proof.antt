@@ -2,7 +2,7 @@
 use native.Mathlib.Omega.{arith}
 use Rattle.definition.specs.Dump.{write-level, write-value}
 use Rattle.writer.specs.Laws.{ready-as}
-use Rattle.dumper.specs.Laws.{lead-head, head-as, head-whole}
+use Rattle.object_writer.specs.Laws.{lead-head, head-as, head-whole}
 use Rattle.dumper.proofs.Heads.{is-object, array-row, hash-row, low-kind, array-open, hash-open, default-byte, in-array, in-hash}
 use Rattle.dumper.proofs.Bodies.{Here, here, answers-as, text-ready, float-inside, float-first, bignum-first}
 use borrow.Author.Needs.{needs}

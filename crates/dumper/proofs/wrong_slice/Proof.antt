@@ -6,6 +6,7 @@ use mathlib.Core.Path.{_≡_, refl, sym, _∙_}
 use lib.Dec.{ltb}
 use borrow.Author.Tests.{ltb-false}
 use Rattle.definition.specs.Node.{width}
+use Rattle.definition.specs.Slice.{SCRATCH}
 use Rattle.lists.specs.Joined.{or-none}
 use Rattle.lists.specs.Slices.{no-slice, slice, lowest-none, short, tables-right}
 use Rattle.dumper.specs.Lengths.{wrong, Allowed}
@@ -27,7 +28,7 @@ returns c =
     let e = c .wrong-table .ensures .0 _
     (slice 6 _ (c .before .first-wrong3 .ensures) (c3 .before .before .too-long .ensures)
     (slice 7 _ (c .before .before .first-wrong2 .ensures) refl
-    (slice 10 [] (c3 .first-wrong .ensures) (λ i. c3 .before .too-long2 .ensures i || ltb (a .scratch) (a .nodes / width)) no-slice))) in
+    (slice SCRATCH [] (c3 .first-wrong .ensures) (λ i. c3 .before .too-long2 .ensures i || ltb (a .scratch) (a .nodes / width)) no-slice))) in
     (e, λ z. allowed _ _ _ _ (a .limit) (a .scratch) (sym e ∙ z))
 
 pub wrong-slice-spec : {M : Type 1} → statement M

@@ -1,12 +1,10 @@
 -- The proof of load_at.
 use borrow.Author.Needs.{needs}
 use native.Mathlib.Omega.{arith}
-use Prim.Native.Nat.{ℕ}
-use mathlib.Core.Path.{refl, _∙_, ap}
-use mathlib.Core.List.{List}
+use mathlib.Core.Path.{refl, _∙_}
 use mathlib.Core.Logic.{inl}
-use Rattle.definition.specs.Load.{lists, load-call}
-use Rattle.load.proofs.Whole.{rest-at}
+use Rattle.definition.specs.Load.{lists}
+use Rattle.load.proofs.Whole.{loaded-at}
 use Rattle.load.proofs.load_at.Statement.{statement}
 use Rattle.load.proofs.load_at.Tie as tie
 
@@ -22,8 +20,8 @@ part-load-whole-start c = search needs
 part-load-whole-end : tie.Need-part-load-whole-end
 part-load-whole-end c = search needs
 
-array-borrow-prefix-none : tie.Need-array-borrow-prefix-none
-array-borrow-prefix-none c = search needs
+array-borrow-prefix-no-buckets : tie.Need-array-borrow-prefix-no-buckets
+array-borrow-prefix-no-buckets c = search needs
 
 slice-aggregate-load-whole : tie.Need-slice-aggregate-load-whole
 slice-aggregate-load-whole c = search needs
@@ -52,8 +50,7 @@ returns c =
     let c20 = c12 .before .before .before .before .before .before .before .before in
     let c27 = c20 .before .before .before .before .before .before .before in
     let a = c27 .args in
-    let i = c20 .inside .ensures in
-    c12 .load-whole .ensures .0 refl ∙ ap (λ (l : List ℕ). load-call l (lists (a .nodes .now) (a .references .now) (a .bytes .now) (a .symbols .now) (a .objects .now)) (a .limit)) (rest-at (a .input .now) (a .at) _ i)
+    c12 .load-whole .ensures .0 refl ∙ loaded-at (a .input .now) (a .at) _ (lists (a .nodes .now) (a .references .now) (a .bytes .now) (a .symbols .now) (a .objects .now)) (a .limit) (c20 .inside .ensures)
 
 pub load-at-spec : {M : Type 1} → statement M
 load-at-spec =
@@ -63,7 +60,7 @@ load-at-spec =
     sub-load-whole
     part-load-whole-start
     part-load-whole-end
-    array-borrow-prefix-none
+    array-borrow-prefix-no-buckets
     slice-aggregate-load-whole
     load-whole-requires
     same-length

@@ -6,8 +6,8 @@ use mathlib.Core.Logic.{inl}
 use Rattle.load.proofs.load_measured.Statement.{statement}
 use Rattle.load.proofs.load_measured.Tie as tie
 
-array-borrow-prefix-none : tie.Need-array-borrow-prefix-none
-array-borrow-prefix-none c = search needs
+array-borrow-prefix-no-buckets : tie.Need-array-borrow-prefix-no-buckets
+array-borrow-prefix-no-buckets c = search needs
 
 slice-aggregate-load-whole : tie.Need-slice-aggregate-load-whole
 slice-aggregate-load-whole c = search needs
@@ -39,7 +39,7 @@ pub load-measured-spec : {M : Type 1} → statement M
 load-measured-spec =
     tie.close
     (tie.spec
-    array-borrow-prefix-none
+    array-borrow-prefix-no-buckets
     slice-aggregate-load-whole
     load-whole-requires
     same-length

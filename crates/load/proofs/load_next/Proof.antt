@@ -41,12 +41,11 @@ use denote.Triple.Table.{entered, cited}
 use denote.Triple.Walked.{says, Stays, stay-none, gave-slice, walkOf, goes-none, goes-gave-slice, Walks, ends-at, walked, walk-meets}
 use denote.Exit.{yes}
 use denote.Triple.Clauses.{ensured, Lasts, lasts}
-use Rattle.definition.specs.Load.{lists}
+use Rattle.definition.specs.Load.{lists, load-call-of}
 use Rattle.definition.specs.Reader.{load-next}
 use Rattle.definition.specs.declared.Loaded.{Loaded}
 use Rattle.definition.proofs.Loaded as S
 use Rattle.definition.proofs.Loaded.Laws as S′
-use Rattle.load.specs.Call.{call}
 use Rattle.reader.specs.declared.Reader.{Reader}
 use Rattle.reader.proofs.Reader as T
 use Rattle.reader.proofs.Reader.Laws as T′
@@ -131,7 +130,7 @@ module _ {M : Type 1} (𝓤 : URA M) (H : Heap 𝓤) (A : Atoms 𝓤) (W : Given
       move ! (1 ∷ []) $ drop ! $ move ! (2 ∷ []) $ owned ! usize (Is usize) (uint-makes 𝓤 H A W w64) (d .offset) _ (refl, fits) $ fjoin ! $ move ! (1 ∷ 0 ∷ []) $ fjoin ! $
       move ! (2 ∷ 0 ∷ []) $ use2 W (raw (Callee 𝓤 H A mem run .pre to)) asked $ frame ! $ done !)
 
-  exits : (r : Loaded) (u : Val) (z1 z2 z3 z4 z5 : List ℕ) → call r (lists z1 z2 z3 z4 z5) ≡ load-next (now (d .input)) (d .offset) (lists (now x1) (now x2) (now x3) (now x4) (now x5)) n
+  exits : (r : Loaded) (u : Val) (z1 z2 z3 z4 z5 : List ℕ) → load-call-of r (lists z1 z2 z3 z4 z5) ≡ load-next (now (d .input)) (d .offset) (lists (now x1) (now x2) (now x3) (now x4) (now x5)) n
       → length z1 ≡ length (now x1) → length z2 ≡ length (now x2) → length z3 ≡ length (now x3) → length z4 ≡ length (now x4) → length z5 ≡ length (now x5)
       → ent 𝓤 (⋆ 𝓤 H A (‵ (S.the-row .own r (u ∷ [])) ∷ token ∷ ‵ (finally u32 (x5 .name) z5) ∷ ‵ (finally u32 (x4 .name) z4) ∷ ‵ (finally u8 (x3 .name) z3) ∷ ‵ (finally u32 (x2 .name) z2) ∷ ‵ (finally u32 (x1 .name) z1) ∷ ‵ Own ∷ [])) (Post u)
   exits r u z1 z2 z3 z4 z5 e l1 l2 l3 l4 l5 =
@@ -163,8 +162,8 @@ module _ {M : Type 1} (𝓤 : URA M) (H : Heap 𝓤) (A : Atoms 𝓤) (W : Given
         calls-at ! fm (Callee 𝓤 H A mem run) known to (and-then ! (load ! (from ! (stop !)) (look ! 24 refl)) (and-then ! (load ! (from ! (stop !)) (look ! 22 refl)) (and-then ! (load ! (from ! (stop !)) (look ! 18 refl)) (and-then ! (load ! (from ! (stop !)) (look ! 14 refl)) (and-then ! (load ! (from ! (stop !)) (look ! 10 refl)) (and-then ! (load ! (from ! (stop !)) (look ! 6 refl)) (and-then ! (load ! (from ! (stop !)) (look ! 2 refl)) (and-then ! (load ! (from ! (stop !)) (look ! 26 refl)) (no-more !))))))))) (λ u.
         use1 W (later (some (λ (r : Loaded). (token ⊛ ‵ (S.the-row .own r (u ∷ []))) ⊛ raw (ensured 𝓤 H A load-at.ended (load-at.clauses 𝓤 H A mem run) κs to-args tt r)))) (id⊢ 𝓤 _) $ await ! tt $ pick ! (λ r.
         -- what the callee ensures, at some last lists
-        split ! $ move ! (1 ∷ []) $ use1 W (some (λ (zs : Lasts load-at.ended κs to-args). ‵ (lasts load-at.ended κs to-args zs) ⊛ raw (fact 𝓤 (call r (lists (zs .1 .1 .0) (zs .1 .1 .1 .0) (zs .1 .1 .1 .1 .0) (zs .1 .1 .1 .1 .1 .0) (zs .1 .1 .1 .1 .1 .1 .0)) ≡ load-next (now (d .input)) (d .offset) (lists (now x1) (now x2) (now x3) (now x4) (now x5)) n)))) (id⊢ 𝓤 _) $ pick ! (λ zs.
-        split ! $ move ! (1 ∷ []) $ heard ! (call r (lists (zs .1 .1 .0) (zs .1 .1 .1 .0) (zs .1 .1 .1 .1 .0) (zs .1 .1 .1 .1 .1 .0) (zs .1 .1 .1 .1 .1 .1 .0)) ≡ load-next (now (d .input)) (d .offset) (lists (now x1) (now x2) (now x3) (now x4) (now x5)) n) (λ said.
+        split ! $ move ! (1 ∷ []) $ use1 W (some (λ (zs : Lasts load-at.ended κs to-args). ‵ (lasts load-at.ended κs to-args zs) ⊛ raw (fact 𝓤 (load-call-of r (lists (zs .1 .1 .0) (zs .1 .1 .1 .0) (zs .1 .1 .1 .1 .0) (zs .1 .1 .1 .1 .1 .0) (zs .1 .1 .1 .1 .1 .1 .0)) ≡ load-next (now (d .input)) (d .offset) (lists (now x1) (now x2) (now x3) (now x4) (now x5)) n)))) (id⊢ 𝓤 _) $ pick ! (λ zs.
+        split ! $ move ! (1 ∷ []) $ heard ! (load-call-of r (lists (zs .1 .1 .0) (zs .1 .1 .1 .0) (zs .1 .1 .1 .1 .0) (zs .1 .1 .1 .1 .1 .0) (zs .1 .1 .1 .1 .1 .1 .0)) ≡ load-next (now (d .input)) (d .offset) (lists (now x1) (now x2) (now x3) (now x4) (now x5)) n) (λ said.
         fsplit ! $ drop ! $ fsplit ! $ drop ! $
         fsplit ! $ fsplit ! $ move ! (1 ∷ []) $ feqL ! (λ m1. move ! (1 ∷ []) $
         fsplit ! $ fsplit ! $ move ! (1 ∷ []) $ feqL ! (λ m2. move ! (1 ∷ []) $

@@ -3,8 +3,8 @@ use borrow.Author.Needs.{needs}
 use native.Mathlib.Omega.{arith}
 use mathlib.Core.Path.{refl, _∙_}
 use Rattle.definition.specs.Load.{lists, room-of}
-use Rattle.loader.specs.Holds.{Held, lent, by-buckets}
-use Rattle.loader.proofs.Laws.{held}
+use Rattle.load_state.specs.Holds.{Held, lent, by-buckets}
+use Rattle.load_state.specs.Laws.{held}
 use Rattle.value_reader.specs.Root.{whole}
 use Rattle.load.proofs.Whole.{held-begin, not-taken, loaded, load-refused, lists-same, emptied}
 use Rattle.load.proofs.load_whole.Statement.{statement}
@@ -169,12 +169,12 @@ array-read-zero-words c = search needs
 mul-zero-words : tie.Need-mul-zero-words
 mul-zero-words c =
     let G = held-root (c .before) .holds in
-    record { fits = omega (arith, G .count-nodes, G .room-nodes, G .small .nodes) }
+    record { fits = omega (arith, G .counted .count-nodes, G .counted .room-nodes, G .fixed .small .nodes) }
 
 zero-words-requires-7 : tie.Need-zero-words-requires-7
 zero-words-requires-7 c κs =
     let G = held-root (c .before) .holds in
-    omega (arith, G .count-nodes, G .room-nodes, G .nodes .sized)
+    omega (arith, G .counted .count-nodes, G .counted .room-nodes, G .laid .nodes .sized)
 
 array-read-zero-words-2 : tie.Need-array-read-zero-words-2
 array-read-zero-words-2 c = search needs
@@ -183,7 +183,7 @@ zero-words-requires-8 : tie.Need-zero-words-requires-8
 zero-words-requires-8 c κs =
     let c5 = c .before .before .before .before .before in
     let G = held-root c5 .holds in
-    omega (arith, G .count-references, G .references .fits, G .references .sized)
+    omega (arith, G .counted .count-references, G .laid .references .fits, G .laid .references .sized)
 
 array-read-zero-bytes : tie.Need-array-read-zero-bytes
 array-read-zero-bytes c = search needs
@@ -192,7 +192,7 @@ zero-bytes-requires-2 : tie.Need-zero-bytes-requires-2
 zero-bytes-requires-2 c κs =
     let c9 = c .before .before .before .before .before .before .before .before .before in
     let G = held-root c9 .holds in
-    omega (arith, G .count-bytes, G .bytes .fits, G .bytes .sized)
+    omega (arith, G .counted .count-bytes, G .laid .bytes .fits, G .laid .bytes .sized)
 
 array-read-t18 : tie.Need-array-read-t18
 array-read-t18 c = search needs

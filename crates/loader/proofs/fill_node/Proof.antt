@@ -1,7 +1,7 @@
 -- The proof of fill_node.
 use borrow.Author.Needs.{needs}
 use mathlib.Core.Path.{refl}
-use Rattle.loader.proofs.Steps.{row-filled}
+use Rattle.table_writer.proofs.Added.{row-filled}
 use Rattle.loader.proofs.fill_node.Statement.{statement}
 use Rattle.loader.proofs.fill_node.Tie as tie
 

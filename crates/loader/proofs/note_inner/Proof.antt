@@ -1,7 +1,7 @@
 -- The proof of note_inner.
 use borrow.Author.Needs.{needs}
 use mathlib.Core.Path.{sym, _∙_}
-use Rattle.loader.proofs.Readers.{after-takes, after-other}
+use Rattle.loader.proofs.Variables.{after-takes, after-other}
 use Rattle.loader.proofs.note_inner.Statement.{statement}
 use Rattle.loader.proofs.note_inner.Tie as tie
 

@@ -4,11 +4,12 @@ use native.Mathlib.Omega.{arith}
 use Prim.Native.Nat.{ℕ, _+_, _-_, _*_}
 use mathlib.Core.Path.{_≡_, sym, ap, _∙_}
 use Rattle.definition.specs.Load.{read-count, counted}
-use Rattle.loader.specs.Holds.{lent, references-of}
-use Rattle.loader.proofs.Counts.{is}
-use Rattle.loader.proofs.Laws.{held, lead-first, lead-after, lead-stop, goes-first, goes-to, given}
-use Rattle.loader.proofs.Readers.{twice-at-most}
-use Rattle.loader.proofs.Steps.{words-reserved, words-short}
+use Rattle.load_state.specs.Holds.{lent, references-of}
+use Rattle.load_state.specs.Counts.{is}
+use Rattle.load_state.specs.Laws.{held, lead-first, lead-after, lead-stop, goes-first, goes-to, given}
+use Rattle.load_state.specs.Needs.{twice-at-most}
+use Rattle.table_writer.proofs.Added.{words-reserved, words-short}
+use Rattle.load_state.specs.Places.{REFERENCES}
 use Rattle.loader.proofs.read_words.Statement.{statement}
 use Rattle.loader.proofs.read_words.Tie as tie
 
@@ -32,10 +33,7 @@ sub-if2 : tie.Need-sub-if2
 sub-if2 c =
     let c6 = c .before .before .before .before .before .before in
     let H = held {m = λ room. read-count _} {m' = λ room. _} (c6 .pre .1 .4) (c .before .if1 .left) (λ room. c .before .before .read-count .ensures .0 room 0 _) in
-    omega (arith, H .holds .count-references, H .holds .references .fits, H .holds .references .sized)
-
-add-result : tie.Need-add-result
-add-result c = search needs
+    omega (arith, H .holds .counted .count-references, H .holds .laid .references .fits, H .holds .laid .references .sized)
 
 returns-2 : tie.Need-returns-2
 unfolding counted
@@ -50,7 +48,7 @@ zero-range-requires c κs =
     let c3 = c .before .before .before in
     let c8 = c3 .before .before .before .before .before in
     let H = held {m = λ room. read-count _} {m' = λ room. _} (c8 .pre .1 .4) (c3 .if1 .left) (λ room. c3 .before .read-count .ensures .0 room 0 _) in
-    omega (arith, H .holds .count-references, H .holds .references .fits, H .holds .references .sized, c .before .if2 .left)
+    omega (arith, H .holds .counted .count-references, H .holds .laid .references .fits, H .holds .laid .references .sized, c .before .if2 .left)
 
 add-c : tie.Need-add-c
 add-c c =
@@ -58,7 +56,7 @@ add-c c =
     let c7 = c4 .before .before .before in
     let c11 = c7 .before .before .before .before in
     let H = held {m = λ room. read-count _} {m' = λ room. _} (c11 .pre .1 .4) (c4 .before .before .if1 .left) (λ room. c7 .read-count .ensures .0 room 0 _) in
-    record { fits = omega (arith, H .holds .small, H .holds .count-references, H .holds .references .fits, H .holds .references .sized, c4 .if2 .left) }
+    record { fits = omega (arith, H .holds .fixed .small, H .holds .counted .count-references, H .holds .laid .references .fits, H .holds .laid .references .sized, c4 .if2 .left) }
 
 element-write-c : tie.Need-element-write-c
 element-write-c c = search needs
@@ -78,7 +76,7 @@ returns-3 c =
     let l = c-read-count .last .1 .0 in
     let n = c-read-count .result in
     let w = n * c11 .args .each in
-    let e = is 2 (references-of l + w) l (H .holds .counts) (omega arith) in
+    let e = is REFERENCES (references-of l + w) l (H .holds .fixed .ten) (omega arith) in
     let start : references-of l ≡ references-of l + w - w = omega arith in (
       λ room limit no by sy ob k.
           lead-after (lead-first _ (c-read-count .ensures .0 room limit _) .goes (c-if1 .left))
@@ -95,7 +93,6 @@ read-words-spec =
     element-copy-out-at
     mul-k
     sub-if2
-    add-result
     returns-2
     zero-range-requires
     add-c

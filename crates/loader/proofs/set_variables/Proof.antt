@@ -2,7 +2,7 @@
 use borrow.Author.Needs.{needs}
 use native.Mathlib.Omega.{arith}
 use mathlib.Core.Path.{refl}
-use Rattle.loader.proofs.Steps.{variables-set, variables-refused}
+use Rattle.loader.proofs.Variables.{variables-set, variables-refused}
 use Rattle.loader.proofs.set_variables.Statement.{statement}
 use Rattle.loader.proofs.set_variables.Tie as tie
 

@@ -1,7 +1,7 @@
 -- The proof of takes_next.
 use borrow.Author.Needs.{needs}
 use mathlib.Core.Path.{sym}
-use Rattle.loader.proofs.Readers.{takes-string, takes-other, takes-past}
+use Rattle.loader.proofs.Variables.{takes-string, takes-other, takes-past}
 use Rattle.loader.proofs.takes_next.Statement.{statement}
 use Rattle.loader.proofs.takes_next.Tie as tie
 

@@ -4,7 +4,7 @@ use mathlib.Core.Path.{sym, ap, _∙_}
 use mathlib.Core.Bool.{Bool, _||_}
 use borrow.Author.Tests.{lt-ltb, le-ltb}
 use Rattle.definition.specs.Arena.{too-long}
-use Rattle.definition.specs.Load.{bad-buckets}
+use Rattle.definition.specs.LoadHashed.{bad-buckets}
 use Rattle.loader.proofs.wrong_buckets.Statement.{statement}
 use Rattle.loader.proofs.wrong_buckets.Tie as tie
 

@@ -4,7 +4,7 @@ use mathlib.Core.Bool.{Bool}
 use mathlib.Core.Path.{_≡_, refl, sym, _∙_}
 use mathlib.Core.List.{[]}
 use Rattle.lists.specs.Slices.{no-slice, slice, lowest-none, short, tables-right}
-use Rattle.loader.specs.Holds.{wrong, Allowed}
+use Rattle.loader.specs.Lengths.{wrong, Allowed}
 use Rattle.loader.proofs.wrong_slice.Statement.{statement}
 use Rattle.loader.proofs.wrong_slice.Tie as tie
 

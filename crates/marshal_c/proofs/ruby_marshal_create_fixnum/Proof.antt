@@ -3,7 +3,7 @@ use borrow.Author.Needs.{needs}
 use mathlib.Core.Path.{ap, _∙_}
 use lib.IntN.{ℤ}
 use mir.Facts.{toZ-ofZ}
-use Rattle.definition.specs.Load.{counts}
+use Rattle.definition.specs.Arena.{counts-of}
 use Rattle.definition.specs.Build.{lent, build-call, create-fixnum}
 use Rattle.marshal_c.proofs.Laws.{build-few, build-told}
 use Rattle.marshal_c.proofs.ruby_marshal_create_fixnum.Statement.{statement}
@@ -28,7 +28,7 @@ returns-2 : tie.Need-returns-2
 returns-2 c =
     let start = c .before .before .before .before .before .before .before .before .before .before .before .before .before in
     let a = start .args in
-    build-told _ _ (c .before .before .before .before .before .before .before .before .if1 .left) (c .before .before .tell-created .ensures) (c .before .before .before .before .before .before .create-fixnum .ensures ∙ ap (λ (v : ℤ). build-call (create-fixnum v) (lent (a .nodes .now) (a .references .now) (a .bytes .now) (counts (a .node-count) (a .reference-count) (a .byte-count) (a .root)))) (toZ-ofZ (start .fits .value)))
+    build-told _ _ (c .before .before .before .before .before .before .before .before .if1 .left) (c .before .before .tell-created .ensures) (c .before .before .before .before .before .before .create-fixnum .ensures ∙ ap (λ (v : ℤ). build-call (create-fixnum v) (lent (a .nodes .now) (a .references .now) (a .bytes .now) (counts-of (a .node-count) (a .reference-count) (a .byte-count) (a .root)))) (toZ-ofZ (start .fits .value)))
 
 pub ruby-marshal-create-fixnum-spec : {M : Type 1} → statement M
 ruby-marshal-create-fixnum-spec =

@@ -1,55 +1,31 @@
 -- The proof of header_from.
 use borrow.Author.Needs.{needs}
-use mathlib.Core.Path.{refl, ap, _∙_}
-use Rattle.reader.specs.From.{not-taken}
-use Rattle.reader.proofs.Froms.{header-past, header-refused, header-there}
+use mathlib.Core.Path.{sym, ap, _∙_}
+use Rattle.definition.specs.Load.{read-header}
+use Rattle.definition.specs.Reader.{header-taken}
+use Rattle.reader.proofs.Froms.{denied, granted}
 use Rattle.reader.proofs.header_from.Statement.{statement}
 use Rattle.reader.proofs.header_from.Tie as tie
+
+too-long-requires : tie.Need-too-long-requires
+too-long-requires c κs = search needs
 
 not-taken-requires : tie.Need-not-taken-requires
 not-taken-requires c κs = search needs
 
 returns : tie.Need-returns
+unfolding header-taken
 returns c =
-    let a = c .before .before .before .args in
-    c .not-taken .ensures ∙ header-past (a .input .now) (a .at) (c .before .if1 .taken)
+    let a = c .before .before .before .before .args in
+    c .not-taken .ensures ∙ ap (header-taken (a .at)) (denied (a .input .now) (a .at) (read-header (a .input .now)) (sym (c .before .if1 .taken) ∙ c .before .before .too-long .ensures))
 
-header-at-requires : tie.Need-header-at-requires
-header-at-requires c κs = search needs
-
-refusal-of-requires : tie.Need-refusal-of-requires
-refusal-of-requires c κs = search needs
-
-not-taken-requires-2 : tie.Need-not-taken-requires-2
-not-taken-requires-2 c κs = search needs
+take-header-requires : tie.Need-take-header-requires
+take-header-requires c κs = search needs
 
 returns-2 : tie.Need-returns-2
 returns-2 c =
-    let c3 = c .before .before .before in
-    let a = c3 .before .before .before .args in
-    c .not-taken2 .ensures ∙ ap (λ q. not-taken q (a .at)) (c .before .refusal-of .ensures) ∙ header-refused (a .input .now) (a .at) (c3 .header-at .ensures .0 .stops (c .before .before .if2 .taken) 0 _ refl)
-
-add-took : tie.Need-add-took
-add-took c = search needs
-
-took-requires : tie.Need-took-requires
-took-requires c κs = search needs
-
-returns-3 : tie.Need-returns-3
-returns-3 c =
-    let a = c .before .before .before .before .before .args in
-    c .took .ensures ∙ header-there (a .input .now) (a .at) _ (c .before .before .header-at .ensures .0 .reads (c .before .if2 .left) _ refl)
+    let a = c .before .before .before .before .args in
+    c .take-header .ensures ∙ ap (header-taken (a .at)) (granted (a .input .now) (a .at) (read-header (a .input .now)) (sym (c .before .if1 .left) ∙ c .before .before .too-long .ensures))
 
 pub header-from-spec : {M : Type 1} → statement M
-header-from-spec =
-    tie.close
-    (tie.spec
-    not-taken-requires
-    returns
-    header-at-requires
-    refusal-of-requires
-    not-taken-requires-2
-    returns-2
-    add-took
-    took-requires
-    returns-3)
+header-from-spec = tie.close (tie.spec too-long-requires not-taken-requires returns take-header-requires returns-2)

@@ -1,8 +1,7 @@
 -- The proof of answer_numbers.
 use borrow.Author.Needs.{needs}
 use mathlib.Core.Path.{sym, ap, _∙_}
-use Rattle.definition.specs.Refused.{answer-numbers}
-use Rattle.refusal.specs.Shown.{shown}
+use Rattle.definition.specs.Refused.{answer-numbers, below, size, told, numbers-told, answer-told}
 use Rattle.refusal.proofs.answer_numbers.Statement.{statement}
 use Rattle.refusal.proofs.answer_numbers.Tie as tie
 
@@ -19,14 +18,14 @@ numbers-of-requires : tie.Need-numbers-of-requires
 numbers-of-requires c κs = search needs
 
 returns : tie.Need-returns
-unfolding answer-numbers
+unfolding answer-told numbers-told answer-numbers told below size
 returns c =
-    ap shown (c .plain .ensures) ∙ ap answer-numbers (sym (c .before .enum-told .given .1))
+    c .plain .ensures ∙ ap answer-told (sym (c .before .enum-told .given .1))
 
 returns-2 : tie.Need-returns-2
-unfolding answer-numbers
+unfolding answer-told numbers-told answer-numbers told below size
 returns-2 c =
-    c .numbers-of .ensures ∙ ap answer-numbers (sym (c .before .before .a .given .1))
+    c .numbers-of .ensures ∙ ap answer-told (sym (c .before .before .a .given .1))
 
 pub answer-numbers-spec : {M : Type 1} → statement M
 answer-numbers-spec =

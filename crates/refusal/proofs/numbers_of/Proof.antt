@@ -1,11 +1,10 @@
 -- The proof of numbers_of.
 use borrow.Author.Needs.{needs}
 use mathlib.Core.Path.{sym, ap, _∙_}
-use Rattle.refusal.proofs.Signs.{not-below, below}
+use Rattle.refusal.proofs.Signs.{from-zero-up, below-zero}
 use Rattle.definition.specs.Run.{pick}
-use Rattle.definition.specs.Refused.{numbers, signed, place}
+use Rattle.definition.specs.Refused.{numbers, signed, place, below, size, told, numbers-told}
 use Rattle.definition.specs.declared.Refusal.the-variants.{BadArena}
-use Rattle.refusal.specs.Shown.{shown}
 use Rattle.refusal.proofs.numbers_of.Statement.{statement}
 use Rattle.refusal.proofs.numbers_of.Tie as tie
 
@@ -166,119 +165,117 @@ plain-requires-21 : tie.Need-plain-requires-21
 plain-requires-21 c κs = search needs
 
 returns : tie.Need-returns
-unfolding numbers signed place pick
+unfolding numbers-told numbers told place below size
 returns c =
-    ap shown (c .plain .ensures) ∙ ap numbers (sym (c .before .before .q .given .1))
+    c .plain .ensures ∙ ap numbers-told (sym (c .before .before .q .given .1))
 
 returns-2 : tie.Need-returns-2
-unfolding numbers signed place pick
+unfolding numbers-told numbers told place below size
 returns-2 c =
-    ap numbers (sym (c .before .before .before .q2 .given .1 ∙ ap BadArena (c .enum-told .given .1)))
+    ap numbers-told (sym (c .before .before .before .q2 .given .1 ∙ ap BadArena (c .enum-told .given .1)))
 
 returns-3 : tie.Need-returns-3
-unfolding numbers signed place pick
+unfolding numbers-told numbers told place below size
 returns-3 c =
-    ap shown (c .plain2 .ensures) ∙ ap numbers (sym (c .before .before .before .before .before .q2 .given .1 ∙ ap BadArena (c .before .before .fault .given .1)))
+    c .plain2 .ensures ∙ ap numbers-told (sym (c .before .before .before .before .before .q2 .given .1 ∙ ap BadArena (c .before .before .fault .given .1)))
 
 returns-4 : tie.Need-returns-4
-unfolding numbers signed place pick
+unfolding numbers-told numbers told place below size
 returns-4 c =
-    ap shown (c .plain3 .ensures) ∙ ap numbers (sym (c .before .before .q3 .given .1))
+    c .plain3 .ensures ∙ ap numbers-told (sym (c .before .before .q3 .given .1))
 
 returns-5 : tie.Need-returns-5
-unfolding numbers signed place pick
+unfolding numbers-told numbers told place below size
 returns-5 c =
-    ap shown (c .plain4 .ensures) ∙ ap numbers (sym (c .before .enum-told2 .given .1))
+    c .plain4 .ensures ∙ ap numbers-told (sym (c .before .enum-told2 .given .1))
 
 returns-6 : tie.Need-returns-6
-unfolding numbers signed place pick
+unfolding numbers-told numbers told place below size
 returns-6 c =
-    ap shown (c .plain5 .ensures) ∙ ap numbers (sym (c .before .before .q4 .given .1))
+    c .plain5 .ensures ∙ ap numbers-told (sym (c .before .before .q4 .given .1))
 
 returns-7 : tie.Need-returns-7
-unfolding numbers place
 returns-7 c =
-    ap shown (c .plain6 .ensures) ∙ not-below _ (c .before .if1 .taken) ∙ ap numbers (sym (c .before .before .before .q5 .given .1))
+    c .plain6 .ensures ∙ from-zero-up _ (c .before .if1 .taken) ∙ ap numbers-told (sym (c .before .before .before .q5 .given .1))
 
 returns-8 : tie.Need-returns-8
-unfolding numbers place
 returns-8 c =
-    below _ (c .if1 .left) ∙ ap numbers (sym (c .before .before .q5 .given .1))
+    below-zero _ (c .if1 .left) ∙ ap numbers-told (sym (c .before .before .q5 .given .1))
 
 returns-9 : tie.Need-returns-9
-unfolding numbers signed place pick
+unfolding numbers-told numbers told place below size
 returns-9 c =
-    ap shown (c .plain7 .ensures) ∙ ap numbers (sym (c .before .before .q6 .given .1))
+    c .plain7 .ensures ∙ ap numbers-told (sym (c .before .before .q6 .given .1))
 
 returns-10 : tie.Need-returns-10
-unfolding numbers signed place pick
+unfolding numbers-told numbers told place below size
 returns-10 c =
-    ap shown (c .plain8 .ensures) ∙ ap numbers (sym (c .before .before .q7 .given .1))
+    c .plain8 .ensures ∙ ap numbers-told (sym (c .before .before .q7 .given .1))
 
 returns-11 : tie.Need-returns-11
-unfolding numbers signed place pick
+unfolding numbers-told numbers told place below size
 returns-11 c =
-    ap shown (c .plain9 .ensures) ∙ ap numbers (sym (c .before .before .q8 .given .1))
+    c .plain9 .ensures ∙ ap numbers-told (sym (c .before .before .q8 .given .1))
 
 returns-12 : tie.Need-returns-12
-unfolding numbers signed place pick
+unfolding numbers-told numbers told place below size
 returns-12 c =
-    ap shown (c .plain10 .ensures) ∙ ap numbers (sym (c .before .enum-told3 .given .1))
+    c .plain10 .ensures ∙ ap numbers-told (sym (c .before .enum-told3 .given .1))
 
 returns-13 : tie.Need-returns-13
-unfolding numbers signed place pick
+unfolding numbers-told numbers told place below size
 returns-13 c =
-    ap shown (c .plain11 .ensures) ∙ ap numbers (sym (c .before .before .q9 .given .1))
+    c .plain11 .ensures ∙ ap numbers-told (sym (c .before .before .q9 .given .1))
 
 returns-14 : tie.Need-returns-14
-unfolding numbers signed place pick
+unfolding numbers-told numbers told place below size
 returns-14 c =
-    ap shown (c .plain12 .ensures) ∙ ap numbers (sym (c .before .before .q10 .given .1))
+    c .plain12 .ensures ∙ ap numbers-told (sym (c .before .before .q10 .given .1))
 
 returns-15 : tie.Need-returns-15
-unfolding numbers signed place pick
+unfolding numbers-told numbers told place below size
 returns-15 c =
-    ap shown (c .plain13 .ensures) ∙ ap numbers (sym (c .before .before .q11 .given .1))
+    c .plain13 .ensures ∙ ap numbers-told (sym (c .before .before .q11 .given .1))
 
 returns-16 : tie.Need-returns-16
-unfolding numbers signed place pick
+unfolding numbers-told numbers told place below size
 returns-16 c =
-    ap shown (c .plain14 .ensures) ∙ ap numbers (sym (c .before .before .q12 .given .1))
+    c .plain14 .ensures ∙ ap numbers-told (sym (c .before .before .q12 .given .1))
 
 returns-17 : tie.Need-returns-17
-unfolding numbers signed place pick
+unfolding numbers-told numbers told place below size
 returns-17 c =
-    ap shown (c .plain15 .ensures) ∙ ap numbers (sym (c .before .before .q13 .given .1))
+    c .plain15 .ensures ∙ ap numbers-told (sym (c .before .before .q13 .given .1))
 
 returns-18 : tie.Need-returns-18
-unfolding numbers signed place pick
+unfolding numbers-told numbers told place below size
 returns-18 c =
-    ap shown (c .plain16 .ensures) ∙ ap numbers (sym (c .before .before .q14 .given .1))
+    c .plain16 .ensures ∙ ap numbers-told (sym (c .before .before .q14 .given .1))
 
 returns-19 : tie.Need-returns-19
-unfolding numbers signed place pick
+unfolding numbers-told numbers told place below size
 returns-19 c =
-    ap shown (c .plain17 .ensures) ∙ ap numbers (sym (c .before .before .q15 .given .1))
+    c .plain17 .ensures ∙ ap numbers-told (sym (c .before .before .q15 .given .1))
 
 returns-20 : tie.Need-returns-20
-unfolding numbers signed place pick
+unfolding numbers-told numbers told place below size
 returns-20 c =
-    ap shown (c .plain18 .ensures) ∙ ap numbers (sym (c .before .enum-told4 .given .1))
+    c .plain18 .ensures ∙ ap numbers-told (sym (c .before .enum-told4 .given .1))
 
 returns-21 : tie.Need-returns-21
-unfolding numbers signed place pick
+unfolding numbers-told numbers told place below size
 returns-21 c =
-    ap shown (c .plain19 .ensures) ∙ ap numbers (sym (c .before .before .q16 .given .1))
+    c .plain19 .ensures ∙ ap numbers-told (sym (c .before .before .q16 .given .1))
 
 returns-22 : tie.Need-returns-22
-unfolding numbers signed place pick
+unfolding numbers-told numbers told place below size
 returns-22 c =
-    ap shown (c .plain20 .ensures) ∙ ap numbers (sym (c .before .before .q17 .given .1))
+    c .plain20 .ensures ∙ ap numbers-told (sym (c .before .before .q17 .given .1))
 
 returns-23 : tie.Need-returns-23
-unfolding numbers signed place pick
+unfolding numbers-told numbers told place below size
 returns-23 c =
-    ap shown (c .plain21 .ensures) ∙ ap numbers (sym (c .before .before .q18 .given .1))
+    c .plain21 .ensures ∙ ap numbers-told (sym (c .before .before .q18 .given .1))
 
 pub numbers-of-spec : {M : Type 1} → statement M
 numbers-of-spec =

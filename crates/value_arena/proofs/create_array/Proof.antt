@@ -4,9 +4,9 @@ use mathlib.Core.Path.{refl, ap, _∙_}
 use mathlib.Core.List.{[], _∷_}
 use lib.ListN.{length}
 use Rattle.definition.specs.Node.{array, words}
-use Rattle.definition.specs.Build.{lent, check, check-handles, member-slice, create-array}
-use Rattle.value_arena.specs.Calls.{built}
-use Rattle.value_arena.proofs.Calls.{accepted, not-accepted, fit-of, build-on, build-stop}
+use Rattle.definition.specs.Build.{lent, check, check-handles, member-slice, create-array, build-call-of}
+use Rattle.call_check.proofs.Answers.{accepted, not-accepted, fit-of}
+use Rattle.value_arena.proofs.Building.{build-on, build-stop}
 use Rattle.value_arena.proofs.create_array.Statement.{statement}
 use Rattle.value_arena.proofs.create_array.Tie as tie
 
@@ -66,7 +66,7 @@ unfolding create-array
 returns-2 c =
     let a = c .before .before .before .before .before .before .before .before .before .before .before .before .before .before .before .args in
     let L = lent (a .nodes .now) (a .references .now) (a .bytes .now) (a .counts) in
-    ap (λ r. built r (a .nodes .now) (a .references .now) (a .bytes .now)) (c .refused .ensures) ∙ build-on (check (member-slice (a .members .now) ∷ [])) _ L (accepted (check (member-slice (a .members .now) ∷ [])) L (c .before .before .before .before .before .enum-told .given .1) (c .before .before .before .before .before .before .before .begin .ensures .0 (member-slice (a .members .now) ∷ []) (c .before .before .before .before .before .before .before .before .before .before .wrong-members .ensures (a .members .now) refl))) (build-stop (check-handles (a .members .now)) _ L _ _ refl (not-accepted (check-handles (a .members .now)) L (c .before .before .q .given .1) (c .before .before .before .before .check-handles-at .ensures L refl)))
+    ap (λ r. build-call-of r (a .nodes .now) (a .references .now) (a .bytes .now)) (c .refused .ensures) ∙ build-on (check (member-slice (a .members .now) ∷ [])) _ L (accepted (check (member-slice (a .members .now) ∷ [])) L (c .before .before .before .before .before .enum-told .given .1) (c .before .before .before .before .before .before .before .begin .ensures .0 (member-slice (a .members .now) ∷ []) (c .before .before .before .before .before .before .before .before .before .before .wrong-members .ensures (a .members .now) refl))) (build-stop (check-handles (a .members .now)) _ L _ _ refl (not-accepted (check-handles (a .members .now)) L (c .before .before .q .given .1) (c .before .before .before .before .check-handles-at .ensures L refl)))
 
 same-length-5 : tie.Need-same-length-5
 same-length-5 c = search needs

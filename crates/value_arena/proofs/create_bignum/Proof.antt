@@ -6,7 +6,7 @@ use Rattle.definition.specs.Node.{bignum}
 use Rattle.definition.specs.Magnitude.{sign}
 use Rattle.definition.specs.Build.{lent, build-call, create-bignum, check-magnitude}
 use Rattle.value_arena.specs.Calls.{plain}
-use Rattle.value_arena.proofs.Calls.{signed}
+use Rattle.value_arena.proofs.Building.{signed}
 use Rattle.value_arena.proofs.create_bignum.Statement.{statement}
 use Rattle.value_arena.proofs.create_bignum.Tie as tie
 

@@ -7,7 +7,7 @@ use Rattle.definition.specs.Run.{pure, next, _>>=_}
 use Rattle.definition.specs.Node.{fixnum, words}
 use Rattle.definition.specs.Build.{create-fixnum, bits}
 use Rattle.value_arena.specs.Calls.{plain}
-use Rattle.value_arena.proofs.Bits.{passed}
+use Rattle.bits.proofs.Bits.{passed}
 use Rattle.value_arena.proofs.create_fixnum.Statement.{statement}
 use Rattle.value_arena.proofs.create_fixnum.Tie as tie
 

@@ -5,10 +5,10 @@ use mathlib.Core.Path.{refl, ap, _∙_}
 use mathlib.Core.List.{[], _∷_, _++_}
 use lib.ListN.{length}
 use Rattle.definition.specs.Node.{hash, words}
-use Rattle.definition.specs.Build.{lent, check, check-handles, pair-slice, default-handle, create-hash}
-use Rattle.value_arena.specs.Calls.{built}
-use Rattle.value_arena.proofs.Tests.{handles-app, handles-stop}
-use Rattle.value_arena.proofs.Calls.{accepted, not-accepted, fit-of, build-on, build-stop}
+use Rattle.definition.specs.Build.{lent, check, check-handles, pair-slice, default-handle, create-hash, build-call-of}
+use Rattle.call_check.proofs.Tests.{handles-app, handles-stop}
+use Rattle.call_check.proofs.Answers.{accepted, not-accepted, fit-of}
+use Rattle.value_arena.proofs.Building.{build-on, build-stop}
 use Rattle.value_arena.proofs.create_hash.Statement.{statement}
 use Rattle.value_arena.proofs.create_hash.Tie as tie
 
@@ -80,7 +80,7 @@ unfolding create-hash
 returns-2 c =
     let a = c .before .before .before .before .before .before .before .before .before .before .before .before .before .before .before .before .before .before .args in
     let L = lent (a .nodes .now) (a .references .now) (a .bytes .now) (a .counts) in
-    ap (λ r. built r (a .nodes .now) (a .references .now) (a .bytes .now)) (c .refused .ensures) ∙ build-on (check (pair-slice (a .pairs .now) ∷ [])) _ L (accepted (check (pair-slice (a .pairs .now) ∷ [])) L (c .before .before .before .before .before .before .before .before .enum-told .given .1) (c .before .before .before .before .before .before .before .before .before .before .begin .ensures .0 (pair-slice (a .pairs .now) ∷ []) (c .before .before .before .before .before .before .before .before .before .before .before .before .before .wrong-pairs .ensures .0 (a .pairs .now) refl))) (build-stop (check-handles ((a .pairs .now) ++ (default-handle (a .default)))) _ L _ _ refl (handles-app (a .pairs .now) (default-handle (a .default)) L (accepted (check-handles (a .pairs .now)) L (c .before .before .before .before .before .enum-told2 .given .1) (c .before .before .before .before .before .before .before .check-handles-at .ensures L refl)) ∙ not-accepted (check-handles (default-handle (a .default))) L (c .before .before .q .given .1) (c .before .before .before .before .check-default .ensures L refl)))
+    ap (λ r. build-call-of r (a .nodes .now) (a .references .now) (a .bytes .now)) (c .refused .ensures) ∙ build-on (check (pair-slice (a .pairs .now) ∷ [])) _ L (accepted (check (pair-slice (a .pairs .now) ∷ [])) L (c .before .before .before .before .before .before .before .before .enum-told .given .1) (c .before .before .before .before .before .before .before .before .before .before .begin .ensures .0 (pair-slice (a .pairs .now) ∷ []) (c .before .before .before .before .before .before .before .before .before .before .before .before .before .wrong-pairs .ensures .0 (a .pairs .now) refl))) (build-stop (check-handles ((a .pairs .now) ++ (default-handle (a .default)))) _ L _ _ refl (handles-app (a .pairs .now) (default-handle (a .default)) L (accepted (check-handles (a .pairs .now)) L (c .before .before .before .before .before .enum-told2 .given .1) (c .before .before .before .before .before .before .before .check-handles-at .ensures L refl)) ∙ not-accepted (check-handles (default-handle (a .default))) L (c .before .before .q .given .1) (c .before .before .before .before .check-default .ensures L refl)))
 
 same-length-5 : tie.Need-same-length-5
 same-length-5 c = search needs
@@ -93,7 +93,7 @@ unfolding create-hash
 returns-3 c =
     let a = c .before .before .before .before .before .before .before .before .before .before .before .before .before .before .before .args in
     let L = lent (a .nodes .now) (a .references .now) (a .bytes .now) (a .counts) in
-    ap (λ r. built r (a .nodes .now) (a .references .now) (a .bytes .now)) (c .refused2 .ensures) ∙ build-on (check (pair-slice (a .pairs .now) ∷ [])) _ L (accepted (check (pair-slice (a .pairs .now) ∷ [])) L (c .before .before .before .before .before .enum-told .given .1) (c .before .before .before .before .before .before .before .begin .ensures .0 (pair-slice (a .pairs .now) ∷ []) (c .before .before .before .before .before .before .before .before .before .before .wrong-pairs .ensures .0 (a .pairs .now) refl))) (build-stop (check-handles ((a .pairs .now) ++ (default-handle (a .default)))) _ L _ _ refl (handles-stop (a .pairs .now) (default-handle (a .default)) L _ (not-accepted (check-handles (a .pairs .now)) L (c .before .before .q2 .given .1) (c .before .before .before .before .check-handles-at .ensures L refl))))
+    ap (λ r. build-call-of r (a .nodes .now) (a .references .now) (a .bytes .now)) (c .refused2 .ensures) ∙ build-on (check (pair-slice (a .pairs .now) ∷ [])) _ L (accepted (check (pair-slice (a .pairs .now) ∷ [])) L (c .before .before .before .before .before .enum-told .given .1) (c .before .before .before .before .before .before .before .begin .ensures .0 (pair-slice (a .pairs .now) ∷ []) (c .before .before .before .before .before .before .before .before .before .before .wrong-pairs .ensures .0 (a .pairs .now) refl))) (build-stop (check-handles ((a .pairs .now) ++ (default-handle (a .default)))) _ L _ _ refl (handles-stop (a .pairs .now) (default-handle (a .default)) L _ (not-accepted (check-handles (a .pairs .now)) L (c .before .before .q2 .given .1) (c .before .before .before .before .check-handles-at .ensures L refl))))
 
 same-length-7 : tie.Need-same-length-7
 same-length-7 c = search needs

@@ -6,10 +6,10 @@ use mathlib.Core.List.{[], _∷_}
 use lib.ListN.{length}
 use Rattle.definition.specs.Node.{object, words}
 use Rattle.definition.specs.Arena.{firsts}
-use Rattle.definition.specs.Build.{lent, check, check-handles, check-names, pair-slice, create-object}
-use Rattle.value_arena.specs.Calls.{built}
-use Rattle.value_arena.proofs.Tests.{handles-app, handles-stop}
-use Rattle.value_arena.proofs.Calls.{accepted, not-accepted, fit-of, build-on, build-stop}
+use Rattle.definition.specs.Build.{lent, check, check-handles, check-names, pair-slice, create-object, build-call-of}
+use Rattle.call_check.proofs.Tests.{handles-app, handles-stop}
+use Rattle.call_check.proofs.Answers.{accepted, not-accepted, fit-of}
+use Rattle.value_arena.proofs.Building.{build-on, build-stop}
 use Rattle.value_arena.proofs.create_object.Statement.{statement}
 use Rattle.value_arena.proofs.create_object.Tie as tie
 
@@ -95,7 +95,7 @@ unfolding create-object
 returns-2 c =
     let a = c .before .before .before .before .before .before .before .before .before .before .before .before .before .before .before .before .before .before .before .before .before .before .args in
     let L = lent (a .nodes .now) (a .references .now) (a .bytes .now) (a .counts) in
-    ap (λ r. built r (a .nodes .now) (a .references .now) (a .bytes .now)) (c .refused .ensures) ∙ build-on (check (pair-slice (a .pairs .now) ∷ [])) _ L (accepted (check (pair-slice (a .pairs .now) ∷ [])) L (c .before .before .before .before .before .before .before .before .before .before .before .before .enum-told .given .1) (c .before .before .before .before .before .before .before .before .before .before .before .before .before .before .begin .ensures .0 (pair-slice (a .pairs .now) ∷ []) (c .before .before .before .before .before .before .before .before .before .before .before .before .before .before .before .before .before .wrong-pairs .ensures .0 (a .pairs .now) refl))) (build-on (check-handles (a .name ∷ (a .pairs .now))) _ L (handles-app (a .name ∷ []) (a .pairs .now) L (accepted (check-handles (a .name ∷ [])) L (c .before .before .before .before .before .before .before .before .before .enum-told2 .given .1) (c .before .before .before .before .before .before .before .before .before .before .before .check-handle .ensures .0 L refl)) ∙ accepted (check-handles (a .pairs .now)) L (c .before .before .before .before .before .before .enum-told3 .given .1) (c .before .before .before .before .before .before .before .before .check-handles-at .ensures L refl)) (build-stop (check-names (a .name ∷ firsts (a .pairs .now))) _ L _ _ refl (not-accepted (check-names (a .name ∷ firsts (a .pairs .now))) L (c .before .before .q .given .1) (c .before .before .before .before .check-object-names .ensures L refl refl))))
+    ap (λ r. build-call-of r (a .nodes .now) (a .references .now) (a .bytes .now)) (c .refused .ensures) ∙ build-on (check (pair-slice (a .pairs .now) ∷ [])) _ L (accepted (check (pair-slice (a .pairs .now) ∷ [])) L (c .before .before .before .before .before .before .before .before .before .before .before .before .enum-told .given .1) (c .before .before .before .before .before .before .before .before .before .before .before .before .before .before .begin .ensures .0 (pair-slice (a .pairs .now) ∷ []) (c .before .before .before .before .before .before .before .before .before .before .before .before .before .before .before .before .before .wrong-pairs .ensures .0 (a .pairs .now) refl))) (build-on (check-handles (a .name ∷ (a .pairs .now))) _ L (handles-app (a .name ∷ []) (a .pairs .now) L (accepted (check-handles (a .name ∷ [])) L (c .before .before .before .before .before .before .before .before .before .enum-told2 .given .1) (c .before .before .before .before .before .before .before .before .before .before .before .check-handle .ensures .0 L refl)) ∙ accepted (check-handles (a .pairs .now)) L (c .before .before .before .before .before .before .enum-told3 .given .1) (c .before .before .before .before .before .before .before .before .check-handles-at .ensures L refl)) (build-stop (check-names (a .name ∷ firsts (a .pairs .now))) _ L _ _ refl (not-accepted (check-names (a .name ∷ firsts (a .pairs .now))) L (c .before .before .q .given .1) (c .before .before .before .before .check-object-names .ensures L refl refl))))
 
 same-length-5 : tie.Need-same-length-5
 same-length-5 c = search needs
@@ -108,7 +108,7 @@ unfolding create-object
 returns-3 c =
     let a = c .before .before .before .before .before .before .before .before .before .before .before .before .before .before .before .before .before .before .args in
     let L = lent (a .nodes .now) (a .references .now) (a .bytes .now) (a .counts) in
-    ap (λ r. built r (a .nodes .now) (a .references .now) (a .bytes .now)) (c .refused2 .ensures) ∙ build-on (check (pair-slice (a .pairs .now) ∷ [])) _ L (accepted (check (pair-slice (a .pairs .now) ∷ [])) L (c .before .before .before .before .before .before .before .before .enum-told .given .1) (c .before .before .before .before .before .before .before .before .before .before .begin .ensures .0 (pair-slice (a .pairs .now) ∷ []) (c .before .before .before .before .before .before .before .before .before .before .before .before .before .wrong-pairs .ensures .0 (a .pairs .now) refl))) (build-stop (check-handles (a .name ∷ (a .pairs .now))) _ L _ _ refl (handles-app (a .name ∷ []) (a .pairs .now) L (accepted (check-handles (a .name ∷ [])) L (c .before .before .before .before .before .enum-told2 .given .1) (c .before .before .before .before .before .before .before .check-handle .ensures .0 L refl)) ∙ not-accepted (check-handles (a .pairs .now)) L (c .before .before .q2 .given .1) (c .before .before .before .before .check-handles-at .ensures L refl)))
+    ap (λ r. build-call-of r (a .nodes .now) (a .references .now) (a .bytes .now)) (c .refused2 .ensures) ∙ build-on (check (pair-slice (a .pairs .now) ∷ [])) _ L (accepted (check (pair-slice (a .pairs .now) ∷ [])) L (c .before .before .before .before .before .before .before .before .enum-told .given .1) (c .before .before .before .before .before .before .before .before .before .before .begin .ensures .0 (pair-slice (a .pairs .now) ∷ []) (c .before .before .before .before .before .before .before .before .before .before .before .before .before .wrong-pairs .ensures .0 (a .pairs .now) refl))) (build-stop (check-handles (a .name ∷ (a .pairs .now))) _ L _ _ refl (handles-app (a .name ∷ []) (a .pairs .now) L (accepted (check-handles (a .name ∷ [])) L (c .before .before .before .before .before .enum-told2 .given .1) (c .before .before .before .before .before .before .before .check-handle .ensures .0 L refl)) ∙ not-accepted (check-handles (a .pairs .now)) L (c .before .before .q2 .given .1) (c .before .before .before .before .check-handles-at .ensures L refl)))
 
 same-length-7 : tie.Need-same-length-7
 same-length-7 c = search needs
@@ -121,7 +121,7 @@ unfolding create-object
 returns-4 c =
     let a = c .before .before .before .before .before .before .before .before .before .before .before .before .before .before .before .args in
     let L = lent (a .nodes .now) (a .references .now) (a .bytes .now) (a .counts) in
-    ap (λ r. built r (a .nodes .now) (a .references .now) (a .bytes .now)) (c .refused3 .ensures) ∙ build-on (check (pair-slice (a .pairs .now) ∷ [])) _ L (accepted (check (pair-slice (a .pairs .now) ∷ [])) L (c .before .before .before .before .before .enum-told .given .1) (c .before .before .before .before .before .before .before .begin .ensures .0 (pair-slice (a .pairs .now) ∷ []) (c .before .before .before .before .before .before .before .before .before .before .wrong-pairs .ensures .0 (a .pairs .now) refl))) (build-stop (check-handles (a .name ∷ (a .pairs .now))) _ L _ _ refl (handles-stop (a .name ∷ []) (a .pairs .now) L _ (not-accepted (check-handles (a .name ∷ [])) L (c .before .before .q3 .given .1) (c .before .before .before .before .check-handle .ensures .0 L refl))))
+    ap (λ r. build-call-of r (a .nodes .now) (a .references .now) (a .bytes .now)) (c .refused3 .ensures) ∙ build-on (check (pair-slice (a .pairs .now) ∷ [])) _ L (accepted (check (pair-slice (a .pairs .now) ∷ [])) L (c .before .before .before .before .before .enum-told .given .1) (c .before .before .before .before .before .before .before .begin .ensures .0 (pair-slice (a .pairs .now) ∷ []) (c .before .before .before .before .before .before .before .before .before .before .wrong-pairs .ensures .0 (a .pairs .now) refl))) (build-stop (check-handles (a .name ∷ (a .pairs .now))) _ L _ _ refl (handles-stop (a .name ∷ []) (a .pairs .now) L _ (not-accepted (check-handles (a .name ∷ [])) L (c .before .before .q3 .given .1) (c .before .before .before .before .check-handle .ensures .0 L refl))))
 
 same-length-9 : tie.Need-same-length-9
 same-length-9 c = search needs

@@ -3,8 +3,9 @@ use borrow.Author.Needs.{needs}
 use mathlib.Core.List.{[]}
 use Rattle.definition.specs.Build.{lent, check}
 use Rattle.value_arena.specs.Calls.{plain}
-use Rattle.value_arena.proofs.Tests.{none-lowest}
-use Rattle.value_arena.proofs.Calls.{accepted, not-accepted, fit-of, build-on, build-stop}
+use Rattle.call_check.proofs.Tests.{none-lowest}
+use Rattle.call_check.proofs.Answers.{accepted, not-accepted, fit-of}
+use Rattle.value_arena.proofs.Building.{build-on, build-stop}
 use Rattle.value_arena.proofs.create_plain.Statement.{statement}
 use Rattle.value_arena.proofs.create_plain.Tie as tie
 

@@ -5,10 +5,11 @@ use mathlib.Core.List.{[], _∷_}
 use lib.ListN.{length}
 use Rattle.definition.specs.Node.{symbol, words}
 use Rattle.definition.specs.Build.{lent, held, check, add-symbol, byte-slice, create-symbol}
-use Rattle.value_arena.specs.Calls.{found}
-use Rattle.value_arena.proofs.Tests.{held-nodes}
-use Rattle.value_arena.proofs.Calls.{accepted, not-accepted, fit-of, build-on, build-stop, known, unknown, held-bytes}
-use Rattle.value_arena.proofs.Names.{symbols-in}
+use Rattle.node_adder.specs.Added.{found}
+use Rattle.call_check.proofs.Tests.{held-nodes}
+use Rattle.call_check.proofs.Answers.{accepted, not-accepted, fit-of}
+use Rattle.value_arena.proofs.Building.{build-on, build-stop, known, unknown, held-bytes}
+use Rattle.node_adder.proofs.Names.{symbols-in}
 use Rattle.value_arena.proofs.create_symbol.Statement.{statement}
 use Rattle.value_arena.proofs.create_symbol.Tie as tie
 

@@ -4,7 +4,8 @@ use mathlib.Core.Path.{refl}
 use mathlib.Core.List.{[], _∷_}
 use Rattle.definition.specs.Build.{lent, check, byte-slice}
 use Rattle.value_arena.specs.Calls.{text}
-use Rattle.value_arena.proofs.Calls.{accepted, not-accepted, fit-of, build-on, build-stop}
+use Rattle.call_check.proofs.Answers.{accepted, not-accepted, fit-of}
+use Rattle.value_arena.proofs.Building.{build-on, build-stop}
 use Rattle.value_arena.proofs.create_text.Statement.{statement}
 use Rattle.value_arena.proofs.create_text.Tie as tie
 

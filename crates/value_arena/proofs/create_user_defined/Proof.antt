@@ -4,9 +4,9 @@ use mathlib.Core.Path.{refl, ap, _∙_}
 use mathlib.Core.List.{[], _∷_}
 use lib.ListN.{length}
 use Rattle.definition.specs.Node.{user, absent, words}
-use Rattle.definition.specs.Build.{lent, check, check-handles, check-names, byte-slice, create-user-defined}
-use Rattle.value_arena.specs.Calls.{built}
-use Rattle.value_arena.proofs.Calls.{accepted, not-accepted, fit-of, build-on, build-stop}
+use Rattle.definition.specs.Build.{lent, check, check-handles, check-names, byte-slice, create-user-defined, build-call-of}
+use Rattle.call_check.proofs.Answers.{accepted, not-accepted, fit-of}
+use Rattle.value_arena.proofs.Building.{build-on, build-stop}
 use Rattle.value_arena.proofs.create_user_defined.Statement.{statement}
 use Rattle.value_arena.proofs.create_user_defined.Tie as tie
 
@@ -80,7 +80,7 @@ unfolding create-user-defined
 returns-2 c =
     let a = c .before .before .before .before .before .before .before .before .before .before .before .before .before .before .before .before .before .before .before .args in
     let L = lent (a .nodes .now) (a .references .now) (a .bytes .now) (a .counts) in
-    ap (λ r. built r (a .nodes .now) (a .references .now) (a .bytes .now)) (c .refused .ensures) ∙ build-on (check (byte-slice (a .value .now) ∷ [])) _ L (accepted (check (byte-slice (a .value .now) ∷ [])) L (c .before .before .before .before .before .before .before .before .before .enum-told .given .1) (c .before .before .before .before .before .before .before .before .before .before .before .begin .ensures .0 (byte-slice (a .value .now) ∷ []) (c .before .before .before .before .before .before .before .before .before .before .before .before .before .before .wrong-bytes .ensures (a .value .now) refl))) (build-on (check-handles (a .name ∷ [])) _ L (accepted (check-handles (a .name ∷ [])) L (c .before .before .before .before .before .before .enum-told2 .given .1) (c .before .before .before .before .before .before .before .before .check-handle .ensures .0 L refl)) (build-stop (check-names (a .name ∷ [])) _ L _ _ refl (not-accepted (check-names (a .name ∷ [])) L (c .before .before .q .given .1) (c .before .before .before .before .check-name .ensures L refl refl))))
+    ap (λ r. build-call-of r (a .nodes .now) (a .references .now) (a .bytes .now)) (c .refused .ensures) ∙ build-on (check (byte-slice (a .value .now) ∷ [])) _ L (accepted (check (byte-slice (a .value .now) ∷ [])) L (c .before .before .before .before .before .before .before .before .before .enum-told .given .1) (c .before .before .before .before .before .before .before .before .before .before .before .begin .ensures .0 (byte-slice (a .value .now) ∷ []) (c .before .before .before .before .before .before .before .before .before .before .before .before .before .before .wrong-bytes .ensures (a .value .now) refl))) (build-on (check-handles (a .name ∷ [])) _ L (accepted (check-handles (a .name ∷ [])) L (c .before .before .before .before .before .before .enum-told2 .given .1) (c .before .before .before .before .before .before .before .before .check-handle .ensures .0 L refl)) (build-stop (check-names (a .name ∷ [])) _ L _ _ refl (not-accepted (check-names (a .name ∷ [])) L (c .before .before .q .given .1) (c .before .before .before .before .check-name .ensures L refl refl))))
 
 same-length-5 : tie.Need-same-length-5
 same-length-5 c = search needs
@@ -93,7 +93,7 @@ unfolding create-user-defined
 returns-3 c =
     let a = c .before .before .before .before .before .before .before .before .before .before .before .before .before .before .before .args in
     let L = lent (a .nodes .now) (a .references .now) (a .bytes .now) (a .counts) in
-    ap (λ r. built r (a .nodes .now) (a .references .now) (a .bytes .now)) (c .refused2 .ensures) ∙ build-on (check (byte-slice (a .value .now) ∷ [])) _ L (accepted (check (byte-slice (a .value .now) ∷ [])) L (c .before .before .before .before .before .enum-told .given .1) (c .before .before .before .before .before .before .before .begin .ensures .0 (byte-slice (a .value .now) ∷ []) (c .before .before .before .before .before .before .before .before .before .before .wrong-bytes .ensures (a .value .now) refl))) (build-stop (check-handles (a .name ∷ [])) _ L _ _ refl (not-accepted (check-handles (a .name ∷ [])) L (c .before .before .q2 .given .1) (c .before .before .before .before .check-handle .ensures .0 L refl)))
+    ap (λ r. build-call-of r (a .nodes .now) (a .references .now) (a .bytes .now)) (c .refused2 .ensures) ∙ build-on (check (byte-slice (a .value .now) ∷ [])) _ L (accepted (check (byte-slice (a .value .now) ∷ [])) L (c .before .before .before .before .before .enum-told .given .1) (c .before .before .before .before .before .before .before .begin .ensures .0 (byte-slice (a .value .now) ∷ []) (c .before .before .before .before .before .before .before .before .before .before .wrong-bytes .ensures (a .value .now) refl))) (build-stop (check-handles (a .name ∷ [])) _ L _ _ refl (not-accepted (check-handles (a .name ∷ [])) L (c .before .before .q2 .given .1) (c .before .before .before .before .check-handle .ensures .0 L refl)))
 
 same-length-7 : tie.Need-same-length-7
 same-length-7 c = search needs

@@ -4,7 +4,8 @@ use native.Mathlib.Omega.{arith}
 use mathlib.Core.Path.{refl}
 use mathlib.Core.List.{[], _∷_}
 use Rattle.definition.specs.Build.{lent, handles-checked}
-use Rattle.value_arena.proofs.Calls.{accepted, not-accepted, fit-of, below-of, inside, get-all, get-none}
+use Rattle.call_check.proofs.Answers.{accepted, not-accepted, fit-of, below-of}
+use Rattle.value_arena.proofs.Getters.{inside, get-all, get-none}
 use Rattle.value_arena.proofs.get.Statement.{statement}
 use Rattle.value_arena.proofs.get.Tie as tie
 

@@ -4,7 +4,8 @@ use native.Mathlib.Omega.{arith}
 use mathlib.Core.Path.{refl}
 use mathlib.Core.List.{[], _∷_}
 use Rattle.definition.specs.Build.{lent, check-names, handles-checked}
-use Rattle.value_arena.proofs.Calls.{accepted, not-accepted, fit-of, below-of, inside, name-ok, name-no, name-stop}
+use Rattle.call_check.proofs.Answers.{accepted, not-accepted, fit-of, below-of}
+use Rattle.value_arena.proofs.Getters.{inside, name-ok, name-no, name-stop}
 use Rattle.value_arena.proofs.get_symbol.Statement.{statement}
 use Rattle.value_arena.proofs.get_symbol.Tie as tie
 

@@ -4,7 +4,8 @@ use native.Mathlib.Omega.{arith}
 use mathlib.Core.Path.{refl}
 use mathlib.Core.List.{[], _∷_}
 use Rattle.definition.specs.Build.{lent, handles-checked}
-use Rattle.value_arena.proofs.Calls.{accepted, not-accepted, fit-of, below-of, inside, kind-ok, kind-no}
+use Rattle.call_check.proofs.Answers.{accepted, not-accepted, fit-of, below-of}
+use Rattle.value_arena.proofs.Getters.{inside, kind-ok, kind-no}
 use Rattle.value_arena.proofs.kind.Statement.{statement}
 use Rattle.value_arena.proofs.kind.Tie as tie
 

@@ -1,10 +1,10 @@
 -- The proof of new.
 use borrow.Author.Needs.{needs}
 use mathlib.Core.List.{[]}
+use Rattle.definition.specs.Arena.{tables-of}
 use Rattle.definition.specs.Build.{wrong}
 use Rattle.lists.specs.Slices.{no-slice}
-use Rattle.arena_check.specs.Held.{tables}
-use Rattle.value_arena.proofs.Calls.{new-wrong, new-right}
+use Rattle.value_arena.proofs.Building.{new-wrong, new-right}
 use Rattle.value_arena.proofs.new.Statement.{statement}
 use Rattle.value_arena.proofs.new.Tie as tie
 
@@ -15,7 +15,7 @@ returns : tie.Need-returns
 unfolding wrong
 returns c =
     let a = c .before .before .before .before .before .args in
-    let T = tables (a .nodes .now) (a .references .now) (a .bytes .now) in
+    let T = tables-of (a .nodes .now) (a .references .now) (a .bytes .now) in
     new-wrong T _ (c .before .wrong-table .ensures .0 [] no-slice) (c .if1 .taken)
 
 zero-words-requires : tie.Need-zero-words-requires
@@ -40,7 +40,7 @@ returns-2 : tie.Need-returns-2
 unfolding wrong
 returns-2 c =
     let a = c .before .before .before .before .before .before .before .before .before .before .before .before .before .before .before .before .before .args in
-    let T = tables (a .nodes .now) (a .references .now) (a .bytes .now) in
+    let T = tables-of (a .nodes .now) (a .references .now) (a .bytes .now) in
     new-right T _ (c .before .before .before .before .before .before .before .before .before .before .before .before .before .wrong-table .ensures .0 [] no-slice) (c .before .before .before .before .before .before .before .before .before .before .before .before .if1 .left) _ _ _ (c .before .before .before .before .before .before .before .before .before .before .zero-words .ensures) (c .before .before .before .before .before .before .zero-words2 .ensures) (c .before .before .zero-bytes .ensures)
 
 pub new-spec : {M : Type 1} → statement M

@@ -2,9 +2,10 @@
 use borrow.Author.Needs.{needs}
 use mathlib.Core.Path.{ap, _∙_}
 use mathlib.Core.List.{[], _∷_}
-use Rattle.definition.specs.Build.{lent, handles-checked, exchange-root}
-use Rattle.value_arena.specs.Calls.{built}
-use Rattle.value_arena.proofs.Calls.{accepted, not-accepted, root-set, root-not-set, build-no}
+use Rattle.definition.specs.Build.{lent, handles-checked, exchange-root, build-call-of}
+use Rattle.call_check.proofs.Answers.{accepted, not-accepted}
+use Rattle.value_arena.proofs.Building.{root-set, root-not-set}
+use Rattle.node_adder.proofs.Adding.{build-no}
 use Rattle.value_arena.proofs.replace_root.Statement.{statement}
 use Rattle.value_arena.proofs.replace_root.Tie as tie
 
@@ -30,7 +31,7 @@ returns-2 : tie.Need-returns-2
 returns-2 c =
     let a = c .before .before .before .before .before .before .before .before .args in
     let L = lent (a .nodes .now) (a .references .now) (a .bytes .now) (a .counts) in
-    ap (λ r. built r (a .nodes .now) (a .references .now) (a .bytes .now)) (c .refused .ensures) ∙ build-no L (exchange-root (a .h)) _ (root-not-set L (a .h) _ (not-accepted (handles-checked (a .h ∷ [])) L (c .before .before .q .given .1) (c .before .before .before .before .begin-handle .ensures .0)))
+    ap (λ r. build-call-of r (a .nodes .now) (a .references .now) (a .bytes .now)) (c .refused .ensures) ∙ build-no L (exchange-root (a .h)) _ (root-not-set L (a .h) _ (not-accepted (handles-checked (a .h ∷ [])) L (c .before .before .q .given .1) (c .before .before .before .before .begin-handle .ensures .0)))
 
 pub replace-root-spec : {M : Type 1} → statement M
 replace-root-spec =

@@ -2,8 +2,9 @@
 use borrow.Author.Needs.{needs}
 use mathlib.Core.List.{[]}
 use Rattle.definition.specs.Build.{lent, check}
-use Rattle.value_arena.proofs.Tests.{none-lowest}
-use Rattle.value_arena.proofs.Calls.{accepted, not-accepted, root-ok, root-no}
+use Rattle.call_check.proofs.Tests.{none-lowest}
+use Rattle.call_check.proofs.Answers.{accepted, not-accepted}
+use Rattle.value_arena.proofs.Getters.{root-ok, root-no}
 use Rattle.value_arena.proofs.root.Statement.{statement}
 use Rattle.value_arena.proofs.root.Tie as tie
 

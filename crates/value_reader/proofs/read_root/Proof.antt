@@ -4,7 +4,7 @@ use native.Mathlib.Omega.{arith}
 use mathlib.Core.Path.{refl, sym}
 use Rattle.definition.specs.Load.{read-header, read-symbol-like}
 use Rattle.definition.specs.Load as D
-use Rattle.loader.proofs.Laws.{held, lead-first, lead-after, lead-stop, lead-as}
+use Rattle.load_state.specs.Laws.{held, lead-first, lead-after, lead-stop, lead-as}
 use Rattle.value_reader.proofs.Members.{after-members}
 use Rattle.value_reader.proofs.read_root.Statement.{statement}
 use Rattle.value_reader.proofs.read_root.Tie as tie

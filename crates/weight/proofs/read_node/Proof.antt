@@ -9,6 +9,7 @@ use mir.Syntax.{w32}
 use mir.Facts.{toZ-ofZ}
 use Rattle.definition.specs.Arena.{range}
 use Rattle.definition.specs.Weight.{decimal, text-reading}
+use Rattle.definition.specs.Node.{width, START, LENGTH}
 use Rattle.definition.specs.declared.Reading.the-variants.{Whole}
 use Rattle.weight.proofs.Rows.{reads-whole, reads-text, reads-other}
 use Rattle.weight.proofs.read_node.Statement.{statement}
@@ -67,7 +68,7 @@ among : (c : tie.After-size3) → let b = c .before .before .before .before .bef
 among c =
     let b = c .before .before .before .before .before .before .before .before .before in
     let s = c .before .before .before .before .before .before .size .ensures in
-    let i : getD (b .args .nodes .now) (b .args .h * 7 + 1) 0 + getD (b .args .nodes .now) (b .args .h * 7 + 2) 0 ≤ b .args .stored = b .pre .1 (rw s at (c .before .before .before .before .match .keys2)) in
+    let i : getD (b .args .nodes .now) (b .args .h * width + START) 0 + getD (b .args .nodes .now) (b .args .h * width + LENGTH) 0 ≤ b .args .stored = b .pre .1 (rw s at (c .before .before .before .before .match .keys2)) in
     rw (c .before .before .size2 .ensures, c .size3 .ensures, s) i
 
 add-end : tie.Need-add-end
@@ -90,25 +91,25 @@ returns c =
     let b = c .before .before .before .before .before .before .before in
     let s = c .before .before .before .before .size .ensures in
     ap Whole (toZ-ofZ {w = w32} {z = c .signed .result} (record { sfits = c .signed .ok }) ∙ c .signed .ensures)
-    ∙ rw s (reads-whole (b .args .nodes .now) (b .args .h) (b .pre .0) _ (rw s at (c .before .before .match .keys1)))
+    ∙ rw s (reads-whole (b .args .nodes .now) (b .args .h) _ (rw s at (c .before .before .match .keys1)))
 
 returns-2 : tie.Need-returns-2
 unfolding range
 returns-2 c =
     let b = c .before .before .before .before .before .before .before .before .before .before .before in
     let s = c .before .before .before .before .before .before .before .before .size .ensures in
-    let p : c .before .before .before .before .size2 .result ≡ getD (b .args .nodes .now) (b .args .h * 7 + 1) 0 = rw s at (c .before .before .before .before .size2 .ensures) in
-    let q : c .before .before .size3 .result ≡ getD (b .args .nodes .now) (b .args .h * 7 + 2) 0 = rw s at (c .before .before .size3 .ensures) in
-    let n : c .before .before .before .before .size2 .result + c .before .before .size3 .result - c .before .before .before .before .size2 .result ≡ getD (b .args .nodes .now) (b .args .h * 7 + 2) 0 = omega (arith, q) in
+    let p : c .before .before .before .before .size2 .result ≡ getD (b .args .nodes .now) (b .args .h * width + START) 0 = rw s at (c .before .before .before .before .size2 .ensures) in
+    let q : c .before .before .size3 .result ≡ getD (b .args .nodes .now) (b .args .h * width + LENGTH) 0 = rw s at (c .before .before .size3 .ensures) in
+    let n : c .before .before .before .before .size2 .result + c .before .before .size3 .result - c .before .before .before .before .size2 .result ≡ getD (b .args .nodes .now) (b .args .h * width + LENGTH) 0 = omega (arith, q) in
     c .read-decimal .ensures
     ∙ ap (λ (x : List ℕ). text-reading (decimal x)) (λ i. take (n i) (drop (p i) (b .args .bytes .now)))
-    ∙ reads-text (b .args .nodes .now) (b .args .h) (b .pre .0) (b .args .bytes .now) (b .args .stored) (rw s at (c .before .before .before .before .before .before .match .keys2)) (rw (p, q) at (among (c .before .before)))
+    ∙ reads-text (b .args .nodes .now) (b .args .h) (b .args .bytes .now) (b .args .stored) (rw s at (c .before .before .before .before .before .before .match .keys2)) (rw (p, q) at (among (c .before .before)))
 
 returns-3 : tie.Need-returns-3
 returns-3 c =
     let b = c .before .before .before .before .before in
     let s = c .before .before .size .ensures in
-    reads-other (b .args .nodes .now) (b .args .h) (b .pre .0) _ (rw s at (c .match .rest .0 .1)) (rw s at (c .match .rest .1))
+    reads-other (b .args .nodes .now) (b .args .h) _ (rw s at (c .match .rest .0 .1)) (rw s at (c .match .rest .1))
 
 pub read-node-spec : {M : Type 1} → statement M
 read-node-spec =

@@ -2,7 +2,7 @@
 use borrow.Author.Needs.{needs}
 use mathlib.Core.List.{[], _∷_}
 use Rattle.definition.specs.Build.{lent, handles-checked}
-use Rattle.value_arena.proofs.Calls.{accepted, not-accepted, below-of}
+use Rattle.call_check.proofs.Answers.{accepted, not-accepted, below-of}
 use Rattle.weight.proofs.Rows.{is-inside, has-it}
 use Rattle.well_formed.specs.Checks.{was-checked}
 use Rattle.weight.proofs.Steps.{reading-is, reading-not}

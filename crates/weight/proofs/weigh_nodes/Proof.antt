@@ -3,7 +3,7 @@ use borrow.Author.Needs.{needs}
 use mathlib.Core.Path.{sym, ap, _∙_}
 use Rattle.definition.specs.Weight.{double-at, dry-at, check-moisture, weighed-done}
 use Rattle.definition.specs.declared.Answer.the-variants.{Accepted}
-use Rattle.value_arena.proofs.Calls.{accepted, not-accepted}
+use Rattle.call_check.proofs.Answers.{accepted, not-accepted}
 use Rattle.weight.proofs.Steps.{gives, gives-not, no-dry, no-moisture, wrong-moisture, weighed}
 use Rattle.weight.proofs.weigh_nodes.Statement.{statement}
 use Rattle.weight.proofs.weigh_nodes.Tie as tie

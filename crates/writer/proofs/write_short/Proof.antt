@@ -5,7 +5,7 @@ use mathlib.Core.Path.{_∙_}
 use lib.ListN.{getD}
 use Rattle.definition.specs.Integer.{integer-bytes}
 use Rattle.definition.specs.Kind.{FIXNUM, SYMBOL-LINK}
-use Rattle.definition.specs.Node.{width}
+use Rattle.definition.specs.Node.{width, START}
 use Rattle.writer.specs.Laws.{still, goes-as}
 use Rattle.writer.proofs.Integers.{size-most}
 use Rattle.writer.proofs.Names.{name-linked}
@@ -51,7 +51,7 @@ store-tagged-requires c κs =
     let a = c .before .before .before .before .before .before .before .before .before .args in
     let if1 = c .before .before .before .before .before .if1 in
     let if2 = c .before .before .before .before .if2 in
-    omega (arith, if1 .left, if2 .left, size-most (getD (a .nodes .now) (a .v * width + 1) 0))
+    omega (arith, if1 .left, if2 .left, size-most (getD (a .nodes .now) (a .v * width + START) 0))
 
 same-length : tie.Need-same-length
 same-length c = search needs
@@ -63,7 +63,7 @@ returns-3 c =
     let if2 = c .before .before .before .before .before .before .before .if2 in
     let store-tagged = c .before .before .store-tagged in
     let if3 = c .before .before .before .before .before .if3 in
-    (λ A room limit levels counts N b e. short-stored (a .at) FIXNUM (integer-bytes (getD (a .nodes .now) (a .v * width + 1) 0)) e (omega (arith, if1 .left, if2 .left, size-most (getD (a .nodes .now) (a .v * width + 1) 0))) (store-tagged .ensures .0) (store-tagged .ensures .1) (goes-as (value-row room A limit (suc levels) (a .v) (λ q. omega (arith, q)) ∙ fixnum-same room A _ _ (a .v) _ (fixnum-row N (a .v) b (if3 .taken))) still), λ s z. omega (arith, z, store-tagged .ensures .1))
+    (λ A room limit levels counts N b e. short-stored (a .at) FIXNUM (integer-bytes (getD (a .nodes .now) (a .v * width + START) 0)) e (omega (arith, if1 .left, if2 .left, size-most (getD (a .nodes .now) (a .v * width + START) 0))) (store-tagged .ensures .0) (store-tagged .ensures .1) (goes-as (value-row room A limit (suc levels) (a .v) (λ q. omega (arith, q)) ∙ fixnum-same room A _ _ (a .v) _ (fixnum-row N (a .v) b (if3 .taken))) still), λ s z. omega (arith, z, store-tagged .ensures .1))
 
 returns-4 : tie.Need-returns-4
 returns-4 c = (search needs, λ s z. not-short (c .before .if3 .left) (λ e. absurd (c .if4 .taken e)) s)

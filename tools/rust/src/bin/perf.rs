@@ -14,7 +14,7 @@ use beside_rust::inputs::*;
 use beside_rust::measure::{counted, Counted};
 use beside_rust::walk;
 use beside_rust::Tables;
-use ruby_marshal_tables::{Node, Value};
+use ruby_marshal_tables::{Node, Value, NODE_WORDS};
 use std::collections::HashMap;
 use std::hint::black_box;
 use std::time::Instant;
@@ -54,31 +54,34 @@ fn tables(input: &[u8]) -> Tables {
     Tables::new(n, references.max(n * 2), bytes.max(n * 8), input.len())
 }
 
+// load and the hashed load, which has two words of the bucket table for each node.
 fn load_row(name: &str, input: &[u8]) {
-    let mut tables = tables(input);
+    let (mut tables, mut hashing) = (tables(input), tables_with_buckets(input, 2));
     let mut yardstick = tables_filled(input);
     let nodes = yardstick.counts[0];
     let mut copy = vec![0; input.len()];
     let mut ours = || {
         black_box(tables.load(black_box(input), LIMIT));
     };
+    let mut hashed = || {
+        black_box(hashing.load_hashed(black_box(input), LIMIT));
+    };
     let mut least = || {
         black_box(&mut yardstick).zero_and_copy(black_box(input), black_box(&mut copy));
         black_box(&yardstick);
         black_box(&copy);
     };
+    let row = format!("{:<24}{:>9}{:>9}", name, input.len(), nodes);
     if ruby_marshal::load(input).is_err() {
-        let [least, ours] = times([&mut least, &mut ours]);
-        println!("{:<24}{:>9}{:>9}{:>11.2}{:>15.2}", name, input.len(), nodes, ours / 1000.0, least / 1000.0);
+        let [least, hashed, ours] = times([&mut least, &mut hashed, &mut ours]).map(|t| t / 1000.0);
+        println!("{row}{ours:>11.2}{hashed:>11.2}{least:>15.2}");
         return;
     }
-    let [ours, least, theirs] = times([&mut ours, &mut least, &mut || {
+    let [ours, hashed, least, theirs] = times([&mut ours, &mut hashed, &mut least, &mut || {
         black_box(ruby_marshal::load(black_box(input)).unwrap());
-    }]);
-    println!(
-        "{:<24}{:>9}{:>9}{:>11.2}{:>15.2}{:>11.2}{:>8.2}",
-        name, input.len(), nodes, ours / 1000.0, least / 1000.0, theirs / 1000.0, theirs / ours
-    );
+    }])
+    .map(|t| t / 1000.0);
+    println!("{row}{ours:>11.2}{hashed:>11.2}{least:>15.2}{theirs:>11.2}{:>8.2}{:>8.2}", theirs / ours, theirs / hashed);
 }
 
 // The measuring load beside load.
@@ -99,7 +102,7 @@ fn measured_row(name: &str, input: &[u8]) {
 // Tables that the input just fills, with so many words of the bucket table for each node.
 fn tables_with_buckets(input: &[u8], words: usize) -> Tables {
     let mut tables = tables(input);
-    tables.buckets = vec![0; tables.nodes.len() / 7 * words];
+    tables.buckets = vec![0; tables.nodes.len() / NODE_WORDS * words];
     tables
 }
 
@@ -324,7 +327,10 @@ fn main() {
         ("100 KB, counters", counters(100_000, b'l')),
         ("the same as strings", counters(100_000, b'"')),
     ];
-    println!("{:<24}{:>9}{:>9}{:>11}{:>15}{:>11}{:>8}", "load", "bytes", "nodes", "ours µs", "zero and copy", "Rust µs", "faster");
+    println!(
+        "{:<24}{:>9}{:>9}{:>11}{:>11}{:>15}{:>11}{:>8}{:>8}",
+        "load", "bytes", "nodes", "ours µs", "hashed µs", "zero and copy", "Rust µs", "faster", "hashed"
+    );
     for (name, input) in &inputs {
         load_row(name, input);
     }

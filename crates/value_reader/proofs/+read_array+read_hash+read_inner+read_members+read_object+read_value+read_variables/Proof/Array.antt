@@ -4,16 +4,17 @@ use native.Mathlib.Omega.{arith}
 use Prim.Native.Nat.{ℕ}
 use mathlib.Core.Path.{refl, _∙_}
 use Rattle.definition.specs.Run.{pure}
-use Rattle.definition.specs.Node.{array, words}
+use Rattle.definition.specs.Node.{array, words, kind}
 use Rattle.definition.specs.Load.{read-symbol-like}
 use Rattle.definition.specs.Load as D
-use Rattle.loader.specs.Holds.{lent, by-buckets}
-use Rattle.loader.proofs.Laws.{lead-first, lead-after, lead-stop}
-use Rattle.loader.proofs.Readers.{ten, nodes-small, space-fits, slot-room}
+use Rattle.load_state.specs.Holds.{lent, by-buckets}
+use Rattle.load_state.specs.Laws.{lead-first, lead-after, lead-stop}
+use Rattle.load_state.specs.Needs.{ten, nodes-small, space-fits, slot-room}
 use Rattle.value_reader.proofs.Members.{Open, opened, open-on, array-of, array-rest, contained, contained-stops, inside, no-more, names-any, one-each, down-3}
 use Rattle.value_reader.proofs.read_array.Reads as read-array
 use Rattle.value_reader.proofs.+read_array+read_hash+read_inner+read_members+read_object+read_value+read_variables.Lts-read_array as read-array-lts
 use Rattle.value_reader.proofs.+read_array+read_hash+read_inner+read_members+read_object+read_value+read_variables.Proof.Common.{read-array-at, read-array-calls}
+use Rattle.load_state.specs.Names.{other-kind}
 
 -- the node is open
 opened-at : (t : ℕ) (c : read-array-lts.Else1 (read-array-calls t) (read-array-at t) read-array.Post) →
@@ -176,7 +177,7 @@ cast-fill-node t c =
     let c23 = c .before .before .before .before .before .before .before .before .before .before .before .before .before .before .before .before .before .before .before .before .before .before .before in
     let c26 = c23 .before .before .before in
     let H = words-at t c23 .held .holds in
-    omega (arith, c26 .read-words .ensures .1 (c23 .if2 .left) .1, H .count-references, H .references .fits, H .small .references)
+    omega (arith, c26 .read-words .ensures .1 (c23 .if2 .left) .1, H .counted .count-references, H .laid .references .fits, H .fixed .small .references)
 
 pub cast-fill-node-2 : (t : ℕ) → read-array-lts.Need-cast-fill-node-2 (read-array-calls t) (read-array-at t) read-array.Post
 cast-fill-node-2 t c = search needs
@@ -221,7 +222,7 @@ same-length-17 t c =
     c17 .read-members .kept .1 .1 .1 .1 .1 .1 .0
 
 pub returns-4 : (t : ℕ) → read-array-lts.Need-returns-4 (read-array-calls t) (read-array-at t) read-array.Post
-unfolding D.read-array words
+unfolding D.read-array kind words
 returns-4 t c =
     let c4 = c .before .before .before .before in
     let c17 = c4 .before .before .before .before .before .before .before .before .before .before .before .before .before in
@@ -239,6 +240,6 @@ returns-4 t c =
           let inner = D.read-value (c48 .args .input .now) room limit (c48 .args .levels) in
           lead-after (lead-first _ (c37 .open-node .ensures .0 _ room limit _ _ _) .goes (c32 .if1 .left))
           (contained name inner (array-of name inner h) 1 2 0 n _ _ _ (array-rest name inner h _ n) (one-each _ n) (q .1) (c29 .read-words .ensures .0 room limit _ _ _ _ _) (c26 .if2 .left) (c17 .read-members .ensures .0 room limit) (c4 .if3 .left)
-          (c .before .before .fill-node .ensures .0 _ room limit (array _ n) _ _ _ _ _ refl tt (O .below) (O .free tt))),
+          (c .before .before .fill-node .ensures .0 _ room limit (array _ n) _ _ _ _ _ refl (other-kind (array 0 0) refl) (O .below) (λ _. O .free tt))),
       λ l. omega (arith, c .before .before .fill-node .ensures .1, O .below),
     )

@@ -1,6 +1,6 @@
 -- The cycle's measures, what is asked and known of each call, and the loop's invariant.
 use Prim.Native.Nat.{_+_, _-_, _*_}
-use Rattle.loader.specs.Holds.{by-buckets}
+use Rattle.load_state.specs.Holds.{by-buckets}
 use Rattle.value_reader.proofs.Members.{Turning}
 use Prim.Native.Nat.{ℕ, _<_}
 use borrow.Fn.Kinds.{In}
@@ -30,11 +30,12 @@ use Rattle.value_reader.proofs.defaults.Reads as defaults-reads
 use Rattle.loader.proofs.fill_node.Reads as fill-node-reads
 use Rattle.loader.proofs.note_inner.Reads as note-inner-reads
 use Rattle.loader.proofs.open_node.Reads as open-node-reads
-use Rattle.loader.proofs.read_leaf.Reads as read-leaf-reads
-use Rattle.loader.proofs.read_run.Reads as read-run-reads
-use Rattle.loader.proofs.read_symbol_like.Reads as read-symbol-like-reads
+use Rattle.leaf_reader.proofs.read_leaf.Reads as read-leaf-reads
+use Rattle.run_reader.proofs.read_run.Reads as read-run-reads
+use Rattle.symbol_reader.proofs.read_symbol_like.Reads as read-symbol-like-reads
 use Rattle.loader.proofs.read_words.Reads as read-words-reads
 use Rattle.loader.proofs.set_variables.Reads as set-variables-reads
+use Rattle.load_state.specs.Places.{LOOKED}
 
 abbrev pub μ-read-array : Measures 8 read-array-kinds.ps ℕ
 μ-read-array κs a =
@@ -66,14 +67,14 @@ abbrev pub μ-read-variables : Measures 8 read-variables-kinds.ps ℕ
 
 abbrev pub read-array-at : ℕ → In 8 read-array-kinds.ps
 read-array-at t =
-    and 8 read-array-kinds.ps (is 8 read-array-kinds.ps μ-read-array t) read-array.Pre
+    and 8 read-array-kinds.ps (is LOOKED read-array-kinds.ps μ-read-array t) read-array.Pre
 
 abbrev pub read-array-below : ℕ → In 8 read-array-kinds.ps
 read-array-below t =
     and 8 read-array-kinds.ps (falls 8 read-array-kinds.ps _<_ μ-read-array t) read-array.Pre
 
 abbrev pub read-hash-at : ℕ → In 8 read-hash-kinds.ps
-read-hash-at t = and 8 read-hash-kinds.ps (is 8 read-hash-kinds.ps μ-read-hash t) read-hash.Pre
+read-hash-at t = and 8 read-hash-kinds.ps (is LOOKED read-hash-kinds.ps μ-read-hash t) read-hash.Pre
 
 abbrev pub read-hash-below : ℕ → In 8 read-hash-kinds.ps
 read-hash-below t =
@@ -81,7 +82,7 @@ read-hash-below t =
 
 abbrev pub read-inner-at : ℕ → In 8 read-inner-kinds.ps
 read-inner-at t =
-    and 8 read-inner-kinds.ps (is 8 read-inner-kinds.ps μ-read-inner t) read-inner.Pre
+    and 8 read-inner-kinds.ps (is LOOKED read-inner-kinds.ps μ-read-inner t) read-inner.Pre
 
 abbrev pub read-inner-below : ℕ → In 8 read-inner-kinds.ps
 read-inner-below t =
@@ -89,7 +90,7 @@ read-inner-below t =
 
 abbrev pub read-members-at : ℕ → In 8 read-members-kinds.ps
 read-members-at t =
-    and 8 read-members-kinds.ps (is 8 read-members-kinds.ps μ-read-members t) read-members.Pre
+    and 8 read-members-kinds.ps (is LOOKED read-members-kinds.ps μ-read-members t) read-members.Pre
 
 abbrev pub read-members-below : ℕ → In 8 read-members-kinds.ps
 read-members-below t =
@@ -101,7 +102,7 @@ read-members-below t =
 
 abbrev pub read-object-at : ℕ → In 8 read-object-kinds.ps
 read-object-at t =
-    and 8 read-object-kinds.ps (is 8 read-object-kinds.ps μ-read-object t) read-object.Pre
+    and 8 read-object-kinds.ps (is LOOKED read-object-kinds.ps μ-read-object t) read-object.Pre
 
 abbrev pub read-object-below : ℕ → In 8 read-object-kinds.ps
 read-object-below t =
@@ -109,7 +110,7 @@ read-object-below t =
 
 abbrev pub read-value-at : ℕ → In 8 read-value-kinds.ps
 read-value-at t =
-    and 8 read-value-kinds.ps (is 8 read-value-kinds.ps μ-read-value t) read-value.Pre
+    and 8 read-value-kinds.ps (is LOOKED read-value-kinds.ps μ-read-value t) read-value.Pre
 
 abbrev pub read-value-below : ℕ → In 8 read-value-kinds.ps
 read-value-below t =
@@ -120,7 +121,7 @@ read-variables-at t =
     and
     8
     read-variables-kinds.ps
-    (is 8 read-variables-kinds.ps μ-read-variables t)
+    (is LOOKED read-variables-kinds.ps μ-read-variables t)
     read-variables.Pre
 
 abbrev pub read-variables-below : ℕ → In 8 read-variables-kinds.ps

@@ -4,16 +4,17 @@ use native.Mathlib.Omega.{arith}
 use Prim.Native.Nat.{ℕ, _+_}
 use mathlib.Core.Path.{refl, _∙_}
 use Rattle.definition.specs.Run.{pure}
-use Rattle.definition.specs.Node.{hash, words}
+use Rattle.definition.specs.Node.{hash, words, kind}
 use Rattle.definition.specs.Load.{read-symbol-like}
 use Rattle.definition.specs.Load as D
-use Rattle.loader.specs.Holds.{lent, by-buckets}
-use Rattle.loader.proofs.Laws.{lead-first, lead-after, lead-stop}
-use Rattle.loader.proofs.Readers.{ten, nodes-small, space-fits, slot-room}
+use Rattle.load_state.specs.Holds.{lent, by-buckets}
+use Rattle.load_state.specs.Laws.{lead-first, lead-after, lead-stop}
+use Rattle.load_state.specs.Needs.{ten, nodes-small, space-fits, slot-room}
 use Rattle.value_reader.proofs.Members.{Open, opened, open-on, hash-of, hash-rest, contained, contained-stops, inside, default-fits, nodes-few, down-3}
 use Rattle.value_reader.proofs.read_hash.Reads as read-hash
 use Rattle.value_reader.proofs.+read_array+read_hash+read_inner+read_members+read_object+read_value+read_variables.Lts-read_hash as read-hash-lts
 use Rattle.value_reader.proofs.+read_array+read_hash+read_inner+read_members+read_object+read_value+read_variables.Proof.Common.{read-hash-at, read-hash-calls}
+use Rattle.load_state.specs.Names.{other-kind}
 
 -- the node is open
 opened-at : (t : ℕ) (c : read-hash-lts.Else1 (read-hash-calls t) (read-hash-at t) read-hash.Post) →
@@ -179,7 +180,7 @@ cast-fill-node t c =
     let c23 = c .before .before .before .before .before .before .before .before .before .before .before .before .before .before .before .before .before .before .before .before .before .before .before in
     let c26 = c23 .before .before .before in
     let H = words-at t c23 .held .holds in
-    omega (arith, c26 .read-words .ensures .1 (c23 .if2 .left) .1, H .count-references, H .references .fits, H .small .references)
+    omega (arith, c26 .read-words .ensures .1 (c23 .if2 .left) .1, H .counted .count-references, H .laid .references .fits, H .fixed .small .references)
 
 pub cast-fill-node-2 : (t : ℕ) → read-hash-lts.Need-cast-fill-node-2 (read-hash-calls t) (read-hash-at t) read-hash.Post
 cast-fill-node-2 t c = search needs
@@ -240,7 +241,7 @@ same-length-17 t c =
     c17 .read-members .kept .1 .1 .1 .1 .1 .1 .0
 
 pub returns-4 : (t : ℕ) → read-hash-lts.Need-returns-4 (read-hash-calls t) (read-hash-at t) read-hash.Post
-unfolding D.read-hash words
+unfolding D.read-hash kind words
 returns-4 t c =
     let c4 = c .before .before .before .before in
     let c17 = c4 .before .before .before .before .before .before .before .before .before .before .before .before .before in
@@ -258,6 +259,6 @@ returns-4 t c =
           let inner = D.read-value (c48 .args .input .now) room limit (c48 .args .levels) in
           lead-after (lead-first _ (c37 .open-node .ensures .0 _ room limit _ _ _) .goes (c32 .if1 .left))
           (contained name inner (hash-of name inner h (c48 .args .more)) 2 2 (c48 .args .more) n _ _ _ (hash-rest name inner h _ n (c48 .args .more) (c48 .pre .1 .0)) refl (q .1) (c29 .read-words .ensures .0 room limit _ _ _ _ _) (c26 .if2 .left) (c17 .read-members .ensures .0 room limit) (c4 .if3 .left)
-          (c .before .before .fill-node .ensures .0 _ room limit (hash _ n (c17 .read-members .result + c48 .args .more)) _ _ _ _ _ refl tt (O .below) (O .free tt))),
+          (c .before .before .fill-node .ensures .0 _ room limit (hash _ n (c17 .read-members .result + c48 .args .more)) _ _ _ _ _ refl (other-kind (hash 0 0 0) refl) (O .below) (λ _. O .free tt))),
       λ l. omega (arith, c .before .before .fill-node .ensures .1, O .below),
     )

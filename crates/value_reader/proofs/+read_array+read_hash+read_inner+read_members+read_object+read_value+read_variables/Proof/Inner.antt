@@ -6,10 +6,11 @@ use mathlib.Core.Path.{_≡_, refl, sym, ap}
 use Rattle.definition.specs.Run.{pick, pure}
 use Rattle.definition.specs.Load.{head, value-of, read-byte, read-symbol-like}
 use Rattle.definition.specs.Load as D
-use Rattle.loader.proofs.Laws.{held-goes, lead-after, lead-as, goes-to}
-use Rattle.loader.specs.Holds.{after-i}
-use Rattle.loader.proofs.Readers.{kind-read, after-takes, takes-string}
-use Rattle.loader.proofs.Steps.{byte-goes}
+use Rattle.load_state.specs.Laws.{held-goes, lead-after, lead-as, goes-to}
+use Rattle.loader.specs.Parts.{after-i}
+use Rattle.input_reader.proofs.Heads.{kind-read}
+use Rattle.loader.proofs.Variables.{after-takes, takes-string}
+use Rattle.input_reader.proofs.Input.{byte-goes}
 use Rattle.value_reader.proofs.Members.{after-members, string-leaf, down-2}
 use Prim.Native.Nat.{ℕ}
 use Rattle.value_reader.proofs.read_inner.Reads as read-inner

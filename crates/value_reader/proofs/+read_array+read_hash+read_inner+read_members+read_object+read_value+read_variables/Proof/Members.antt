@@ -1,11 +1,10 @@
 -- The needs of read_members.
 use borrow.Author.Needs.{needs}
 use native.Mathlib.Omega.{arith}
-use Prim.Native.Nat.{_-_}
 use mathlib.Core.Path.{_≡_, refl, _∙_}
 use Rattle.definition.specs.Load as D
-use Rattle.loader.specs.Holds.{by-buckets}
-use Rattle.loader.proofs.Laws.{held, grew}
+use Rattle.load_state.specs.Holds.{by-buckets}
+use Rattle.load_state.specs.Laws.{held, grew}
 use Rattle.value_reader.proofs.Members.{Turning, turning-start, turned, all-turned, name-stop, value-stop, value-last, name-turned, value-turned, named-below, come-to, down-1}
 use Prim.Native.Nat.{ℕ, _<_}
 use Rattle.value_reader.proofs.read_members.Reads as read-members
@@ -39,7 +38,7 @@ add-loop t c =
     let c8 = c .before .before .before .before .before .before .before .before in
     let R = c .loop .inv in
     let H = R .held .holds in
-    record { fits = omega (arith, c8 .pre .1 .2, R .inside, H .count-references, H .references .fits, H .small .references) }
+    record { fits = omega (arith, c8 .pre .1 .2, R .inside, H .counted .count-references, H .laid .references .fits, H .fixed .small .references) }
 
 pub read-run-requires : (t : ℕ) → read-members-lts.Need-read-run-requires (read-members-calls t) (read-members-at t) read-members.Post read-members-Inv-loop read-members-μ-loop
 read-run-requires t c κs =
@@ -132,7 +131,7 @@ slice-write-references t c =
     let S = run-none t c16 in
     let lt = named-below _ _ _ _ (c-pre .1 .2) (c-pre .1 .3) (c26 .loop-test .taken) (c15 .if2 .taken) in
     let H = S .held .holds in
-    omega (arith, lt, S .inside, H .count-references, H .references .fits, H .references .sized)
+    omega (arith, lt, S .inside, H .counted .count-references, H .laid .references .fits, H .laid .references .sized)
 
 pub add-to : (t : ℕ) → read-members-lts.Need-add-to (read-members-calls t) (read-members-at t) read-members.Post read-members-Inv-loop read-members-μ-loop
 add-to t c = search needs
@@ -269,7 +268,7 @@ mul-references-2 t c =
     let c34 = c .before .before .before .before .before .before .before .before .before .before .before .before .before .before .before .before .before .before .before .before .before .before .before .before .before .before .before .before .before .before .before .before .before .before in
     let R = c34 .loop .inv in
     let H = R .held .holds in
-    record { fits = omega (arith, R .within, R .inside, H .count-references, H .references .fits, H .small .references) }
+    record { fits = omega (arith, R .within, R .inside, H .counted .count-references, H .laid .references .fits, H .fixed .small .references) }
 
 pub slice-write-references-2 : (t : ℕ) → read-members-lts.Need-slice-write-references-2 (read-members-calls t) (read-members-at t) read-members.Post read-members-Inv-loop read-members-μ-loop
 slice-write-references-2 t c =
@@ -281,14 +280,14 @@ slice-write-references-2 t c =
     let v = held {m = λ room. D.read-value _ room 0 _} {m' = λ room. _} (S .held) (c-if4 .left) (λ room. c-read-value .ensures .0 room 0) in
     let w = grew {m = λ room. D.read-value _ room 0 _} {m' = λ room. _} (S .held) (c-if4 .left) (λ room. c-read-value .ensures .0 room 0) in
     let H = v .holds in
-    omega (arith, c .if5 .left, S .within, S .inside, w .references, H .count-references, H .references .fits, H .references .sized)
+    omega (arith, c .if5 .left, S .within, S .inside, w .references, H .counted .count-references, H .laid .references .fits, H .laid .references .sized)
 
 pub add-to-2 : (t : ℕ) → read-members-lts.Need-add-to-2 (read-members-calls t) (read-members-at t) read-members.Post read-members-Inv-loop read-members-μ-loop
 add-to-2 t c =
     let c34 = c .before .before .before .before .before .before .before .before .before .before .before .before .before .before .before .before .before .before .before .before .before .before .before .before .before .before .before .before .before .before .before .before .before .before in
     let R = c34 .loop .inv in
     let H = R .held .holds in
-    record { fits = omega (arith, R .within, R .inside, H .count-references, H .references .fits, H .small .references) }
+    record { fits = omega (arith, R .within, R .inside, H .counted .count-references, H .laid .references .fits, H .fixed .small .references) }
 
 pub loop-less-3 : (t : ℕ) → read-members-lts.Need-loop-less-3 (read-members-calls t) (read-members-at t) read-members.Post read-members-Inv-loop read-members-μ-loop
 loop-less-3 t c = search needs

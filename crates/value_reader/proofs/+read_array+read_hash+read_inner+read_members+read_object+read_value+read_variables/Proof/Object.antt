@@ -4,16 +4,17 @@ use native.Mathlib.Omega.{arith}
 use Prim.Native.Nat.{ℕ}
 use mathlib.Core.Path.{refl, _∙_}
 use Rattle.definition.specs.Run.{pure}
-use Rattle.definition.specs.Node.{object, words}
+use Rattle.definition.specs.Node.{object, words, kind}
 use Rattle.definition.specs.Load.{read-symbol-like, read-instance-variables}
 use Rattle.definition.specs.Load as D
-use Rattle.loader.specs.Holds.{lent, by-buckets}
-use Rattle.loader.proofs.Laws.{lead-first, lead-after, lead-stop}
-use Rattle.loader.proofs.Readers.{ten, nodes-small, space-fits, slot-room}
+use Rattle.load_state.specs.Holds.{lent, by-buckets}
+use Rattle.load_state.specs.Laws.{lead-first, lead-after, lead-stop}
+use Rattle.load_state.specs.Needs.{ten, nodes-small, space-fits, slot-room}
 use Rattle.value_reader.proofs.Members.{Open, opened, open-on, object-of, object-rest, contained, contained-stops, inside, no-more, names-any, list-parity, down-3}
 use Rattle.value_reader.proofs.read_object.Reads as read-object
 use Rattle.value_reader.proofs.+read_array+read_hash+read_inner+read_members+read_object+read_value+read_variables.Lts-read_object as read-object-lts
 use Rattle.value_reader.proofs.+read_array+read_hash+read_inner+read_members+read_object+read_value+read_variables.Proof.Common.{read-object-at, read-object-calls}
+use Rattle.load_state.specs.Names.{other-kind}
 
 -- the node is open
 opened-at : (t : ℕ) (c : read-object-lts.Else1 (read-object-calls t) (read-object-at t) read-object.Post) →
@@ -259,7 +260,7 @@ cast-fill-node t c =
     let c23 = c .before .before .before .before .before .before .before .before .before .before .before .before .before .before .before .before .before .before .before .before .before .before .before in
     let c26 = c23 .before .before .before in
     let H = words-at t c23 .held .holds in
-    omega (arith, c26 .read-words .ensures .1 (c23 .if3 .left) .1, H .count-references, H .references .fits, H .small .references)
+    omega (arith, c26 .read-words .ensures .1 (c23 .if3 .left) .1, H .counted .count-references, H .laid .references .fits, H .fixed .small .references)
 
 pub cast-fill-node-2 : (t : ℕ) → read-object-lts.Need-cast-fill-node-2 (read-object-calls t) (read-object-at t) read-object.Post
 cast-fill-node-2 t c = search needs
@@ -311,7 +312,7 @@ same-length-25 t c =
     c17 .read-members .kept .1 .1 .1 .1 .1 .1 .0 ∙ c41 .read-symbol-like .kept .1 .1 .1 .1 .0
 
 pub returns-5 : (t : ℕ) → read-object-lts.Need-returns-5 (read-object-calls t) (read-object-at t) read-object.Post
-unfolding D.read-object read-instance-variables words
+unfolding D.read-object read-instance-variables kind words
 returns-5 t c =
     let c4 = c .before .before .before .before in
     let c17 = c4 .before .before .before .before .before .before .before .before .before .before .before .before .before in
@@ -333,6 +334,6 @@ returns-5 t c =
           lead-after (lead-first _ (c52 .open-node .ensures .0 _ room limit _ _ _) .goes (c47 .if1 .left))
           (lead-after (lead-first _ (c41 .read-symbol-like .ensures .0 room limit _ _) .goes (c32 .if2 .left))
           (contained name inner (object-of name inner h w) 2 _ 0 n _ _ _ (object-rest name inner h _ n _ w (list-parity _ n (q .1))) refl (q .1) (c29 .read-words .ensures .0 room limit _ _ _ _ _) (c26 .if3 .left) (c17 .read-members .ensures .0 room limit) (c4 .if4 .left)
-          (c .before .before .fill-node .ensures .0 _ room limit (object _ n w) _ _ _ _ _ refl tt (O .below) (O .free tt)))),
+          (c .before .before .fill-node .ensures .0 _ room limit (object _ n w) _ _ _ _ _ refl (other-kind (object 0 0 0) refl) (O .below) (λ _. O .free tt)))),
       λ l. omega (arith, c .before .before .fill-node .ensures .1, O .below),
     )

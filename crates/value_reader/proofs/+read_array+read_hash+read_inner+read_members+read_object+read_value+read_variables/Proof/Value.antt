@@ -9,10 +9,10 @@ use Rattle.definition.specs.Run.{pick}
 use Rattle.definition.specs.Node.{array, hash, object}
 use Rattle.definition.specs.Load.{head, value-of, Array, Object, InstanceVariables, read-byte}
 use Rattle.definition.specs.Load as D
-use Rattle.loader.specs.Holds.{at-of}
-use Rattle.loader.proofs.Laws.{held-goes, lead-after}
-use Rattle.loader.proofs.Readers.{kind-read, kind-missing, level-missing, headed}
-use Rattle.loader.proofs.Steps.{byte-goes}
+use Rattle.load_state.specs.Holds.{at-of}
+use Rattle.load_state.specs.Laws.{held-goes, lead-after}
+use Rattle.input_reader.proofs.Heads.{kind-read, kind-missing, level-missing, headed}
+use Rattle.input_reader.proofs.Input.{byte-goes}
 use Rattle.value_reader.proofs.Members.{defaults-one, hash-headed, down-0}
 use Prim.Native.Nat.{ℕ}
 use Rattle.value_reader.proofs.read_value.Reads as read-value

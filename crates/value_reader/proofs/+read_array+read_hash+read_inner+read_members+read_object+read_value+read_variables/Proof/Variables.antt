@@ -6,9 +6,9 @@ use mathlib.Core.Path.{refl, _∙_}
 use Rattle.definition.specs.Run.{pure}
 use Rattle.definition.specs.Load.{read-symbol-like, read-instance-variables}
 use Rattle.definition.specs.Load as D
-use Rattle.loader.specs.Holds.{lent, by-buckets}
-use Rattle.loader.proofs.Laws.{lead-first, lead-after, lead-stop, lead-as}
-use Rattle.loader.proofs.Readers.{slot-room}
+use Rattle.load_state.specs.Holds.{lent, by-buckets}
+use Rattle.load_state.specs.Laws.{lead-first, lead-after, lead-stop, lead-as}
+use Rattle.load_state.specs.Needs.{slot-room}
 use Rattle.value_reader.proofs.Members.{Open, opened-value, open-on, variables-after, variables-of, variables-rest, contained, contained-stops, inside, no-more, names-any, list-parity, down-3, down-inner}
 use Rattle.value_reader.proofs.read_variables.Reads as read-variables
 use Rattle.value_reader.proofs.+read_array+read_hash+read_inner+read_members+read_object+read_value+read_variables.Lts-read_variables as read-variables-lts
@@ -218,7 +218,7 @@ cast-set-variables t c =
     let c23 = c .before .before .before .before .before .before .before .before .before .before .before .before .before .before .before .before .before .before .before .before .before .before .before in
     let c26 = c23 .before .before .before in
     let H = words-at t c23 .held .holds in
-    omega (arith, c26 .read-words .ensures .1 (c23 .if2 .left) .1, H .count-references, H .references .fits, H .small .references)
+    omega (arith, c26 .read-words .ensures .1 (c23 .if2 .left) .1, H .counted .count-references, H .laid .references .fits, H .fixed .small .references)
 
 pub cast-set-variables-2 : (t : ℕ) → read-variables-lts.Need-cast-set-variables-2 (read-variables-calls t) (read-variables-at t) read-variables.Post
 cast-set-variables-2 t c = search needs

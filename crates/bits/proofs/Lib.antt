@@ -1,0 +1,2 @@
+-- Laws for the proofs of a number's bits.
+pub mod Bits

@@ -1,0 +1,2 @@
+-- What the contracts of the tests say.
+pub mod Tests

@@ -1,0 +1,3 @@
+-- Laws for the proofs of these functions, and of those above.
+pub mod Leaves
+pub mod Bignums

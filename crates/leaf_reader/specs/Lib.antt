@@ -1,0 +1,2 @@
+-- What these functions are proved against.
+pub mod Parts

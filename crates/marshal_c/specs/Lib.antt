@@ -1,2 +1,0 @@
--- What each function for C returns and leaves.
-pub mod Reply

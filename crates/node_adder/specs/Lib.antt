@@ -1,0 +1,2 @@
+-- What the contracts of what is added and found say.
+pub mod Added

@@ -1,0 +1,3 @@
+-- Laws for the proofs of what opens objects.
+pub mod Objects
+pub mod Openings

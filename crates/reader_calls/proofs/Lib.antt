@@ -1,0 +1,2 @@
+-- The walk of the functions.
+mod Through

@@ -1,0 +1,18 @@
+-- `reader_calls::left_at` meets its contract: `Through`'s law, where g is `bytes_left`.
+use mir.Syntax.{w64, tyInt}
+use contract.Running.{givenOf}
+use denote.Builtin.{usize}
+use denote.Plain.{uint-lawful}
+use Rattle.definition.specs.Reader.{left}
+use Rattle.reader.proofs.bytes_left.Symbol as read
+use Rattle.reader.proofs.bytes_left.Met as read-thm
+use Rattle.reader_calls.proofs.Through.{through}
+use Rattle.reader_calls.proofs.left_at.Key as key
+use Rattle.reader_calls.proofs.left_at.Statement as stated
+use Rattle.reader_calls.proofs.left_at.Code as code
+
+pub left-at-spec : {M : Type 1} → stated.statement M
+unfolding code.routine
+left-at-spec 𝓤 H 𝓜 𝓖 𝓡 =
+    through usize (tyInt w64) (uint-lawful 𝓤 H (𝓖 .A) (givenOf 𝓤 H 𝓜 𝓖) w64 .typed) left 𝓤 H 𝓜 𝓖 𝓡
+    code.env key.name read.name read.routine code.calls-reader·start-at code.calls-reader·moved code.calls-reader·bytes-left (code.unfolded 𝓤 H 𝓜 𝓡) (read-thm.met 𝓤 H 𝓜 𝓖 𝓡)

@@ -1,0 +1,3 @@
+-- What each function for C returns and leaves.
+pub mod Reply
+pub mod Once

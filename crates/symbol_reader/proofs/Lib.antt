@@ -1,0 +1,4 @@
+-- Laws for the proofs of these functions, and of those above.
+pub mod Entries
+pub mod Names
+pub mod Hashed

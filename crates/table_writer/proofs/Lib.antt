@@ -1,0 +1,2 @@
+-- Laws for the proofs of these functions, and of those above.
+pub mod Added
