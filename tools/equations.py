@@ -298,6 +298,9 @@ def parts_of(found, wanted):
     for name, cases in found.items():
         for case in cases:
             parts.setdefault(corpus.request(case) + "/" + name, []).append(case)
+    unknown = [part for part in steps if part not in parts and part not in found]
+    if unknown:
+        raise SystemExit("no such part: " + ", ".join(unknown))
     if wanted:
         chosen = {label: steps.get(label, steps.get(label.split("/")[-1])) for label in parts}
         parts = {label: cases[::chosen[label]] for label, cases in parts.items() if chosen[label]}
