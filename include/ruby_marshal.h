@@ -47,14 +47,15 @@ enum ruby_marshal_refusal {
     RUBY_MARSHAL_TOO_DEEP = 11,       /* (limit) level above limit */
     RUBY_MARSHAL_NO_SPACE = 12,       /* (slice) next item doesn't fit */
     RUBY_MARSHAL_BAD_HANDLE = 13,     /* (handle) not below node count */
-    RUBY_MARSHAL_WRONG_KIND = 14,     /* (handle) symbol wanted */
+    RUBY_MARSHAL_WRONG_KIND = 14,     /* (handle) symbol wanted; replace_class: or string, array or hash */
     RUBY_MARSHAL_BAD_SIGN = 15,       /* (byte) bignum's sign, neither + nor - */
     RUBY_MARSHAL_TOO_BIG = 16,        /* (units) bignum of more than 4 units of 16 bits, or of 2^63 and more */
     RUBY_MARSHAL_NOT_A_WEIGHT = 17,   /* (node) no number, or a dry weight below 0 */
     RUBY_MARSHAL_BAD_MOISTURE = 18,   /* moisture below 0 or above 0.5 */
     RUBY_MARSHAL_WRONG_SIGN = 19,     /* (size byte) integer below 0 after 4, or not below 0 after 252 */
     RUBY_MARSHAL_NOT_A_RECIPE = 20,   /* (node) wrong kind or below 0 in a recipe or prices; recipe of over 512 pairs */
-    RUBY_MARSHAL_NO_PRICE = 21        /* (key's node) name in the recipe without a price */
+    RUBY_MARSHAL_NO_PRICE = 21,       /* (key's node) name in the recipe without a price */
+    RUBY_MARSHAL_NOT_WRAPPABLE = 22   /* (byte) class on another kind than string, array or hash */
 };
 
 /* The slices that BAD_TABLES and NO_SPACE name; the lowest wrong one is named. No slice has more than 2147483647 entries. */
@@ -92,19 +93,19 @@ enum ruby_marshal_slice {
 #define RUBY_MARSHAL_NEW_WORDS 6u
 #define RUBY_MARSHAL_ROOT_WORDS 3u
 #define RUBY_MARSHAL_KIND_WORDS 3u
-#define RUBY_MARSHAL_GET_WORDS 9u
+#define RUBY_MARSHAL_GET_WORDS 10u
 #define RUBY_MARSHAL_GET_SYMBOL_WORDS 4u
 #define RUBY_MARSHAL_READING_WORDS 4u
 #define RUBY_MARSHAL_READING_DOUBLES 1u
 #define RUBY_MARSHAL_WET_WEIGHT_WORDS 2u
 #define RUBY_MARSHAL_WET_WEIGHT_DOUBLES 3u
 #define RUBY_MARSHAL_BATCH_COST_WORDS 3u
-#define RUBY_MARSHAL_CREATE_WORDS 7u /* every create_ function, and replace_root */
+#define RUBY_MARSHAL_CREATE_WORDS 7u /* every create_ function, replace_root and replace_class */
 
 enum ruby_marshal_answer {
     RUBY_MARSHAL_FIRST = 0,      /* first detail, in two's complement: ruby_marshal_detail */
     RUBY_MARSHAL_SECOND = 1,     /* second detail, never below 0 */
-    RUBY_MARSHAL_NODES = 2,      /* the loads, new, replace_root, create_: the four counts */
+    RUBY_MARSHAL_NODES = 2,      /* the loads, new, replace_root, replace_class, create_: the four counts */
     RUBY_MARSHAL_REFERENCES = 3,
     RUBY_MARSHAL_BYTES = 4,
     RUBY_MARSHAL_ROOT = 5,
@@ -113,10 +114,10 @@ enum ruby_marshal_answer {
     RUBY_MARSHAL_COPIED = 8,     /* load_measured: bytes copied to the byte table, */
     RUBY_MARSHAL_COMPARED = 9,   /*                and bytes compared in searches for names */
     RUBY_MARSHAL_LOOKED = 8,     /* load_hashed: words of the bucket table looked at */
-    RUBY_MARSHAL_HANDLE = 6,     /* create_: the node; replace_root: the old root */
+    RUBY_MARSHAL_HANDLE = 6,     /* create_: the node; replace_root: the old root; replace_class: the old class word */
     RUBY_MARSHAL_WRITTEN = 2,    /* dump: bytes of output written */
     RUBY_MARSHAL_VALUE = 2,      /* root: the root's node; kind: the node's kind */
-    RUBY_MARSHAL_WORDS = 2,      /* get: the node's seven words, 2 to 8 */
+    RUBY_MARSHAL_WORDS = 2,      /* get: the node's eight words, 2 to 9 */
     RUBY_MARSHAL_START = 2,      /* get_symbol: where the name's bytes start, */
     RUBY_MARSHAL_LENGTH = 3,     /*             and how many they are */
     RUBY_MARSHAL_READS_AS = 2,   /* reading: enum ruby_marshal_reading, */
@@ -140,12 +141,12 @@ enum ruby_marshal_weighing {
 
 /* ---- the arena ----
  *
- * Three tables: nodes of seven words, references (nodes by number, in lists), bytes. Four counts say how much of each is
+ * Three tables: nodes of eight words, references (nodes by number, in lists), bytes. Four counts say how much of each is
  * used, and which node is the root. A handle is a node's number. Well formed: counts fit the tables, node count at least 1,
- * root below it, each word as below, byte and list ranges inside the counts, members below the node count, names symbols.
- * Entries past the counts are not examined. An arena may hold itself: a node can be its own member.
+ * root below it, each word as below, byte and list ranges inside the counts, members below the node count, names and classes
+ * symbols. Entries past the counts are not examined. An arena may hold itself: a node can be its own member.
  */
-#define RUBY_MARSHAL_NODE_WORDS 7u
+#define RUBY_MARSHAL_NODE_WORDS 8u
 
 enum ruby_marshal_word {
     RUBY_MARSHAL_WORD_KIND = 0,
@@ -159,7 +160,8 @@ enum ruby_marshal_word {
     RUBY_MARSHAL_WORD_COUNT = 4,     /* and its number of elements (array) or pairs (hash, object, variables) */
     RUBY_MARSHAL_WORD_NAME = 5,      /* object, user-defined: the node of its class's name */
     RUBY_MARSHAL_WORD_DEFAULT = 6,   /* hash: 0 for no default, else node + 1 */
-    RUBY_MARSHAL_WORD_VARIABLES = 6  /* string, user-defined: 1 if it has a variable list, even an empty one */
+    RUBY_MARSHAL_WORD_VARIABLES = 6, /* string, user-defined: 1 if it has a variable list, even an empty one */
+    RUBY_MARSHAL_WORD_CLASS = 7      /* array, hash, string: 0 for no class of its own, else the node of its name + 1 */
 };
 
 /* Word 0. Words that a kind does not use are 0. A pair takes two references; variables are pairs of a symbol and a value. */
@@ -289,7 +291,7 @@ uint32_t ruby_marshal_kind(
     uint32_t handle,
     uint64_t *answer, size_t answer_length);
 
-/* Answers: details, the node's seven words. */
+/* Answers: details, the node's eight words. */
 uint32_t ruby_marshal_get(
     const uint32_t *nodes, size_t nodes_length,
     const uint32_t *references, size_t references_length,
@@ -404,6 +406,19 @@ uint32_t ruby_marshal_replace_root(
     const uint8_t *bytes, size_t bytes_length,
     size_t node_count, size_t reference_count, size_t byte_count, uint32_t root,
     uint32_t handle,
+    uint64_t *answer, size_t answer_length);
+
+/*
+ * The class of an array, a hash or a string replaced; class_word is 0 for none, else its name's node + 1. The old word is
+ * answered. Only that word changes: counts stay. 13 names the handle, then class_word less 1; 14 the handle where it is of
+ * another kind, also for no class, then class_word less 1 where that is no symbol.
+ */
+uint32_t ruby_marshal_replace_class(
+    uint32_t *nodes, size_t nodes_length,
+    const uint32_t *references, size_t references_length,
+    const uint8_t *bytes, size_t bytes_length,
+    size_t node_count, size_t reference_count, size_t byte_count, uint32_t root,
+    uint32_t handle, uint32_t class_word,
     uint64_t *answer, size_t answer_length);
 
 uint32_t ruby_marshal_create_nil(
@@ -590,6 +605,7 @@ static inline const char *ruby_marshal_name(uint32_t returned)
     case RUBY_MARSHAL_WRONG_SIGN: return "WRONG-SIGN";
     case RUBY_MARSHAL_NOT_A_RECIPE: return "NOT-A-RECIPE";
     case RUBY_MARSHAL_NO_PRICE: return "NO-PRICE";
+    case RUBY_MARSHAL_NOT_WRAPPABLE: return "NOT-WRAPPABLE";
     default: return "?";
     }
 }

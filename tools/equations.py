@@ -1,6 +1,6 @@
 """Turns cases of a corpus into closed equations about the definitions, and has the checker compute them.
 
-Each case becomes equations in a crate of its part of the corpus, above a copy of crates/definition; `rt check` computes them.
+Each case becomes equations in a crate of its file, above a copy of crates/definition; `rt check` computes them.
 Cases of which only the lengths are given, and those of the program, are left out."""
 import os, re, shutil, subprocess
 import corpus, model
@@ -18,7 +18,7 @@ REFUSALS = {1: ("BadTables", 1), 3: ("InvalidVersion", 2), 4: ("ShortInput", 0),
             7: ("MissingSymbol", 1), 8: ("MissingObject", 1), 9: ("NotASymbol", 1), 10: ("NotAnObject", 0),
             11: ("TooDeep", 1), 12: ("NoSpace", 1), 13: ("BadHandle", 1), 14: ("WrongKind", 1), 15: ("BadSign", 1),
             16: ("TooBig", 1), 17: ("NotAWeight", 1), 18: ("BadMoisture", 0), 19: ("WrongSign", 1),
-            20: ("NotARecipe", 1), 21: ("NoPrice", 1)}
+            20: ("NotARecipe", 1), 21: ("NoPrice", 1), 22: ("NotWrappable", 1)}
 
 
 def numbers(ns):
@@ -128,8 +128,8 @@ def build(case):
     if name == "get_symbol":
         start, length = words or (0, 0)
         return [("B.name-done (B.get-name %d %s)" % (args[0], lent), "record { answer = %s; start = %d; length = %d }" % (got, start, length))]
-    if name == "replace_root":
-        run = "B.exchange-root %d" % args[0]
+    if name in ("replace_root", "replace_class"):
+        run = " ".join(["B.exchange-" + name.partition("_")[2]] + [str(a) for a in args])
     elif name == "create_bool":
         run = "B.create-bool %s" % ("true" if args[0] else "false")
     elif name == "create_bignum":
@@ -198,7 +198,7 @@ use Rattle.definition.specs.Build as B
 use Rattle.definition.specs.Run.{{Outcome, ok, refused}}
 use Rattle.definition.specs.declared.Answer.the-variants.{{Accepted, Refused}}
 use Rattle.definition.specs.declared.Fault.the-variants.{{Counts as BadCounts, Node}}
-use Rattle.definition.specs.declared.Refusal.the-variants.{{BadTables, BadArena, InvalidVersion, ShortInput, InvalidKind, NegativeCount, MissingSymbol, MissingObject, NotASymbol, NotAnObject, TooDeep, NoSpace, BadHandle, WrongKind, BadSign, TooBig, NotAWeight, BadMoisture, WrongSign, NotARecipe, NoPrice}}
+use Rattle.definition.specs.declared.Refusal.the-variants.{{BadTables, BadArena, InvalidVersion, ShortInput, InvalidKind, NegativeCount, MissingSymbol, MissingObject, NotASymbol, NotAnObject, TooDeep, NoSpace, BadHandle, WrongKind, BadSign, TooBig, NotAWeight, BadMoisture, WrongSign, NotARecipe, NoPrice, NotWrappable}}
 """
 
 PAIRS = """
@@ -270,7 +270,7 @@ def names():
 
 def write_crate(folder, label, equations):
     """The crate of a file's equations."""
-    more, own = MORE.get(label.split("/")[-1], ("", []))
+    more, own = MORE.get(label, ("", []))
     unfolding = names()
     seen = " ".join(own + [unfolding])
     os.makedirs(os.path.join(folder, "specs"))
@@ -292,25 +292,18 @@ def equations_of(name, cases):
 
 
 def parts_of(found, wanted):
-    """The cases of each request in each file: all of them, or those that are wanted, by a file or a part of it, of which n-th."""
-    steps = {part: int(step or 1) for part, _, step in (word.partition(":") for word in wanted)}
-    parts = {}
-    for name, cases in found.items():
-        for case in cases:
-            parts.setdefault(corpus.request(case) + "/" + name, []).append(case)
-    unknown = [part for part in steps if part not in parts and part not in found]
+    """The cases of each file: all of them, or of those that are wanted every n-th."""
+    steps = {part: int(step or 1) for part, _, step in (word.partition(":") for word in wanted or found)}
+    unknown = [part for part in steps if part not in found]
     if unknown:
         raise SystemExit("no such part: " + ", ".join(unknown))
-    if wanted:
-        chosen = {label: steps.get(label, steps.get(label.split("/")[-1])) for label in parts}
-        parts = {label: cases[::chosen[label]] for label, cases in parts.items() if chosen[label]}
-    return parts
+    return {part: found[part][::step] for part, step in steps.items()}
 
 
 def check(work, found, wanted):
     """Prints how many equations hold, and the cases that don't; whether all hold."""
-    parts = {label: equations_of(label.split("/")[-1], cases) for label, cases in parts_of(found, wanted).items()}
-    crates = {label: "c_" + re.sub(r"\W", "_", label) for label in parts}
+    parts = {label: equations_of(label, cases) for label, cases in parts_of(found, wanted).items()}
+    crates = {label: "c_" + label for label in parts}
     os.makedirs(os.path.join(work, "crates"))
     subprocess.run(["git", "init", "-q", work], check=True)
     shutil.copytree(DEFINITION, os.path.join(work, "crates", "definition"))

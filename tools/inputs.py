@@ -1,7 +1,7 @@
 """The inputs that the programs are run on, each with what must be written: chosen of a corpus, and by hand from the documents."""
 import os
-import corpus, folders, model
-from model import Big, Float, Hash, Saved, row, yes_or_no
+import corpus, model
+from model import Big, Classed, Float, Hash, Saved, row, yes_or_no
 
 YES, NO = True, False
 
@@ -41,6 +41,14 @@ LISTED["counter"] = (
     [2, 3, 6, 7, 8, 9, 10, 11, 4, 5, 12, 15, 18, 13, 14, 16, 17, 19, 20],
     b"name" b"mortar 7" b"E" b"batches" b"kilograms" b"used" b"sand" b"cement" b"water")
 
+LISTED["classes"] = (
+    [21, 17, 53, 1, 106],
+    [[], [5, 0, 0, 0, 3], [3, 0, 4], [3, 4, 5], [7, 9, 8, 6, 1, 0, 1, 4], [3, 17, 1], [1, 1], [3, 18, 3], [3, 21, 14],
+     [4, 0, 0, 8, 2, 0, 0, 9], [4, 0, 0, 10, 2], [3, 35, 4], [2, 620], [4, 0, 0, 12, 2], [3, 39, 6], [2, 310], [3, 45, 3],
+     [4, 0, 0, 14, 1, 0, 0, 9], [4, 0, 0, 15, 2], [3, 48, 5], [2, 155]],
+    [2, 4, 7, 9, 16, 17, 5, 6, 10, 13, 11, 12, 14, 15, 18, 19, 20],
+    b"name" b"Label" b"mortar 7" b"E" b"dry" b"IngredientList" b"sand" b"cement" b"wet" b"water")
+
 EXAMPLE = "04085B07697F3A0661", model.listing([4, 2, 1, 1, 9], [[], [4, 0, 0, 0, 2], [2, 122], [3, 0, 1]], [2, 3], b"a")
 NIL = "040830", model.listing([2, 0, 0, 1, 3], [[], []], [], b"")
 
@@ -54,7 +62,7 @@ def listed(found):
         if "list" not in case:
             continue
         wanted = case["in"] == EXAMPLE[0] or len(case["in"]) > 2 * 16384
-        wanted = wanted or corpus.request(case) != "base" or folders.changed(case)
+        wanted = wanted or corpus.request(case) != "base"
         if not wanted:
             number = case["answer"][0]
             count[number] = count.get(number, 0) + 1
@@ -72,18 +80,20 @@ def listed(found):
 TRUE = "040854", model.listing([2, 0, 0, 1, 3], [[], [1, 1]], [], b"")
 FLOAT = "0408660631", model.listing([2, 0, 1, 1, 5], [[], [9, 0, 1]], [], b"1")
 BIGNUM = "04086C2D0800000000FF7F", model.listing([2, 0, 0, 1, 11], [[], [10, 0, 32767, 0, 1]], [], b"")
+CLASSED = "0408433A06612200", model.listing([3, 0, 1, 2, 8], [[], [3, 0, 1], [7, 1, 0, 0, 0, 0, 0, 2]], [], b"a")
 UNREAD = TRUE[0], ""
 
 TOGETHER = [
     [],
     [EXAMPLE],
     [NIL, EXAMPLE, TRUE],
-    [NIL, ("04085B07697F43", row([5, 67, 0])), UNREAD],
+    [NIL, ("04085B07697F44", row([5, 68, 0])), UNREAD],
     [NIL, ("6162", row([3, 97, 98]))],
     [TRUE, ("04", row([4, 0, 0]))],
     [FLOAT, EXAMPLE, FLOAT, ("040849660000", row([10, 0, 0])), UNREAD],
     [BIGNUM, FLOAT, BIGNUM, ("04086C2B0A", row([16, 5, 0])), UNREAD],
     [TRUE, ("0408690400000080", row([19, 4, 0])), UNREAD],
+    [CLASSED, BIGNUM, CLASSED, ("0408433A06613000", row([22, 48, 0])), UNREAD],
 ]
 TOO_MANY = bytes.fromhex(NIL[0]) * 5461 + bytes.fromhex("0408"), row([12, 8, 0])
 
@@ -127,6 +137,10 @@ DECIDED = [
     (YES, "6C2B060100"), (YES, "6C2D060001"), (NO, "6C2B060000"), (NO, "6C2B0701000000"), (YES, "6C2B0700000100"),
     (NO, "6C2D08FFFFFFFF0000"), (YES, "6C2D08000000000100"), (NO, "6C2B090100000000000000"), (YES, "6C2D09FFFFFFFFFFFFFF7F"),
     (NO, "6C2D00"), (NO, "6C2D060000"), (NO, "6C2B01010100"),
+    # a class; its name again, by `:` and by `;`; of a string with variables, and of one that gets them by a link
+    (YES, "433A06615B00"), (YES, "433A0661220661"), (YES, "433A06617B00"), (YES, "433A06617D0030"),
+    (NO, "5B07433A06615B00433A06615B00"), (YES, "5B07433A06615B00433B005B00"), (NO, "5B073A0661433A06615B00"),
+    (YES, "5B07433A06615B004006"), (YES, "49433A0661220000"), (NO, "5B07433A0661220049400600"), (NO, "433A0101615B00"),
     # links, and equal values that are not linked
     (YES, "5B0722004006"), (YES, "5B0722002200"), (YES, "5B0766004006"), (YES, "5B07660631660631"),
     (YES, "5B076C2B004006"), (YES, "5B076C2B0601006C2B060100"),
@@ -189,6 +203,20 @@ BIGNUMS = [("6C2B00", "6C2B00"), ("6C2D00", "6C2B00"), ("6C2D060000", "6C2B00"),
            ("6C2BFA", (6, -1, 0)), ("6C2B0A", (16, 5, 0)), ("6C2B0901000000000000", (4, 0, 0)),
            ("6C2B090000000000000080", (16, 4, 0)), ("6C2D090000000000000080", (16, 4, 0))]
 
+# Document 02's class: before what takes one; its name new, again and by a link; `I` before it, and by a link to what has one; after
+# the name any other byte, a link, `I` and `C` too; `I` on what takes no variables; its kind byte where a name is wanted; a name that
+# is none, or missing; on the deepest level, where its value's members have none.
+CLASSES = [("433A06615B0630", "433A06615B0630"), ("433A0661220662", "433A0661220662"), ("433A06617B063030", "433A06617B063030"),
+           ("433A06617D0030", "433A06617D0030"), ("433A005B00", "433A005B00"), ("433A0101615B00", "433A06615B00"),
+           ("5B07433A06615B00433A06615B00", "5B07433A06615B00433B005B00"), ("5B07433A06615B004006", "5B07433A06615B004006"),
+           ("49433A06612200063B0030", "49433A06612200063B0030"), ("5B07433A0661220049400600", "5B0749433A06612200004006"),
+           ("49433A06615B00", (4, 0, 0)), ("49433A06615B0000", (10, 0, 0)), ("5B07433A06617B0049400600", (10, 0, 0)),
+           ("433A066130", (22, 48, 0)), ("433A066140", (22, 64, 0)), ("433A066143", (22, 67, 0)), ("433A066149", (22, 73, 0)),
+           ("433A066166", (22, 102, 0)), ("433A0661FF", (22, 255, 0)), ("6F43", (9, 67, 0)), ("43", (4, 0, 0)),
+           ("4322", (9, 34, 0)), ("433A0661", (4, 0, 0)), ("433B00", (7, 0, 0)), ("43FA", (9, 250, 0)), ("433AFA", (6, -1, 0)),
+           ("5B06" * 63 + "433A06615B00", "5B06" * 63 + "433A06615B00"), ("5B06" * 63 + "433A06615B0630", (11, 64, 0)),
+           ("5B06" * 63 + "49433A0661220000", (11, 64, 0))]
+
 # One string twice, and two strings with the same bytes: both inputs are as dump writes them.
 ALIKE = ["5B072206614006", "5B07220661220661"]
 
@@ -200,7 +228,7 @@ NOT_DUMPED = [("5B07" + "5B06" * 62 + "22004940" + "%02X" % (63 + 5) + "00", (11
 
 
 def outcomes():
-    for text, outcome in KNOWN + FLOATS + BIGNUMS + [(t, t) for t in ALIKE] + NOT_DUMPED:
+    for text, outcome in KNOWN + FLOATS + BIGNUMS + CLASSES + [(t, t) for t in ALIKE] + NOT_DUMPED:
         yield "0408" + text, "0408" + outcome if isinstance(outcome, str) else outcome
     yield "040030", "040830"
     yield "040930", (3, 4, 9)
@@ -222,10 +250,10 @@ def redumped_pairs(found):
 
 
 def redumped(found):
-    """Besides: the samples, the shortest input of each refusal, and a planner's files that are accepted since."""
+    """Besides: the samples, the shortest input of each refusal, and document 01's files that are accepted since."""
     yield from ((text, text) for text in samples())
-    changed = ((case["in"], case["in"]) for case in corpus.listings(found) if folders.changed(case) and not case["answer"][0])
-    for part in outcomes(), redumped_pairs(found), ((case["in"], case["answer"]) for case in corpus.refusals(found)), changed:
+    since = ((case["in"], case["in"]) for case in corpus.listings(found) if corpus.accepted_since(case) and case["dump_form"])
+    for part in outcomes(), redumped_pairs(found), ((case["in"], case["answer"]) for case in corpus.refusals(found)), since:
         for text, outcome in part:
             yield bytes.fromhex(text), bytes.fromhex(outcome) if isinstance(outcome, str) else row(outcome)
 
@@ -272,6 +300,8 @@ VALUES = [BATCH] + [[Hash(("a", kilograms)), Hash(("a", cents))] for kilograms, 
     # one hash for both; defaults play no part
     [LINE] * 2, [Hash(("a", -1))] * 2, [Hash(("a", 500), default=[None]), Hash(("b", 1), default=[1])],
     [Hash(("a", 500), default=[LINE]), Hash(default=[-1])], [Hash(("a", 500), default=[-1]), Hash(("a", 1), default=[b""])],
+    # classes play no part
+    Classed("a", [Classed("b", LINE), Classed("c", AT)]), [Hash(("a", Classed("a", b""))), AT], [Classed("a", LINE)] * 2,
     # the number of pairs as written, of the recipe alone, before the pairs
     [of_one_name(511), AT], [of_one_name(512), AT], [of_one_name(513), AT], [AT, of_one_name(513)], [of_one_name(513)] * 2,
     [Hash(*[(None, 1)] * 300 + [("a", 1)] * 213), AT], [of_names(300, 500), AT],

@@ -96,6 +96,9 @@ class Walk:
         elif kind == b"o":
             self.name(self.take())
             self.variables()
+        elif kind == b"C":
+            self.name(self.take())
+            self.value()
         elif kind == b"I":
             self.meet(self.text[self.used:self.used + 1] not in (b"I", b"@"))
             self.value()
@@ -273,6 +276,13 @@ class Big(int):
     """A number from zero up that is written as a Bignum."""
 
 
+class Classed:
+    """A hash, a list or bytes in a class of a name."""
+
+    def __init__(self, name, value):
+        self.name, self.value = name, value
+
+
 class Saved:
     """A value as bytes, and the arena that load fills from these: a node for a value where its kind byte stands, list space where
     its count stands. None, bools and ints are Ruby's, a str is a symbol, bytes are a string. What is met again is linked."""
@@ -333,12 +343,21 @@ class Saved:
             self.text += b"i"
             self.integer(v)
             return self.node(2, v % 2 ** 32)
+        name, v = (v.name, v.value) if isinstance(v, Classed) else (None, v)
         if id(v) in self.objects:
             place, handle = self.objects[id(v)]
             self.text += b"@"
             self.integer(place)
             return handle
+        self.text += b"C" if name is not None else b""
+        word = self.symbol(name) + 1 if name is not None else 0
         self.objects[id(v)] = len(self.objects), len(self.nodes) // WIDTH
+        handle = self.object(v)
+        self.nodes[WIDTH * handle + 7] = word
+        return handle
+
+    def object(self, v):
+        """What has an object number, at its first meeting."""
         if isinstance(v, Big):
             units = (v.bit_length() + 15) // 16
             self.text += b"l+"

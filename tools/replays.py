@@ -6,12 +6,12 @@ LOAD, DUMP, PAIR = 1, 2, 3
 READERS = {"byte": 41, "header": 42, "integer": 43, "byte_string": 44, "left": 45, "offset": 46}
 GETTERS = {"root": 11, "kind": 12, "get": 13, "get_symbol": 14, "replace_root": 15, "reading": 16, "wet_weight": 17, "batch_cost": 18}
 CREATORS = ["nil", "bool", "fixnum", "symbol", "new_symbol", "array", "hash", "object", "string", "user_defined", "float", "bignum"]
-CALLS = dict(GETTERS, new=33, **{"create_" + name: 21 + i for i, name in enumerate(CREATORS)})
+CALLS = dict(GETTERS, replace_class=33, new=34, **{"create_" + name: 21 + i for i, name in enumerate(CREATORS)})
 
-# The most that the program lends: node words, references and bytes of load and of arenas, members of a list, bytes of a case.
-MOST_LOADED = [1000 * model.WIDTH, 4000, 16384, 1000, 1000, 1000]
-MOST_LENT = [600 * model.WIDTH, 8192, 2048]
-MOST_MEMBERS, MOST_BYTES = 128, 131072
+# The most that the program lends: node words, references, bytes, and entries of a list, of buckets and of scratch. The most bytes of
+# a case that it reads; longer ones are not stored, and what others lay out is below those.
+NODES, REFERENCES, BYTES, NUMBERED = 1000 * model.WIDTH, 4000, 16384, 1000
+LONGEST = 4096
 
 
 def words(numbers):
@@ -30,7 +30,6 @@ def stored(call, head, tables, texts):
     tail = b"".join(texts)
     tail += bytes(-len(tail) % 4)
     numbers = [call] + head(places) + tables
-    within([4 * (1 + len(numbers)) + len(tail)], [MOST_BYTES])
     return words([1 + len(numbers) + len(tail) // 4] + numbers) + tail
 
 
@@ -45,7 +44,7 @@ def load(case):
     text, laid = bytes.fromhex(case["in"]), bytes.fromhex(case.get("bytes", ""))
     nodes, references = case.get("nodes", []), case.get("refs", [])
     sizes = case["sizes"] + [case["buckets"]]
-    within(sizes, MOST_LOADED)
+    within(sizes, [NODES, REFERENCES, BYTES, NUMBERED, NUMBERED, NUMBERED])
 
     def head(places):
         counted = sum((model.low_and_high(case[x]) for x in ("copied", "compared", "looked")), [])
@@ -57,7 +56,7 @@ def load(case):
 def dump(case):
     text, written = bytes.fromhex(case["bytes"]), bytes.fromhex(case.get("written", ""))
     sizes = [len(case["nodes"]), len(case["refs"])]
-    within(sizes + [case["scratch"], case["out"]], [1000 * model.WIDTH, 4000, 4000, 16384])
+    within([case["scratch"], case["out"]], [NUMBERED, BYTES])
 
     def head(places):
         return sizes + [len(text)] + case["counts"] + [case["scratch"], case["out"], case["limit"], places[0]] + case["answer"] + [
@@ -77,7 +76,6 @@ def arena(case, call, numbers, answer, answers, counts=[0] * 4, members=[], text
     """A call over an arena. Where no node word and no reference changes, those expected are the ones given, and so of bytes."""
     nodes, references, data = case["nodes"], case["refs"], bytes.fromhex(case["bytes"])
     sizes = [len(nodes), len(references), len(data)]
-    within(sizes + [len(members)], MOST_LENT + [MOST_MEMBERS])
     after = case.get("nodes_after", nodes) + case.get("refs_after", references)
     data_after = bytes.fromhex(case.get("bytes_after", case["bytes"]))
     first = 25 + model.WIDTH
@@ -94,7 +92,7 @@ def arena(case, call, numbers, answer, answers, counts=[0] * 4, members=[], text
 def build(case):
     call, args = case["fn"], case["args"]
     number = next((a for a in args if isinstance(a, int)), 0)
-    members = args[1:] if call == "create_bignum" else next((a for a in args if isinstance(a, list)), [])
+    members = args[1:] if call in ("create_bignum", "replace_class") else next((a for a in args if isinstance(a, list)), [])
     text = bytes.fromhex(next((a for a in args if isinstance(a, str)), ""))
     return arena(case, call, [number], case["answer"], case.get("words", [case.get("handle", 0)]),
                  case.get("counts_after", [0] * 4), members, text)
@@ -103,6 +101,17 @@ def build(case):
 def weigh(case):
     numbers = [n for x in case["weighing"] for n in model.low_and_high(x)]
     return arena(case, "wet_weight", [case["dry"], case["moisture"]], case["answer"], numbers)
+
+
+def readings(cases):
+    """What each node that is weighed reads as, once for each kind and text."""
+    found = {}
+    for case in cases:
+        for handle in case["dry"], case["moisture"]:
+            kind, first, length = (model.words_of(case, handle) + [0] * 3)[:3]
+            text = case["bytes"][2 * first:2 * (first + length)] if kind == 9 else first
+            found.setdefault((tuple(model.read(case, handle)[0]), kind, text), (case, handle))
+    return [reading(*each) for each in found.values()]
 
 
 def reading(case, handle):
@@ -136,13 +145,9 @@ def reads():
 
 
 def sections(found):
-    """The sections of the program's input, in their order."""
+    """The sections of the program's input, in their order; what is stored twice, or too long, is left out."""
     weighings = corpus.of("weigh", found)
-    return [[load(case) for case in corpus.of("load", found)],
-            [dump(case) for case in corpus.of("dump", found)],
-            [build(case) for case in corpus.of("build", found)],
-            [weigh(case) for case in weighings],
-            [reading(case, case[x]) for case in weighings for x in ("dry", "moisture")],
-            [cost(case) for case in corpus.of("cost", found)],
-            [pair(case) for case in corpus.of("pairs", found)],
-            list(reads())]
+    return [[case for case in dict.fromkeys(section) if len(case) <= LONGEST] for section in (
+        map(load, corpus.of("load", found)), map(dump, corpus.of("dump", found)), map(build, corpus.of("build", found)),
+        map(weigh, weighings), readings(weighings), map(cost, corpus.of("cost", found)), map(pair, corpus.of("pairs", found)),
+        reads())]

@@ -1,7 +1,7 @@
 /*
  * Replays cases of readings, weighings and batch costs, and prints those that disagree.
  *
- * Standard input is that of the program crates/replay, whose src/arenas.rt says what such a case is; other cases are passed over.
+ * Standard input is that of the program crates/replay; crates/arena_replay says what such a case is. Other cases are passed over.
  * Every slice is just as long as the call needs it, so that a sanitizer sees an entry past it.
  */
 #include "ruby_marshal.h"
@@ -10,7 +10,7 @@
 #include <stdlib.h>
 #include <string.h>
 
-#define MOST 32768u
+#define MOST 1024u
 
 /* The case, as bytes and as words. */
 static uint8_t raw[4 * MOST];

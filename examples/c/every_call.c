@@ -148,7 +148,7 @@ static bool untouched(void)
 
 enum call {
     LOAD, LOAD_MEASURED, LOAD_HASHED, DUMP, ROOT, KIND, GET, GET_SYMBOL, READING, WET_WEIGHT, BATCH_COST, NEW, REPLACE_ROOT,
-    CREATE_NIL, CREATE_BOOL, CREATE_FIXNUM, CREATE_SYMBOL, CREATE_NEW_SYMBOL, CREATE_ARRAY, CREATE_HASH, CREATE_OBJECT,
+    REPLACE_CLASS, CREATE_NIL, CREATE_BOOL, CREATE_FIXNUM, CREATE_SYMBOL, CREATE_NEW_SYMBOL, CREATE_ARRAY, CREATE_HASH, CREATE_OBJECT,
     CREATE_STRING, CREATE_USER_DEFINED, CREATE_FLOAT, CREATE_BIGNUM, CALLS
 };
 
@@ -159,7 +159,7 @@ static const size_t answer_words[CALLS] = {
     RUBY_MARSHAL_CREATE_WORDS, RUBY_MARSHAL_CREATE_WORDS, RUBY_MARSHAL_CREATE_WORDS, RUBY_MARSHAL_CREATE_WORDS,
     RUBY_MARSHAL_CREATE_WORDS, RUBY_MARSHAL_CREATE_WORDS, RUBY_MARSHAL_CREATE_WORDS, RUBY_MARSHAL_CREATE_WORDS,
     RUBY_MARSHAL_CREATE_WORDS, RUBY_MARSHAL_CREATE_WORDS, RUBY_MARSHAL_CREATE_WORDS, RUBY_MARSHAL_CREATE_WORDS,
-    RUBY_MARSHAL_CREATE_WORDS
+    RUBY_MARSHAL_CREATE_WORDS, RUBY_MARSHAL_CREATE_WORDS
 };
 
 /* What the functions take besides: a limit or handle, a second handle, a number, a bignum, words, bytes. */
@@ -201,6 +201,7 @@ static uint32_t call(enum call which, const struct lent *l, struct given g)
     case BATCH_COST: return ruby_marshal_batch_cost(TABLES, COUNTS, g.number, g.other, ANSWER);
     case NEW: return ruby_marshal_new(TABLES, ANSWER);
     case REPLACE_ROOT: return ruby_marshal_replace_root(TABLES, COUNTS, g.number, ANSWER);
+    case REPLACE_CLASS: return ruby_marshal_replace_class(TABLES, COUNTS, g.number, g.other, ANSWER);
     case CREATE_NIL: return ruby_marshal_create_nil(TABLES, COUNTS, ANSWER);
     case CREATE_BOOL: return ruby_marshal_create_bool(TABLES, COUNTS, g.value != 0, ANSWER);
     case CREATE_FIXNUM: return ruby_marshal_create_fixnum(TABLES, COUNTS, g.value, ANSWER);
@@ -335,7 +336,7 @@ static int64_t bignum_at(struct lent *l, uint32_t handle)
 /* Every kind is built, looked at, dumped, loaded, and dumped again. */
 static void build_dump_load(void)
 {
-    struct lent l = lend(200, 14 * 7, 9, 16, 14, 14, 200);
+    struct lent l = lend(200, 14 * RUBY_MARSHAL_NODE_WORDS, 9, 16, 14, 14, 200);
     uint32_t nil, yes, number, name, other, list[5], pairs[2], array, hash, object, string, user, real, big;
     size_t written;
 
@@ -361,6 +362,10 @@ static void build_dump_load(void)
     object = made(CREATE_OBJECT, &l, give_list(name, pairs, 2));
     accepted(REPLACE_ROOT, &l, give(object));
     EXPECT(l.counts.root == object && l.answer[RUBY_MARSHAL_HANDLE] == 0);
+    accepted(REPLACE_CLASS, &l, give_two(hash, other + 1));
+    EXPECT(l.counts.root == object && l.answer[RUBY_MARSHAL_HANDLE] == 0);
+    accepted(REPLACE_CLASS, &l, give_two(hash, name + 1));
+    EXPECT(l.answer[RUBY_MARSHAL_HANDLE] == other + 1);
 
     accepted(ROOT, &l, give(0));
     EXPECT(l.answer[RUBY_MARSHAL_VALUE] == object);
@@ -373,26 +378,34 @@ static void build_dump_load(void)
     accepted(GET, &l, give(real));
     EXPECT(l.answer[RUBY_MARSHAL_WORDS + RUBY_MARSHAL_WORD_LENGTH] == 4);
     EXPECT(memcmp(l.bytes.at + l.answer[RUBY_MARSHAL_WORDS + RUBY_MARSHAL_WORD_START], "1.25", 4) == 0);
-    EXPECT(zero(l.answer + RUBY_MARSHAL_WORDS + RUBY_MARSHAL_WORD_LIST, 4 * 8));
+    EXPECT(zero(l.answer + RUBY_MARSHAL_WORDS + RUBY_MARSHAL_WORD_LIST, 5 * 8));
     EXPECT(bignum_at(&l, big) == -INT64_MAX);
     EXPECT(l.answer[RUBY_MARSHAL_WORDS + RUBY_MARSHAL_WORD_LIST] == 0);
-    EXPECT(zero(l.answer + RUBY_MARSHAL_WORDS + RUBY_MARSHAL_WORD_NAME, 2 * 8));
+    EXPECT(zero(l.answer + RUBY_MARSHAL_WORDS + RUBY_MARSHAL_WORD_NAME, 3 * 8));
     accepted(GET, &l, give(number));
     EXPECT(l.answer[RUBY_MARSHAL_WORDS + RUBY_MARSHAL_WORD_KIND] == RUBY_MARSHAL_FIXNUM);
     EXPECT(ruby_marshal_fixnum((uint32_t)l.answer[RUBY_MARSHAL_WORDS + RUBY_MARSHAL_WORD_VALUE]) == INT32_MIN);
     accepted(GET, &l, give(hash));
     EXPECT(l.answer[RUBY_MARSHAL_WORDS + RUBY_MARSHAL_WORD_COUNT] == 1);
     EXPECT(l.answer[RUBY_MARSHAL_WORDS + RUBY_MARSHAL_WORD_DEFAULT] == nil + 1);
+    EXPECT(l.answer[RUBY_MARSHAL_WORDS + RUBY_MARSHAL_WORD_CLASS] == name + 1);
     accepted(GET_SYMBOL, &l, give(other));
     EXPECT(l.answer[RUBY_MARSHAL_LENGTH] == 4 && memcmp(l.bytes.at + l.answer[RUBY_MARSHAL_START], "sand", 4) == 0);
 
     refused(GET, &l, give(14), RUBY_MARSHAL_BAD_HANDLE, 14, 0);
-    EXPECT(zero(l.answer + RUBY_MARSHAL_WORDS, 7 * 8));
+    EXPECT(zero(l.answer + RUBY_MARSHAL_WORDS, RUBY_MARSHAL_NODE_WORDS * 8));
     refused(KIND, &l, give(UINT32_MAX), RUBY_MARSHAL_BAD_HANDLE, UINT32_MAX, 0);
     refused(GET_SYMBOL, &l, give(string), RUBY_MARSHAL_WRONG_KIND, string, 0);
     refused(GET_SYMBOL, &l, give(real), RUBY_MARSHAL_WRONG_KIND, real, 0);
     refused(REPLACE_ROOT, &l, give(14), RUBY_MARSHAL_BAD_HANDLE, 14, 0);
     EXPECT(ruby_marshal_counts_of(l.answer).root == object && l.answer[RUBY_MARSHAL_HANDLE] == 0);
+    keep();
+    refused(REPLACE_CLASS, &l, give_two(14, 15), RUBY_MARSHAL_BAD_HANDLE, 14, 0);
+    refused(REPLACE_CLASS, &l, give_two(nil, 15), RUBY_MARSHAL_BAD_HANDLE, 14, 0);
+    refused(REPLACE_CLASS, &l, give_two(nil, 0), RUBY_MARSHAL_WRONG_KIND, nil, 0);
+    refused(REPLACE_CLASS, &l, give_two(user, string + 1), RUBY_MARSHAL_WRONG_KIND, user, 0);
+    refused(REPLACE_CLASS, &l, give_two(array, string + 1), RUBY_MARSHAL_WRONG_KIND, string, 0);
+    EXPECT(memcmp(kept, word_room[NODES], ROOM * 4) == 0);
     refused(CREATE_OBJECT, &l, give(string), RUBY_MARSHAL_WRONG_KIND, string, 0);
     refused(CREATE_USER_DEFINED, &l, give_string(nil, ""), RUBY_MARSHAL_WRONG_KIND, nil, 0);
     refused(CREATE_HASH, &l, give_list(0, pairs, 1), RUBY_MARSHAL_BAD_TABLES, RUBY_MARSHAL_SLICE_LIST, 0);
@@ -441,7 +454,7 @@ static void bignums(void)
     };
     size_t i;
     for (i = 0; i < sizeof cases / sizeof cases[0]; i++) {
-        struct lent l = lend(cases[i].length, 2 * 7, 0, 0, 1, 2, 13);
+        struct lent l = lend(cases[i].length, 2 * RUBY_MARSHAL_NODE_WORDS, 0, 0, 1, 2, 13);
         accepted(NEW, &l, give(0));
         EXPECT(made(CREATE_BIGNUM, &l, give_bignum(cases[i].minus, cases[i].magnitude)) == 1);
         accepted(REPLACE_ROOT, &l, give(1));
@@ -480,7 +493,7 @@ static void weighings(void)
         { "5.", RUBY_MARSHAL_READS_NOTHING, 0.0 },
         { "", RUBY_MARSHAL_READS_NOTHING, 0.0 },
     };
-    struct lent l = lend(0, 16 * 7, 0, 80, 0, 0, 0);
+    struct lent l = lend(0, 16 * RUBY_MARSHAL_NODE_WORDS, 0, 80, 0, 0, 0);
     uint32_t nil, least, kilograms, big, text[10];
     size_t i;
 
@@ -548,7 +561,7 @@ static void costs_nothing(struct lent *l, uint32_t recipe, uint32_t prices, uint
 /* Recipes at prices. */
 static void costs(void)
 {
-    struct lent l = lend(0, 40 * 7, 2200, 16, 0, 0, 0);
+    struct lent l = lend(0, 40 * RUBY_MARSHAL_NODE_WORDS, 2200, 16, 0, 0, 0);
     uint32_t nil, a, b, again, nothing, one, half, least, most, big, pairs[2 * (RUBY_MARSHAL_RECIPE_PAIRS + 1)];
     uint32_t none, cent, free_of_charge, recipe, full, over, wrong;
     size_t i;
@@ -617,7 +630,7 @@ static void costs(void)
 /* An array that is its own member: a pass over the nodes ends, and so does dump. */
 static void cycle(void)
 {
-    struct lent l = lend(6, 2 * 7, 1, 0, 1, 2, 6);
+    struct lent l = lend(6, 2 * RUBY_MARSHAL_NODE_WORDS, 1, 0, 1, 2, 6);
     put(&l, "\x04\x08[\x06@\x00");
     accepted(LOAD, &l, give(2));
     EXPECT(l.counts.nodes == 2 && l.counts.root == 1 && l.references.at[0] == 1);
@@ -646,13 +659,15 @@ static void dump_form(void)
         { "\x04\x08II\"\0\0\0", 8, 8, 3, 0 },
         { "\x04\x08[\x07\"\0I@\x06\0", 10, 10, 3, 0 },
         { "\x04\x08[\x07[\x06\"\0I@\x07\0", 12, 12, 3, 0 }, /* dump wants a fourth level */
+        { "\x04\x08" "C:\x06" "a[\0", 8, 8, 1, 1 },
+        { "\x04\x08IC:\x06" "a\"\0\0", 10, 10, 2, 1 },
         { "\x04\x08l+\x06\x01\0", 7, 7, 1, 1 },
         { "\x04\x08l+\x07\x01\0\0\0", 9, 9, 1, 0 }, /* a high zero unit */
         { "\x04\x08l-\0", 5, 5, 1, 0 },
     };
     size_t i;
     for (i = 0; i < sizeof cases / sizeof cases[0]; i++) {
-        struct lent l = lend(cases[i].length, 4 * 7, 3, 2, 3, 4, 12);
+        struct lent l = lend(cases[i].length, 4 * RUBY_MARSHAL_NODE_WORDS, 3, 2, 3, 4, 12);
         bool same;
         put(&l, cases[i].input);
         accepted(LOAD, &l, give(cases[i].limit));
@@ -707,7 +722,7 @@ static void measured(void)
     };
     size_t i;
     for (i = 0; i < sizeof cases / sizeof cases[0]; i++) {
-        struct lent l = lend(cases[i].length, 4 * 7, 3, 4, 3, 0, 0);
+        struct lent l = lend(cases[i].length, 4 * RUBY_MARSHAL_NODE_WORDS, 3, 4, 3, 0, 0);
         put(&l, cases[i].input);
         loads_alike(LOAD_MEASURED, &l);
         EXPECT(l.answer[RUBY_MARSHAL_COPIED] == cases[i].copied && l.answer[RUBY_MARSHAL_COMPARED] == cases[i].compared);
@@ -740,7 +755,7 @@ static void hashed(void)
     };
     size_t i;
     for (i = 0; i < sizeof cases / sizeof cases[0]; i++) {
-        struct lent l = lend(cases[i].length, 4 * 7, 3, 4, 3, 0, 0);
+        struct lent l = lend(cases[i].length, 4 * RUBY_MARSHAL_NODE_WORDS, 3, 4, 3, 0, 0);
         l.buckets = words(BUCKETS, cases[i].buckets);
         put(&l, cases[i].input);
         loads_alike(LOAD_HASHED, &l);
@@ -773,6 +788,8 @@ static void refusals(void)
         { "\x04\x08l*", 4, 1, RUBY_MARSHAL_BAD_SIGN, '*', 0 },
         { "\x04\x08l+\x0A", 5, 1, RUBY_MARSHAL_TOO_BIG, 5, 0 },
         { "\x04\x08l-\x09\0\0\0\0\0\0\0\x80", 13, 1, RUBY_MARSHAL_TOO_BIG, 4, 0 },
+        { "\x04\x08" "C:\x06" "a0", 7, 1, RUBY_MARSHAL_NOT_WRAPPABLE, '0', 0 },
+        { "\x04\x08" "C:\x06" "aC", 7, 1, RUBY_MARSHAL_NOT_WRAPPABLE, 'C', 0 },
         { "\x04\x08i\xFC\0\0\0\0", 8, 1, RUBY_MARSHAL_WRONG_SIGN, 0xFC, 0 },
         { "\x04\x08[\x04\0\0\0\x80", 8, 1, RUBY_MARSHAL_WRONG_SIGN, 4, 0 }, /* before NEGATIVE_COUNT */
         { "\x04\x08@\xFC\xFF\xFF\xFF\x7F", 8, 1, RUBY_MARSHAL_WRONG_SIGN, 0xFC, 0 },
@@ -781,7 +798,7 @@ static void refusals(void)
     for (i = 0; i < sizeof cases / sizeof cases[0]; i++) {
         int which;
         for (which = LOAD; which <= LOAD_HASHED; which++) {
-            struct lent l = lend(cases[i].length, 3 * 7, 2, 2, 2, 0, 0);
+            struct lent l = lend(cases[i].length, 3 * RUBY_MARSHAL_NODE_WORDS, 2, 2, 2, 0, 0);
             put(&l, cases[i].input);
             memset(l.answer, 0xA5, RUBY_MARSHAL_ANSWER_WORDS * 8);
             memset(l.buckets.at, 0xA5, l.buckets.length * 4);
@@ -793,11 +810,11 @@ static void refusals(void)
         EXPECT(strcmp(ruby_marshal_name(cases[i].number), "?") != 0);
     }
     {
-        struct lent l = lend(0, 2 * 7, 0, 0, 0, 2, 3);
+        struct lent l = lend(0, 2 * RUBY_MARSHAL_NODE_WORDS, 0, 0, 0, 2, 3);
         memset(l.nodes.at, 0, l.nodes.length * 4);
         refused(ROOT, &l, give(0), RUBY_MARSHAL_BAD_ARENA, -1, 0);
         l.counts.nodes = 2;
-        l.nodes.at[7] = 99;
+        l.nodes.at[RUBY_MARSHAL_NODE_WORDS] = 99;
         refused(DUMP, &l, give(1), RUBY_MARSHAL_BAD_ARENA, 1, 0);
     }
 }
@@ -809,7 +826,7 @@ static void few_words(void)
     size_t n;
     for (which = 0; which < CALLS; which++) {
         for (n = 0; n <= answer_words[which]; n++) {
-            struct lent l = lend(3, 2 * 7, 2, 2, 2, 2, 3);
+            struct lent l = lend(3, 2 * RUBY_MARSHAL_NODE_WORDS, 2, 2, 2, 2, 3);
             put(&l, "\x04\x08" "0");
             memset(l.nodes.at, 0, l.nodes.length * 4);
             l.counts.nodes = 1;
@@ -834,7 +851,7 @@ static void few_doubles(void)
     for (which = READING; which <= WET_WEIGHT; which++) {
         size_t enough = which == READING ? RUBY_MARSHAL_READING_DOUBLES : RUBY_MARSHAL_WET_WEIGHT_DOUBLES;
         for (n = 0; n <= enough; n++) {
-            struct lent l = lend(0, 7, 0, 0, 0, 0, 0);
+            struct lent l = lend(0, RUBY_MARSHAL_NODE_WORDS, 0, 0, 0, 0, 0);
             memset(l.nodes.at, 0, l.nodes.length * 4);
             l.counts.nodes = 1;
             l.doubles = double_room + ROOM - n;
@@ -877,7 +894,7 @@ static void lengths(void)
         }
     }
     for (n = 0; n <= 5; n++) {
-        struct lent l = lend(0, 4 * 7, 0, 0, 0, n, 3);
+        struct lent l = lend(0, 4 * RUBY_MARSHAL_NODE_WORDS, 0, 0, 0, n, 3);
         memset(l.nodes.at, 0, l.nodes.length * 4);
         l.counts.nodes = 1;
         keep();
@@ -887,7 +904,7 @@ static void lengths(void)
             accepted(DUMP, &l, give(1));
     }
     for (n = 0; n <= 5; n++) {
-        struct lent l = lend(3, 4 * 7, 0, 0, 0, 0, 0);
+        struct lent l = lend(3, 4 * RUBY_MARSHAL_NODE_WORDS, 0, 0, 0, 0, 0);
         put(&l, "\x04\x08" "0");
         l.buckets = words(BUCKETS, n);
         memset(l.answer, 0, RUBY_MARSHAL_ANSWER_WORDS * 8);

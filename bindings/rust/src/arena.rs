@@ -5,7 +5,7 @@ use core::fmt;
 
 /// An arena's three tables, lent.
 pub struct Tables<'t> {
-    /// Seven words a node; a whole number of nodes, at least one.
+    /// Eight words a node; a whole number of nodes, at least one.
     pub nodes: &'t mut [u32],
     /// Lists of nodes.
     pub references: &'t mut [u32],
@@ -139,7 +139,7 @@ impl<'t> Arena<'t> {
         self.dump_form
     }
 
-    /// The node table, whole: seven words a node, of which the counts say how many are used.
+    /// The node table, whole: eight words a node, of which the counts say how many are used.
     pub fn node_table(&self) -> &'t [u32] {
         self.rows.as_flattened()
     }

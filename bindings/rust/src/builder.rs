@@ -4,11 +4,17 @@ use core::fmt;
 
 /// An arena that can be added to.
 ///
-/// A node is appended, and nothing else changes; the root is nil until [`Builder::replace_root`]. A refused call changes nothing.
+/// A node is appended, and nothing else changes; the root is nil until [`Builder::replace_root`], and no node has a class until
+/// [`Builder::replace_class`]. A refused call changes nothing.
 /// Each call has the archive look through the whole arena first, so building takes time with the square of its size.
 pub struct Builder<'t> {
     tables: Tables<'t>,
     counts: Counts,
+}
+
+// The word of a default or of a class. It would wrap at u32::MAX, which is never a node's number.
+fn optional_word(node: Option<Handle>) -> Result<u32, Refusal> {
+    node.map_or(Ok(0), |handle| handle.number().checked_add(1).ok_or(Refusal::BadHandle(u32::MAX)))
 }
 
 impl<'t> Builder<'t> {
@@ -61,6 +67,15 @@ impl<'t> Builder<'t> {
         self.created(created)
     }
 
+    /// Gives an array, a hash or a string the class with that symbol for a name, or none; and gives the old class's.
+    pub fn replace_class(&mut self, handle: Handle, class: Option<Handle>) -> Result<Option<Handle>, Refusal> {
+        let t = &mut self.tables;
+        let word = optional_word(class)?;
+        let created = calls::replace_class(t.nodes, t.references, t.bytes, self.counts, handle.number(), word);
+        created.answer?;
+        Ok(created.handle.checked_sub(1).map(Handle::new))
+    }
+
     /// A nil.
     pub fn create_nil(&mut self) -> Result<Handle, Refusal> {
         let t = &mut self.tables;
@@ -106,11 +121,7 @@ impl<'t> Builder<'t> {
     /// A hash of keys and values, with a default or without.
     pub fn create_hash(&mut self, pairs: &[[Handle; 2]], default: Option<Handle>) -> Result<Handle, Refusal> {
         let t = &mut self.tables;
-        let word = match default {
-            None => 0,
-            // The word would wrap at u32::MAX, which is never a node's number.
-            Some(handle) => handle.number().checked_add(1).ok_or(Refusal::BadHandle(u32::MAX))?,
-        };
+        let word = optional_word(default)?;
         let created =
             calls::create_hash(t.nodes, t.references, t.bytes, self.counts, sys::words_of(pairs.as_flattened()), word);
         self.created(created)

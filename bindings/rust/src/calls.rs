@@ -2,7 +2,7 @@
 //!
 //! They take whatever the slices and counts hold: tables that are no arena are refused. Every call but the loads and [`new`]
 //! looks through the whole arena first; an [`Arena`](crate::Arena) is read without that.
-use crate::{sys, Counts, Measures, Reading, Refusal, Weighing};
+use crate::{sys, Counts, Measures, Reading, Refusal, Weighing, NODE_WORDS};
 
 /// What [`load`] answers.
 #[derive(Clone, Copy, Debug, PartialEq, Eq)]
@@ -45,7 +45,7 @@ pub struct Begun {
     pub counts: Counts,
 }
 
-/// What the builder's functions and [`replace_root`] answer.
+/// What the builder's functions, [`replace_root`] and [`replace_class`] answer.
 #[derive(Clone, Copy, Debug, PartialEq, Eq)]
 pub struct Created {
     /// Accepted, or why not.
@@ -148,8 +148,8 @@ pub fn kind(nodes: &[u32], references: &[u32], bytes: &[u8], counts: Counts, han
     number(sys::kind(nodes, references, bytes, counts, handle))
 }
 
-/// A node's seven words.
-pub fn get(nodes: &[u32], references: &[u32], bytes: &[u8], counts: Counts, handle: u32) -> Result<[u32; 7], Refusal> {
+/// A node's words.
+pub fn get(nodes: &[u32], references: &[u32], bytes: &[u8], counts: Counts, handle: u32) -> Result<[u32; NODE_WORDS], Refusal> {
     let told = sys::get(nodes, references, bytes, counts, handle);
     Refusal::of(told.number, &told.words)?;
     let [_, _, words @ ..] = told.words;
@@ -212,6 +212,11 @@ pub fn new(nodes: &mut [u32], references: &mut [u32], bytes: &mut [u8]) -> Begun
 /// The root replaced; the old one is answered.
 pub fn replace_root(nodes: &[u32], references: &[u32], bytes: &[u8], counts: Counts, handle: u32) -> Created {
     created(sys::replace_root(nodes, references, bytes, counts, handle))
+}
+
+/// The class of an array, a hash or a string replaced; it is 0 for none, else its name's node + 1. The old word is answered.
+pub fn replace_class(nodes: &mut [u32], references: &[u32], bytes: &[u8], counts: Counts, handle: u32, class: u32) -> Created {
+    created(sys::replace_class(nodes, references, bytes, counts, handle, class))
 }
 
 /// A nil.

@@ -21,7 +21,7 @@
 //! ```
 //! use ruby_marshal_tables::{load, Lists, Tables, Value, MAX_LIMIT};
 //!
-//! let (mut nodes, mut references, mut bytes) = ([0; 7 * 16], [0; 16], [0; 64]);
+//! let (mut nodes, mut references, mut bytes) = ([0; 8 * 16], [0; 16], [0; 64]);
 //! let (mut symbols, mut objects) = ([0; 16], [0; 16]);
 //! let tables = Tables { nodes: &mut nodes, references: &mut references, bytes: &mut bytes };
 //! let lists = Lists { symbols: &mut symbols, objects: &mut objects };
@@ -65,12 +65,12 @@ pub const MAX_LIMIT: u32 = 128;
 pub const MAX_RECIPE_PAIRS: usize = 512;
 
 /// How many words a node has.
-pub const NODE_WORDS: usize = 7;
+pub const NODE_WORDS: usize = 8;
 
 /// How much of the three tables is used, and the root's node.
 #[derive(Clone, Copy, Debug, Default, PartialEq, Eq, Hash)]
 pub struct Counts {
-    /// Nodes, of seven words each.
+    /// Nodes, of eight words each.
     pub nodes: usize,
     /// Words of the reference table.
     pub references: usize,

@@ -131,7 +131,7 @@ pub enum Refusal {
     NoSpace(Slice),
     /// A handle that is not below the node count.
     BadHandle(u32),
-    /// A node that is no symbol where one is wanted.
+    /// A node that is no symbol where one is wanted, or that takes no class.
     WrongKind(u32),
     /// A bignum's sign byte that is neither `+` nor `-`.
     BadSign(u8),
@@ -148,6 +148,8 @@ pub enum Refusal {
     NotARecipe(u32),
     /// A key of the recipe whose name has no price.
     NoPrice(u32),
+    /// A class on another kind byte than a string's, an array's or a hash's.
+    NotWrappable(u8),
     /// A number that this crate doesn't know: the archive is of another version.
     Other {
         /// What was returned.
@@ -187,11 +189,12 @@ impl Refusal {
             19 => Refusal::WrongSign(first as u8),
             20 => Refusal::NotARecipe(first as u32),
             21 => Refusal::NoPrice(first as u32),
+            22 => Refusal::NotWrappable(first as u8),
             _ => Refusal::Other { number, first: first as i64, second },
         })
     }
 
-    /// The number in documents 01 and 02, 1 to 21.
+    /// The number in documents 01 and 02, 1 to 22.
     pub fn number(self) -> u32 {
         match self {
             Refusal::BadTables(_) => 1,
@@ -215,6 +218,7 @@ impl Refusal {
             Refusal::WrongSign(_) => 19,
             Refusal::NotARecipe(_) => 20,
             Refusal::NoPrice(_) => 21,
+            Refusal::NotWrappable(_) => 22,
             Refusal::Other { number, .. } => number,
         }
     }
@@ -226,9 +230,11 @@ impl Refusal {
             Refusal::BadArena(Fault::Counts) => (-1, 0),
             Refusal::InvalidVersion { major, minor } => (major.into(), minor.into()),
             Refusal::ShortInput | Refusal::NotAnObject | Refusal::BadMoisture => (0, 0),
-            Refusal::InvalidKind(byte) | Refusal::NotASymbol(byte) | Refusal::BadSign(byte) | Refusal::WrongSign(byte) => {
-                (byte.into(), 0)
-            }
+            Refusal::InvalidKind(byte)
+            | Refusal::NotASymbol(byte)
+            | Refusal::BadSign(byte)
+            | Refusal::WrongSign(byte)
+            | Refusal::NotWrappable(byte) => (byte.into(), 0),
             Refusal::NegativeCount(value) => (value.into(), 0),
             Refusal::BadArena(Fault::Node(n))
             | Refusal::MissingSymbol(n)
@@ -268,6 +274,7 @@ impl Refusal {
             Refusal::WrongSign(_) => "WRONG-SIGN",
             Refusal::NotARecipe(_) => "NOT-A-RECIPE",
             Refusal::NoPrice(_) => "NO-PRICE",
+            Refusal::NotWrappable(_) => "NOT-WRAPPABLE",
             Refusal::Other { .. } => "?",
         }
     }
@@ -290,7 +297,7 @@ impl fmt::Display for Refusal {
             Refusal::TooDeep(limit) => write!(f, "more than {limit} levels"),
             Refusal::NoSpace(slice) => write!(f, "no space: {slice}"),
             Refusal::BadHandle(handle) => write!(f, "no node {handle}"),
-            Refusal::WrongKind(handle) => write!(f, "node {handle} is no symbol"),
+            Refusal::WrongKind(handle) => write!(f, "node {handle} is of another kind than is wanted"),
             Refusal::BadSign(byte) => write!(f, "sign byte {byte:02X}, neither + nor -"),
             Refusal::TooBig(units) => write!(f, "a bignum of {units} units is too big"),
             Refusal::NotAWeight(handle) => write!(f, "node {handle} is no weight"),
@@ -298,6 +305,7 @@ impl fmt::Display for Refusal {
             Refusal::WrongSign(size) => write!(f, "size byte {size:02X} on an integer of the other sign"),
             Refusal::NotARecipe(handle) => write!(f, "node {handle} does not belong in a recipe or in prices"),
             Refusal::NoPrice(handle) => write!(f, "the name of node {handle} has no price"),
+            Refusal::NotWrappable(byte) => write!(f, "a class on kind byte {byte:02X}"),
             Refusal::Other { number, first, second } => write!(f, "refusal {number}, {first}, {second}"),
         }
     }

@@ -137,6 +137,15 @@ mod archive {
             answer: *mut u64, answer_length: usize,
         ) -> u32;
 
+        pub fn ruby_marshal_replace_class(
+            nodes: *mut u32, nodes_length: usize,
+            references: *const u32, references_length: usize,
+            bytes: *const u8, bytes_length: usize,
+            node_count: usize, reference_count: usize, byte_count: usize, root: u32,
+            handle: u32, class: u32,
+            answer: *mut u64, answer_length: usize,
+        ) -> u32;
+
         pub fn ruby_marshal_create_nil(
             nodes: *mut u32, nodes_length: usize,
             references: *const u32, references_length: usize,
@@ -405,8 +414,8 @@ pub fn kind(nodes: &[u32], references: &[u32], bytes: &[u8], counts: Counts, han
     Told { number, words }
 }
 
-pub fn get(nodes: &[u32], references: &[u32], bytes: &[u8], counts: Counts, handle: u32) -> Told<9> {
-    let mut words = [0; 9];
+pub fn get(nodes: &[u32], references: &[u32], bytes: &[u8], counts: Counts, handle: u32) -> Told<10> {
+    let mut words = [0; 10];
     // SAFETY: each pointer and length are those of one live reference; only `words`, a local, is written.
     let number = unsafe {
         archive::ruby_marshal_get(
@@ -518,6 +527,22 @@ pub fn replace_root(nodes: &[u32], references: &[u32], bytes: &[u8], counts: Cou
             bytes.as_ptr(), bytes.len(),
             counts.nodes, counts.references, counts.bytes, counts.root,
             handle,
+            words.as_mut_ptr(), words.len(),
+        )
+    };
+    Told { number, words }
+}
+
+pub fn replace_class(nodes: &mut [u32], references: &[u32], bytes: &[u8], counts: Counts, handle: u32, class: u32) -> Told<7> {
+    let mut words = [0; 7];
+    // SAFETY: each pointer and length are those of one live reference; `nodes` is `&mut`, `words` is a local.
+    let number = unsafe {
+        archive::ruby_marshal_replace_class(
+            nodes.as_mut_ptr(), nodes.len(),
+            references.as_ptr(), references.len(),
+            bytes.as_ptr(), bytes.len(),
+            counts.nodes, counts.references, counts.bytes, counts.root,
+            handle, class,
             words.as_mut_ptr(), words.len(),
         )
     };

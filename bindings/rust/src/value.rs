@@ -16,6 +16,7 @@ mod word {
     pub const NAME: usize = 5;
     pub const DEFAULT: usize = 6;
     pub const VARIABLES: usize = 6;
+    pub const CLASS: usize = 7;
 }
 
 /// What a node is: its word 0.
@@ -98,7 +99,7 @@ impl<'a> Node<'a> {
         Handle::new(self.handle)
     }
 
-    /// The node's seven words.
+    /// The node's eight words.
     #[inline]
     pub fn words(self) -> &'a [u32; NODE_WORDS] {
         &self.arena.rows[self.handle as usize]
@@ -145,6 +146,19 @@ impl<'a> Node<'a> {
             Kind::Float => Value::Float(Float(row)),
             Kind::Bignum => Value::Bignum(row.bignum()),
         }
+    }
+
+    /// The symbol that names the class of an array, a hash or a string, where it has one of its own.
+    #[inline]
+    pub fn class_node(self) -> Option<Node<'a>> {
+        let handle = self.words()[word::CLASS].checked_sub(1)?;
+        Some(Node::at(self.arena, handle))
+    }
+
+    /// That class's name.
+    #[inline]
+    pub fn class(self) -> Option<&'a [u8]> {
+        self.class_node().map(|node| node.row().bytes())
     }
 
     /// Is it nil?
@@ -237,7 +251,7 @@ impl<'a> Row<'a> {
         self.words[word::COUNT] as usize
     }
 
-    // The list is one of variables where the node's last word says that there is one.
+    // The list is one of variables where word 6 says that there is one.
     #[inline]
     fn variable_list(self) -> Option<Variables<'a>> {
         (self.words[word::VARIABLES] == 1).then(|| self.variables())

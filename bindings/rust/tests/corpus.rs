@@ -1,13 +1,13 @@
-//! The corpora of the documents' answers, through the calls on slices and through tables, arenas and builders.
+//! The corpus of the documents' answers, through the calls on slices and through tables, arenas and builders.
 //!
-//! RUBY_MARSHAL_CORPUS names their folders. Each test says how many cases it ran.
+//! RUBY_MARSHAL_CORPUS names its folder. Each test says how many cases it ran.
 #![cfg(feature = "alloc")]
 mod common;
 
-use common::{corpus, junk, junk_bytes, numbers, padded, Case, Json, COSTS, LATER, WEIGHINGS};
+use common::{corpus, junk, junk_bytes, numbers, padded, Case, Json};
 use ruby_marshal_tables::{
     calls, load_hashed, load_measured, load_prefix, Arena, Builder, Counts, Handle, Lists, Measures, Node, OwnedTables,
-    Reading, Refusal, Slice, Tables, Value, Weighing, MAX_LIMIT, MAX_RECIPE_PAIRS,
+    Reading, Refusal, Slice, Tables, Value, Weighing, MAX_LIMIT, MAX_RECIPE_PAIRS, NODE_WORDS,
 };
 use std::collections::HashMap;
 
@@ -34,7 +34,7 @@ fn load_case(case: &Case) -> Option<bool> {
     let loaded = calls::load(&input, n, r, b, s, o, case.limit());
     assert_eq!(numbers(&loaded.answer), case.answer(), "{}", case.id());
     assert_eq!((loaded.counts, loaded.used), (case.counts("counts"), case.size("used")), "{}", case.id());
-    assert!(!case.has("dump_form") || loaded.dump_form == (case.size("dump_form") == 1), "{}: dump form", case.id());
+    assert_eq!(loaded.dump_form, case.size("dump_form") == 1, "{}: dump form", case.id());
     let [node_words, references, bytes, symbols, objects] = sizes;
     let after = if case.answer().0 == 1 {
         lent_junk(sizes)
@@ -82,9 +82,7 @@ fn measured_agrees(case: &Case, sizes: [usize; 5], loaded: &calls::Loaded, after
     let Measures { copied, compared } = measured.measures;
     assert_eq!(copied, loaded.answer.map_or(0, |()| loaded.counts.bytes as u64), "{}: copied", case.id());
     assert!(loaded.answer.is_ok() || compared == 0, "{}: compared", case.id());
-    if case.has("copied") {
-        assert_eq!((copied, compared), (case.size("copied") as u64, case.size("compared") as u64), "{}: measures", case.id());
-    }
+    assert_eq!((copied, compared), (case.size("copied") as u64, case.size("compared") as u64), "{}: measures", case.id());
 
     let mut again = lent_junk(sizes);
     let tables = Tables { nodes: &mut again.0, references: &mut again.1, bytes: &mut again.2 };
@@ -113,10 +111,10 @@ fn hashed_of(case: &Case, loaded: calls::Loaded) -> calls::Loaded {
 }
 
 // load_hashed answers and leaves what load does, unless the bucket table is refused, and the words looked at; the bucket table is
-// zero after any answer but 1. Where a case has none, it has a word a node.
+// zero after any answer but 1.
 fn hashed_agrees(case: &Case, sizes: [usize; 5], loaded: &calls::Loaded, after: &Lent) {
     let input = case.bytes("in");
-    let words = if case.has("buckets") { case.size("buckets") } else { sizes[0] / 7 };
+    let words = case.size("buckets");
     let expected = hashed_of(case, *loaded);
     let mut lent = lent_junk(sizes);
     let mut buckets = junk(words);
@@ -129,9 +127,7 @@ fn hashed_agrees(case: &Case, sizes: [usize; 5], loaded: &calls::Loaded, after: 
         assert!(lent == *after && buckets.iter().all(|&word| word == 0), "{}: tables, hashed", case.id());
     }
     assert!(expected.answer.is_ok() || hashed.looked == 0, "{}: looked", case.id());
-    if case.has("looked") {
-        assert_eq!(hashed.looked, case.size("looked") as u64, "{}: looked", case.id());
-    }
+    assert_eq!(hashed.looked, case.size("looked") as u64, "{}: looked", case.id());
 
     let mut again = lent_junk(sizes);
     let tables = Tables { nodes: &mut again.0, references: &mut again.1, bytes: &mut again.2 };
@@ -155,10 +151,12 @@ fn form_agrees(arena: &Arena, loaded: &calls::Loaded, input: &[u8], case: &Case)
 // What each view says is what the corpus's words and bytes say.
 fn views_agree(arena: &Arena, case: &Case) {
     let (nodes, references, bytes) = (case.words("nodes"), case.words("refs"), case.bytes("bytes"));
-    assert_eq!(arena.nodes().len(), nodes.len() / 7, "{}", case.id());
-    for (node, words) in arena.nodes().zip(nodes.chunks(7)) {
+    assert_eq!(arena.nodes().len(), nodes.len() / NODE_WORDS, "{}", case.id());
+    for (node, words) in arena.nodes().zip(nodes.chunks(NODE_WORDS)) {
         assert_eq!(node.words(), words, "{} {node:?}", case.id());
         assert!(said(node) == words_say(words, &references, &bytes), "{} {node:?}", case.id());
+        assert_eq!(node.class_node().map_or(0, |name| name.handle().number() + 1), words[7], "{} {node:?}", case.id());
+        assert_eq!(node.class(), node.class_node().and_then(Node::as_symbol), "{} {node:?}", case.id());
     }
 }
 
@@ -264,7 +262,7 @@ fn huge_case(case: &Case) -> Option<()> {
     let measured =
         calls::load_measured(&input, &mut nodes, &mut references, &mut bytes, &mut symbols, &mut objects, case.limit());
     assert_eq!(measured.load, loaded, "{}", case.id());
-    let mut buckets = huge::<u32>(if case.has("buckets") { case.size("buckets") } else { 0 })?;
+    let mut buckets = huge::<u32>(case.size("buckets"))?;
     let hashed = calls::load_hashed(
         &input,
         &mut nodes,
@@ -279,12 +277,13 @@ fn huge_case(case: &Case) -> Option<()> {
     Some(())
 }
 
-fn load_file(file: &str) {
+#[test]
+fn load_cases() {
     let (mut accepted, mut formed, mut refused, mut large, mut left) = (0, 0, 0, 0, 0);
-    for case in corpus(file) {
+    for case in corpus("load") {
         if case.has("huge") {
             large += usize::from(huge_case(&case).is_some());
-        } else if file == "load-list" && case.bytes("in").len() > 16384 {
+        } else if !case.has("sizes") {
             left += 1; // the program's answer, not load's
         } else if let Some(form) = load_case(&case) {
             accepted += 1;
@@ -293,28 +292,8 @@ fn load_file(file: &str) {
             refused += 1;
         }
     }
-    print!("{file}: {accepted} accepted, of them {formed} in dump form, {refused} refused");
+    print!("load: {accepted} accepted, of them {formed} in dump form, {refused} refused");
     println!(", {large} with slices past the greatest length, {left} left out");
-}
-
-#[test]
-fn load_tight() {
-    load_file("load-tight");
-}
-
-#[test]
-fn load_list() {
-    load_file("load-list");
-}
-
-#[test]
-fn saved() {
-    load_file("saved");
-}
-
-#[test]
-fn load_later() {
-    load_file(LATER);
 }
 
 // ---- dump
@@ -399,6 +378,7 @@ fn call(case: &Case, n: &mut [u32], r: &mut [u32], b: &mut [u8]) -> Told {
         "get" => got(calls::get(n, r, b, c, word(0))),
         "get_symbol" => got(calls::get_symbol(n, r, b, c, word(0)).map(|(start, length)| [start, length])),
         "replace_root" => created(calls::replace_root(n, r, b, c, word(0))),
+        "replace_class" => created(calls::replace_class(n, r, b, c, word(0), word(1))),
         "create_nil" => created(calls::create_nil(n, r, b, c)),
         "create_bool" => created(calls::create_bool(n, r, b, c, word(0) == 1)),
         "create_fixnum" => created(calls::create_fixnum(n, r, b, c, args[0].number() as i32)),
@@ -443,6 +423,10 @@ fn build(case: &Case, builder: &mut Builder) -> Option<Result<Vec<u32>, Refusal>
             return Some(Ok(vec![start, length]));
         }
         "replace_root" => builder.replace_root(handle(0)),
+        "replace_class" => {
+            let class = (args[1].number() as u32).checked_sub(1).map(Handle::new);
+            return Some(builder.replace_class(handle(0), class).map(|old| vec![old.map_or(0, |name| name.number() + 1)]));
+        }
         "create_nil" => builder.create_nil(),
         "create_bool" => builder.create_bool(args[0].number() == 1),
         "create_fixnum" => builder.create_fixnum(args[0].number() as i32),
@@ -589,7 +573,7 @@ fn weigh_case(case: &Case) -> bool {
             Err(refusal) => assert_eq!(read, Err(*refusal), "{}", case.id()),
             Ok(_) if handle as usize >= counts.nodes => assert_eq!(read, Err(Refusal::BadHandle(handle)), "{}", case.id()),
             Ok(arena) => {
-                let said = words_read(&nodes[7 * handle as usize..], &bytes);
+                let said = words_read(&nodes[NODE_WORDS * handle as usize..], &bytes);
                 assert_eq!(read.map(reading_bits), Ok(reading_bits(said)), "{}", case.id());
                 assert_eq!(arena.reading(Handle::new(handle)).map(reading_bits), Ok(reading_bits(said)), "{}", case.id());
             }
@@ -625,7 +609,7 @@ fn over_arenas(file: &str, call: fn(&Case) -> bool, refused: fn(&Case, &[u32], &
 
 #[test]
 fn weighings() {
-    over_arenas(WEIGHINGS, weigh_case, |case, nodes, references, bytes| {
+    over_arenas("weigh", weigh_case, |case, nodes, references, bytes| {
         let (dry, moisture) = (case.size("dry") as u32, case.size("moisture") as u32);
         numbers(&calls::wet_weight(nodes, references, bytes, case.counts("counts"), dry, moisture))
     });
@@ -689,7 +673,7 @@ fn cost_case(case: &Case) -> bool {
 
 #[test]
 fn costs() {
-    over_arenas(COSTS, cost_case, |case, nodes, references, bytes| {
+    over_arenas("cost", cost_case, |case, nodes, references, bytes| {
         let (recipe, prices) = (case.size("recipe") as u32, case.size("prices") as u32);
         numbers(&calls::batch_cost(nodes, references, bytes, case.counts("counts"), recipe, prices))
     });

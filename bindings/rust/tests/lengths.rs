@@ -2,27 +2,27 @@
 mod common;
 
 use common::{junk, junk_bytes};
-use ruby_marshal_tables::{calls, Arena, Builder, Counts, Lists, Measures, Reading, Refusal, Slice, Tables};
+use ruby_marshal_tables::{calls, Arena, Builder, Counts, Lists, Measures, Reading, Refusal, Slice, Tables, NODE_WORDS};
 
 const INPUT: &[u8] = b"\x04\x08[\x07:\x06a\"\x06b";
 const COUNTS: Counts = Counts { nodes: 1, references: 0, bytes: 0, root: 0 };
 
 // What the rule names of a node table of that many words.
 fn wrong_nodes(words: usize) -> bool {
-    words == 0 || !words.is_multiple_of(7)
+    words == 0 || !words.is_multiple_of(NODE_WORDS)
 }
 
 // A load into tables of these lengths: the first item that has no room is named, in the order in which load meets it.
 fn expected(nodes: usize, references: usize, bytes: usize, symbols: usize, objects: usize) -> Result<(), Refusal> {
     let items = [
-        (nodes >= 14, Slice::Nodes), // the array
+        (nodes >= 2 * NODE_WORDS, Slice::Nodes), // the array
         (objects >= 1, Slice::Objects),
         (references >= 2, Slice::References),
         (bytes >= 1, Slice::Bytes), // the symbol
-        (nodes >= 21, Slice::Nodes),
+        (nodes >= 3 * NODE_WORDS, Slice::Nodes),
         (symbols >= 1, Slice::Symbols),
         (bytes >= 2, Slice::Bytes), // the string
-        (nodes >= 28, Slice::Nodes),
+        (nodes >= 4 * NODE_WORDS, Slice::Nodes),
         (objects >= 2, Slice::Objects),
     ];
     items.iter().find(|(room, _)| !room).map_or(Ok(()), |&(_, slice)| Err(Refusal::NoSpace(slice)))
@@ -34,7 +34,7 @@ type Lent = (Vec<u32>, Vec<u32>, Vec<u8>, Vec<u32>, Vec<u32>);
 // load_hashed with a bucket table around the fewest words that are allowed: what load answers and leaves, and one word looked
 // at, or the bucket table is refused, after the node table.
 fn hashed_into_every_length(before: &Lent, loaded: &calls::Loaded, left: &Lent) {
-    let nodes = before.0.len() / 7;
+    let nodes = before.0.len() / NODE_WORDS;
     for words in nodes.saturating_sub(2)..=nodes + 2 {
         let (mut lent, mut buckets) = (before.clone(), junk(words));
         let (n, r, b, s, o) = (&mut lent.0, &mut lent.1, &mut lent.2, &mut lent.3, &mut lent.4);
@@ -57,7 +57,7 @@ fn hashed_into_every_length(before: &Lent, loaded: &calls::Loaded, left: &Lent) 
 #[test]
 fn load_into_every_length() {
     let mut calls_made = 0;
-    for nodes in (0..=30).chain([35, 36]) {
+    for nodes in (0..=33).chain([40, 41]) {
         for references in 0..=3 {
             for bytes in 0..=3 {
                 for (symbols, objects) in [(0, 0), (0, 2), (1, 0), (1, 1), (1, 2), (2, 3)] {
@@ -103,7 +103,7 @@ fn load_into_every_length() {
 #[test]
 fn limits() {
     for limit in [0, 1, 2, 127, 128, 129, 1 << 31, u32::MAX] {
-        let (mut n, mut r, mut b, mut s, mut o) = ([0; 28], [0; 2], [0; 2], [0; 1], [0; 2]);
+        let (mut n, mut r, mut b, mut s, mut o) = ([0; 4 * NODE_WORDS], [0; 2], [0; 2], [0; 1], [0; 2]);
         let expected = match limit {
             0 | 1 => Err(Refusal::TooDeep(limit)),
             2..=128 => Ok(()),
@@ -113,12 +113,12 @@ fn limits() {
         assert_eq!(loaded.answer, expected);
         // The limit comes before the bucket table.
         for (words, short) in [(4, false), (3, true)] {
-            let (mut n, mut r, mut b, mut buckets) = ([0; 28], [0; 2], [0; 2], vec![0; words]);
+            let (mut n, mut r, mut b, mut buckets) = ([0; 4 * NODE_WORDS], [0; 2], [0; 2], vec![0; words]);
             let hashed = calls::load_hashed(INPUT, &mut n, &mut r, &mut b, &mut s, &mut o, &mut buckets, limit);
             let refused = short && expected != Err(Refusal::BadTables(Slice::Limit));
             assert_eq!(hashed.load.answer, if refused { Err(Refusal::BadTables(Slice::Buckets)) } else { expected });
         }
-        let (mut n, mut r, mut b) = ([0; 28], [0; 2], [0; 2]);
+        let (mut n, mut r, mut b) = ([0; 4 * NODE_WORDS], [0; 2], [0; 2]);
         calls::load(INPUT, &mut n, &mut r, &mut b, &mut s, &mut o, 2).answer.unwrap();
         let (mut scratch, mut output) = ([0; 4], [0; 64]);
         let counts = Counts { nodes: 4, references: 2, bytes: 2, root: 1 };
@@ -130,7 +130,7 @@ fn limits() {
 #[test]
 fn dump_from_and_into_every_length() {
     let mut calls_made = 0;
-    for words in 0..=30 {
+    for words in 0..=33 {
         let nodes = vec![0; words];
         for scratch in 0..=6 {
             for output in 0..=5 {
@@ -140,7 +140,7 @@ fn dump_from_and_into_every_length() {
                 calls_made += 1;
                 let expected = if wrong_nodes(words) {
                     Err(Refusal::BadTables(Slice::Nodes))
-                } else if scratch < words / 7 {
+                } else if scratch < words / NODE_WORDS {
                     Err(Refusal::BadTables(Slice::Scratch))
                 } else if output < 3 {
                     Err(Refusal::NoSpace(Slice::Output))
@@ -164,16 +164,19 @@ fn dump_from_and_into_every_length() {
 #[test]
 fn getters_and_builders_over_every_length() {
     let mut calls_made = 0;
-    for words in 0..=22 {
+    for words in 0..=25 {
         let wrong = wrong_nodes(words);
         let bad = Err(Refusal::BadTables(Slice::Nodes));
         let mut n = vec![0; words];
         let (mut r, mut b) = ([0; 2], [0; 2]);
-        let nodes = words / 7;
+        let nodes = words / NODE_WORDS;
         let c = COUNTS;
         assert_eq!(calls::root(&n, &r, &b, c), if wrong { bad } else { Ok(0) });
         assert_eq!(calls::kind(&n, &r, &b, c, 0), if wrong { bad } else { Ok(0) });
-        assert_eq!(calls::get(&n, &r, &b, c, 0), if wrong { Err(Refusal::BadTables(Slice::Nodes)) } else { Ok([0; 7]) });
+        assert_eq!(
+            calls::get(&n, &r, &b, c, 0),
+            if wrong { Err(Refusal::BadTables(Slice::Nodes)) } else { Ok([0; NODE_WORDS]) }
+        );
         let symbol = calls::get_symbol(&n, &r, &b, c, 0);
         assert_eq!(symbol, Err(if wrong { Refusal::BadTables(Slice::Nodes) } else { Refusal::WrongKind(0) }));
         let reading = calls::reading(&n, &r, &b, c, 0);
@@ -213,6 +216,8 @@ fn getters_and_builders_over_every_length() {
         let root = calls::replace_root(&n, &r, &b, c, 1);
         assert_eq!(root.answer, Err(if wrong { Refusal::BadTables(Slice::Nodes) } else { Refusal::BadHandle(1) }));
         assert_eq!((root.handle, root.counts), (0, c));
+        let class = calls::replace_class(&mut n.clone(), &r, &b, c, 0, 0);
+        assert_eq!((class.answer, class.handle, class.counts), (user, 0, c));
         // Counts past each table.
         if !wrong {
             let past = [
@@ -230,7 +235,7 @@ fn getters_and_builders_over_every_length() {
         }
         let begun = Builder::new(Tables { nodes: &mut n, references: &mut r, bytes: &mut b }).map(|_| ());
         assert_eq!(begun, if wrong { Err(Refusal::BadTables(Slice::Nodes)) } else { Ok(()) });
-        calls_made += 20;
+        calls_made += 21;
     }
     println!("getters and builders: {calls_made} calls");
 }

@@ -263,6 +263,9 @@ fn a_recipe_that_is_built() {
     let user = builder.create_user_defined(name, b"\x01").unwrap();
     let object = builder.create_object(name, &[[other, hash], [name, user]]).unwrap();
     assert_eq!(builder.replace_root(object), Ok(Handle::new(0)));
+    assert_eq!(builder.replace_class(hash, Some(name)), Ok(None));
+    assert_eq!(builder.replace_class(text, Some(name)), Ok(None));
+    assert_eq!(builder.replace_class(text, None), Ok(Some(name)));
 
     // Refusals leave the builder as it was.
     let counts = builder.counts();
@@ -275,6 +278,10 @@ fn a_recipe_that_is_built() {
     assert_eq!(builder.create_bignum(i64::MIN), Err(Refusal::TooBig(4)));
     assert_eq!(builder.create_array(&[nil; 21]), Err(Refusal::NoSpace(Slice::References)));
     assert_eq!(builder.replace_root(Handle::new(counts.nodes as u32)), Err(Refusal::BadHandle(counts.nodes as u32)));
+    assert_eq!(builder.replace_class(Handle::new(99), Some(Handle::new(98))), Err(Refusal::BadHandle(99)));
+    assert_eq!(builder.replace_class(object, Some(Handle::new(98))), Err(Refusal::BadHandle(98)));
+    assert_eq!(builder.replace_class(object, None), Err(Refusal::WrongKind(object.number())));
+    assert_eq!(builder.replace_class(list, Some(text)), Err(Refusal::WrongKind(text.number())));
     assert_eq!(builder.counts(), counts);
     assert!(format!("{builder:?}").starts_with("Builder { counts: Counts"));
 
@@ -288,7 +295,10 @@ fn a_recipe_that_is_built() {
     assert_eq!(calls::kind(n, r, b, counts, float.number()), Ok(9));
     assert_eq!(calls::kind(n, r, b, counts, bignum.number()), Ok(10));
     assert_eq!(arena.node(bignum).and_then(Node::as_bignum), Some(-2_000_000_000_000));
-    assert_eq!(calls::get(n, r, b, counts, number.number()), Ok([2, (-2_000_000_000_i32) as u32, 0, 0, 0, 0, 0]));
+    assert_eq!(calls::get(n, r, b, counts, number.number()), Ok([2, (-2_000_000_000_i32) as u32, 0, 0, 0, 0, 0, 0]));
+    assert_eq!(arena.node(hash).and_then(Node::class), Some(&b"sand"[..]));
+    assert_eq!(arena.node(hash).and_then(Node::class_node).map(Node::handle), Some(name));
+    assert_eq!((arena.node(text).and_then(Node::class), arena.node(list).and_then(Node::class)), (None, None));
     let (start, length) = calls::get_symbol(n, r, b, counts, other.number()).unwrap();
     assert_eq!(&b[start as usize..][..length as usize], b"sand");
     assert_eq!(calls::get_symbol(n, r, b, counts, text.number()), Err(Refusal::WrongKind(text.number())));
@@ -312,7 +322,7 @@ fn a_recipe_that_is_built() {
 // The functions of `calls` that make nodes.
 #[test]
 fn the_calls_that_create() {
-    let (mut n, mut r, mut b) = ([9; 7 * 14], [9; 8], [9; 16]);
+    let (mut n, mut r, mut b) = ([9; NODE_WORDS * 14], [9; 8], [9; 16]);
     let begun = calls::new(&mut n, &mut r, &mut b);
     assert_eq!((begun.answer, begun.counts), (Ok(()), Counts { nodes: 1, ..Counts::default() }));
     assert!(n.iter().chain(&r).all(|&word| word == 0) && b == [0; 16]);
@@ -335,8 +345,10 @@ fn the_calls_that_create() {
     let bignum = made(calls::create_bignum(&mut n, &r, &b, float.counts, true, 5, 6));
     c = made(calls::replace_root(&n, &r, &b, bignum.counts, 7)).counts;
     assert_eq!((c.nodes, c.references, c.bytes, c.root), (13, 7, 11, 7));
-    assert_eq!(calls::get(&n, &r, &b, c, float.handle), Ok([9, 7, 4, 0, 0, 0, 0]));
-    assert_eq!(calls::get(&n, &r, &b, c, bignum.handle), Ok([10, 5, 6, 0, 1, 0, 0]));
+    let old = [symbol.handle + 1, 0].map(|class| made(calls::replace_class(&mut n, &r, &b, c, 9, class)));
+    assert_eq!(old.map(|created| (created.handle, created.counts)), [(0, c), (symbol.handle + 1, c)]);
+    assert_eq!(calls::get(&n, &r, &b, c, float.handle), Ok([9, 7, 4, 0, 0, 0, 0, 0]));
+    assert_eq!(calls::get(&n, &r, &b, c, bignum.handle), Ok([10, 5, 6, 0, 1, 0, 0, 0]));
     let refused = calls::create_object(&mut n, &mut r, &b, c, 0, &[0]);
     assert_eq!((numbers(&refused.answer), refused.handle, refused.counts), ((1, 9, 0), 0, c));
     let arena = Arena::check(&n, &r, &b, c).unwrap();
@@ -465,7 +477,7 @@ fn costs() {
 
 #[test]
 fn lent_tables_are_lent_again() {
-    let (mut nodes, mut references, mut bytes) = ([0; 21], [0; 4], [0; 8]);
+    let (mut nodes, mut references, mut bytes) = ([0; 3 * NODE_WORDS], [0; 4], [0; 8]);
     let (mut symbols, mut objects) = ([0; 3], [0; 3]);
     let mut tables = Tables { nodes: &mut nodes, references: &mut references, bytes: &mut bytes };
     let mut lists = Lists { symbols: &mut symbols, objects: &mut objects };
@@ -488,6 +500,7 @@ fn refusals() {
         (b"\x04\x090", 1, Refusal::InvalidVersion { major: 4, minor: 9 }, "version 4.9, not 4.0 to 4.8"),
         (b"\x04\x08i", 1, Refusal::ShortInput, "the input ends too early"),
         (b"\x04\x08?", 1, Refusal::InvalidKind(b'?'), "unknown kind byte 3F"),
+        (b"\x04\x08C:\x06a0", 1, Refusal::NotWrappable(b'0'), "a class on kind byte 30"),
         (b"\x04\x08[\xfa", 1, Refusal::NegativeCount(-1), "a length, count or index of -1"),
         (b"\x04\x08[\xfc\x00\x00\x00\x80", 1, Refusal::NegativeCount(i32::MIN), "a length, count or index of -2147483648"),
         (b"\x04\x08;\x06", 1, Refusal::MissingSymbol(1), "no symbol 1 so far"),
@@ -533,6 +546,7 @@ fn refusals() {
         (Refusal::WrongSign(252), "WRONG-SIGN", 19, (252, 0)),
         (Refusal::NotARecipe(2), "NOT-A-RECIPE", 20, (2, 0)),
         (Refusal::NoPrice(2), "NO-PRICE", 21, (2, 0)),
+        (Refusal::NotWrappable(b'0'), "NOT-WRAPPABLE", 22, (48, 0)),
     ];
     for (refusal, name, number, details) in names {
         assert_eq!((refusal.name(), refusal.number(), refusal.details()), (name, number, details));
@@ -540,20 +554,32 @@ fn refusals() {
     }
     let counts = Counts { nodes: 2, ..Counts::default() };
     let check = |nodes: &[u32], counts| Arena::check(nodes, &[], &[], counts).map(|arena| arena.counts());
-    assert_eq!(check(&[0; 14], counts), Ok(counts));
-    assert_eq!(check(&[0; 7], counts), Err(Refusal::BadArena(Fault::Counts)));
-    assert_eq!(check(&[0, 0, 0, 0, 0, 0, 0, 99, 0, 0, 0, 0, 0, 0], counts), Err(Refusal::BadArena(Fault::Node(1))));
+    assert_eq!(check(&[0; 2 * NODE_WORDS], counts), Ok(counts));
+    assert_eq!(check(&[0; NODE_WORDS], counts), Err(Refusal::BadArena(Fault::Counts)));
+    let second = |words: [u32; NODE_WORDS]| check(&[[0; NODE_WORDS], words].concat(), counts);
+    let faulty = Err(Refusal::BadArena(Fault::Node(1)));
+    assert_eq!(second([99, 0, 0, 0, 0, 0, 0, 0]), faulty);
     // A Float has bytes within the count, and nothing else.
-    assert_eq!(check(&[0, 0, 0, 0, 0, 0, 0, 9, 0, 0, 0, 0, 0, 0], counts), Ok(counts));
-    assert_eq!(check(&[0, 0, 0, 0, 0, 0, 0, 9, 0, 1, 0, 0, 0, 0], counts), Err(Refusal::BadArena(Fault::Node(1))));
-    assert_eq!(check(&[0, 0, 0, 0, 0, 0, 0, 9, 0, 0, 0, 0, 0, 1], counts), Err(Refusal::BadArena(Fault::Node(1))));
+    assert_eq!(second([9, 0, 0, 0, 0, 0, 0, 0]), Ok(counts));
+    for words in [[9, 0, 1, 0, 0, 0, 0, 0], [9, 0, 0, 0, 0, 0, 1, 0], [9, 0, 0, 0, 0, 0, 0, 1]] {
+        assert_eq!(second(words), faulty, "{words:?}");
+    }
     // A Bignum's magnitude is below 2^63, zero is plus, and the other words are 0.
-    let bignum = |words: [u32; 6]| check(&[&[0, 0, 0, 0, 0, 0, 0, 10], &words[..]].concat(), counts);
-    for words in [[u32::MAX, (1 << 31) - 1, 0, 1, 0, 0], [0; 6], [0, 1, 0, 1, 0, 0], [1, 0, 0, 1, 0, 0]] {
+    let bignum = |[low, high, list, sign, name, last, class]: [u32; 7]| second([10, low, high, list, sign, name, last, class]);
+    for words in [[u32::MAX, (1 << 31) - 1, 0, 1, 0, 0, 0], [0; 7], [0, 1, 0, 1, 0, 0, 0], [1, 0, 0, 1, 0, 0, 0]] {
         assert_eq!(bignum(words), Ok(counts), "{words:?}");
     }
-    let high = [0, 1 << 31, 0, 0, 0, 0];
-    for words in [high, [0, 0, 0, 1, 0, 0], [1, 0, 0, 2, 0, 0], [1, 0, 1, 0, 0, 0], [1, 0, 0, 0, 1, 0], [1, 0, 0, 0, 0, 1]] {
-        assert_eq!(bignum(words), Err(Refusal::BadArena(Fault::Node(1))), "{words:?}");
+    let high = [0, 1 << 31, 0, 0, 0, 0, 0];
+    let unused = [[1, 0, 1, 0, 0, 0, 0], [1, 0, 0, 0, 1, 0, 0], [1, 0, 0, 0, 0, 1, 0], [1, 0, 0, 0, 0, 0, 1]];
+    for words in [high, [0, 0, 0, 1, 0, 0, 0], [1, 0, 0, 2, 0, 0, 0]].into_iter().chain(unused) {
+        assert_eq!(bignum(words), faulty, "{words:?}");
     }
+    // An array, a hash and a string may have a class, which is a symbol below the count; an object has none.
+    let classed = |kind, class| check(&[[3, 0, 0, 0, 0, 0, 0, 0], [kind, 0, 0, 0, 0, 0, 0, class]].concat(), counts);
+    for kind in [4, 5, 7] {
+        assert_eq!((classed(kind, 0), classed(kind, 1)), (Ok(counts), Ok(counts)), "kind {kind}");
+        assert_eq!((classed(kind, 2), classed(kind, 3)), (faulty, faulty), "kind {kind}");
+        assert_eq!(classed(kind, u32::MAX), faulty, "kind {kind}");
+    }
+    assert_eq!((classed(6, 0), classed(6, 1)), (Ok(counts), faulty));
 }

@@ -36,11 +36,11 @@ module _ (l : List ℕ) (start n count i : ℕ) (h : start + n ≤ length l) whe
 -- ---- names
 
 -- a row is of a kind other than nil's exactly where word 0 is that
-pub kind-test : (x : ℕ) → 0 < x → x ≤ 10 → (k a b s n c f : ℕ) → eqb (kind (row-of k a b s n c f)) x ≡ eqb k x
-kind-test x h l k a b s n c f =
+pub kind-test : (x : ℕ) → 0 < x → x ≤ 10 → (k a b s n c f w : ℕ) → eqb (kind (row-of k a b s n c f w)) x ≡ eqb k x
+kind-test x h l k a b s n c f w =
     same-test _ _
-    (λ e. eq-eqb k x (kind-is k a b s n c f x (eqb-true (kind (row-of k a b s n c f)) x e) h))
-    (λ e. let q = eqb-true k x e in eq-eqb _ x (kind-of k a b s n c f (omega (arith, q)) ∙ q))
+    (λ e. eq-eqb k x (kind-is k a b s n c f w x (eqb-true (kind (row-of k a b s n c f w)) x e) h))
+    (λ e. let q = eqb-true k x e in eq-eqb _ x (kind-of k a b s n c f w (omega (arith, q)) ∙ q))
 
 first-word : (t : List ℕ) (i : ℕ) → getD (take width (drop (i * width) t)) 0 0 ≡ getD t (i * width) 0
 first-word t i = getD-take width (drop (i * width) t) 0 0 (omega arith) ∙ getD-drop (i * width) t 0 0 ∙ ap (λ (k : ℕ). getD t k 0) (omega arith)
@@ -51,7 +51,7 @@ unfolding is-name node row
 name-at A n t i e h =
     sym (ap (λ (l : List Row). eqb (kind (getD l i nil)) 3) e
     ∙ ap (λ (r : Row). eqb (kind r) 3) (rows-at n t i h)
-    ∙ kind-test 3 (omega arith) (omega arith) _ _ _ _ _ _ _
+    ∙ kind-test 3 (omega arith) (omega arith) _ _ _ _ _ _ _ _
     ∙ ap (λ (k : ℕ). eqb k 3) (first-word t i))
 
 pub no-name : (A : Arena) (n : ℕ) (t : List ℕ) (i : ℕ) → A .nodes ≡ rows n t → n ≤ i → false ≡ is-name A i

@@ -12,15 +12,16 @@ use lib.ListN.{length, getD, take, drop, length-drop}
 use lib.Seq.{getD-drop, length-take-le, drop-drop, take-take}
 use borrow.Author.Tests.{le-leb, lt-leb, lt-ltb, le-ltb, ne-eqb}
 use Rattle.definition.specs.Run.{pick}
-use Rattle.definition.specs.Node.{Row, row, row-of, vars, is-row, width, START, LENGTH, LIST, COUNT, NAME, DEFAULT}
+use Rattle.definition.specs.Node.{Row, row, row-of, vars, is-row, width, START, LENGTH, LIST, COUNT, NAME, DEFAULT, CLASS, optional-node}
 use Rattle.definition.specs.Magnitude.{magnitude, fits as magnitude-fits}
-use Rattle.definition.specs.Arena.{Arena, Tables, arena, range, firsts, all-below, all-names, is-name, bytes-right, list-right, pairs-right, vars-right, number-right, row-right, node-right, faulty, counts-fit, fault, fault-if, counts-of}
+use Rattle.definition.specs.Arena.{Arena, Tables, arena, range, firsts, all-below, all-names, is-name, bytes-right, list-right, pairs-right, vars-right, class-right, number-right, row-right, node-right, faulty, counts-fit, fault, fault-if, counts-of}
 use Rattle.definition.specs.declared.Counts.{Counts}
 use Rattle.definition.specs.declared.Fault.{Fault}
 use Rattle.definition.specs.declared.Fault.the-variants.{Counts as BadCounts, Node}
 use Rattle.arena_check.specs.declared.Checked.{Checked}
 use Rattle.arena_check.specs.declared.Checked.the-variants.{Right, Wrong}
 use Rattle.arena_check.specs.Held.{Held, Fits, FitIf}
+use Rattle.lists.specs.Tables.{length-rows}
 use Rattle.arena_check.proofs.Rows.{row-2}
 
 -- ---- ranges and lists
@@ -77,6 +78,20 @@ unfolding vars-right vars
 vars-some A zero s n e = absurd (e refl)
 vars-some A (suc f) s n e = refl
 
+pick-self : (x : Bool) → x ≡ pick x true false
+unfolding pick
+pick-self true = refl
+pick-self false = refl
+
+pub class-none : (A : Arena) (w : ℕ) → w ≡ 0 → true ≡ class-right A w
+unfolding class-right all-names optional-node
+class-none A w e = ap (class-right A) (sym e)
+
+pub class-some : (A : Arena) (w : ℕ) → (w ≡ 0 → ⊥) → is-name A (w - 1) ≡ class-right A w
+unfolding class-right all-names optional-node
+class-some A zero e = absurd (e refl)
+class-some A (suc c) e = let z : suc c - 1 ≡ c = omega arith in ap (is-name A) z ∙ pick-self (is-name A c)
+
 -- ---- a Bignum's number
 
 module _ {x m : ℕ} (e : x ≡ m) (w : ℕ) where
@@ -94,9 +109,12 @@ module _ {x m : ℕ} (e : x ≡ m) (w : ℕ) where
 
 -- ---- rows by kind
 
-module _ (A : Arena) (a b s n c f : ℕ) where
+pub held-count : {A : Arena} {nodes references : List ℕ} {n r b : ℕ} → Held A nodes references n r b → length (A .nodes) ≡ n
+held-count {nodes = nodes} {n = n} H = ap length (H .nodes-same) ∙ length-rows n nodes
+
+module _ (A : Arena) (a b s n c f w : ℕ) where
   abbrev right : ℕ → Bool
-  right k = row-right A (row-of k a b s n c f)
+  right k = row-right A (row-of k a b s n c f w)
 
   -- a byte string alone
   pub right-text : (k : ℕ) → (k ≡ 3) ⊎ (k ≡ 9) → bytes-right A a b ≡ right k
@@ -104,11 +122,11 @@ module _ (A : Arena) (a b s n c f : ℕ) where
   right-text k (inl e) = ap right (sym e)
   right-text k (inr e) = ap right (sym e)
 
-  pub right-4 : (k : ℕ) → k ≡ 4 → list-right A s n ≡ right k
+  pub right-4 : (k : ℕ) → k ≡ 4 → (list-right A s n && class-right A w) ≡ right k
   unfolding row-right row-of pick
   right-4 k e = ap right (sym e)
 
-  pub right-5 : (k : ℕ) → k ≡ 5 → (list-right A s (n * 2) && leb f (length (A .nodes))) ≡ right k
+  pub right-5 : (k : ℕ) → k ≡ 5 → (list-right A s (n * 2) && leb f (length (A .nodes)) && class-right A w) ≡ right k
   unfolding row-right row-of pick
   right-5 k e = ap right (sym e)
 
@@ -116,7 +134,7 @@ module _ (A : Arena) (a b s n c f : ℕ) where
   unfolding row-right row-of pick
   right-6 k e = ap right (sym e)
 
-  pub right-7 : (k : ℕ) → k ≡ 7 → (bytes-right A a b && vars-right A (vars f s n)) ≡ right k
+  pub right-7 : (k : ℕ) → k ≡ 7 → (bytes-right A a b && vars-right A (vars f s n) && class-right A w) ≡ right k
   unfolding row-right row-of pick
   right-7 k e = ap right (sym e)
 
@@ -140,38 +158,39 @@ module _ (A : Arena) (a b s n c f : ℕ) where
 
 -- ---- nodes
 
-seven : (t : List ℕ) → width ≤ length t → take width t ≡ getD t 0 0 ∷ getD t 1 0 ∷ getD t 2 0 ∷ getD t 3 0 ∷ getD t 4 0 ∷ getD t 5 0 ∷ getD t 6 0 ∷ []
-seven [] h = absurd (omega arith)
-seven (a ∷ []) h = absurd (omega arith)
-seven (a ∷ b ∷ []) h = absurd (omega arith)
-seven (a ∷ b ∷ c ∷ []) h = absurd (omega arith)
-seven (a ∷ b ∷ c ∷ d ∷ []) h = absurd (omega arith)
-seven (a ∷ b ∷ c ∷ d ∷ e ∷ []) h = absurd (omega arith)
-seven (a ∷ b ∷ c ∷ d ∷ e ∷ f ∷ []) h = absurd (omega arith)
-seven (a ∷ b ∷ c ∷ d ∷ e ∷ f ∷ g ∷ t) h = refl
+eight : (t : List ℕ) → width ≤ length t → take width t ≡ getD t 0 0 ∷ getD t 1 0 ∷ getD t 2 0 ∷ getD t 3 0 ∷ getD t 4 0 ∷ getD t 5 0 ∷ getD t 6 0 ∷ getD t 7 0 ∷ []
+eight [] h = absurd (omega arith)
+eight (a ∷ []) h = absurd (omega arith)
+eight (a ∷ b ∷ []) h = absurd (omega arith)
+eight (a ∷ b ∷ c ∷ []) h = absurd (omega arith)
+eight (a ∷ b ∷ c ∷ d ∷ []) h = absurd (omega arith)
+eight (a ∷ b ∷ c ∷ d ∷ e ∷ []) h = absurd (omega arith)
+eight (a ∷ b ∷ c ∷ d ∷ e ∷ f ∷ []) h = absurd (omega arith)
+eight (a ∷ b ∷ c ∷ d ∷ e ∷ f ∷ g ∷ []) h = absurd (omega arith)
+eight (a ∷ b ∷ c ∷ d ∷ e ∷ f ∷ g ∷ w ∷ t) h = refl
 
--- the seven words of node i
-pub node-words : (t : List ℕ) (at : ℕ) → at + width ≤ length t → take width (drop at t) ≡ getD t at 0 ∷ getD t (at + START) 0 ∷ getD t (at + LENGTH) 0 ∷ getD t (at + LIST) 0 ∷ getD t (at + COUNT) 0 ∷ getD t (at + NAME) 0 ∷ getD t (at + DEFAULT) 0 ∷ []
+-- the eight words of node i
+pub node-words : (t : List ℕ) (at : ℕ) → at + width ≤ length t → take width (drop at t) ≡ getD t at 0 ∷ getD t (at + START) 0 ∷ getD t (at + LENGTH) 0 ∷ getD t (at + LIST) 0 ∷ getD t (at + COUNT) 0 ∷ getD t (at + NAME) 0 ∷ getD t (at + DEFAULT) 0 ∷ getD t (at + CLASS) 0 ∷ []
 node-words t at h =
     let z : at + 0 ≡ at = omega arith in
-    seven (drop at t) (rw (length-drop at t) (omega arith))
-    ∙ (λ i. (getD-drop at t 0 0 ∙ ap (λ (k : ℕ). getD t k 0) z) i ∷ getD-drop at t 1 0 i ∷ getD-drop at t 2 0 i ∷ getD-drop at t 3 0 i ∷ getD-drop at t 4 0 i ∷ getD-drop at t 5 0 i ∷ getD-drop at t 6 0 i ∷ [])
+    eight (drop at t) (rw (length-drop at t) (omega arith))
+    ∙ (λ i. (getD-drop at t 0 0 ∙ ap (λ (k : ℕ). getD t k 0) z) i ∷ getD-drop at t 1 0 i ∷ getD-drop at t 2 0 i ∷ getD-drop at t 3 0 i ∷ getD-drop at t 4 0 i ∷ getD-drop at t 5 0 i ∷ getD-drop at t 6 0 i ∷ getD-drop at t 7 0 i ∷ [])
 
-pub node-in : (A : Arena) (ws : List ℕ) (k a b s n c f : ℕ) → ws ≡ k ∷ a ∷ b ∷ s ∷ n ∷ c ∷ f ∷ [] → true ≡ is-row (k ∷ a ∷ b ∷ s ∷ n ∷ c ∷ f ∷ []) → row-right A (row-of k a b s n c f) ≡ node-right A ws
+pub node-in : (A : Arena) (ws : List ℕ) (k a b s n c f w : ℕ) → ws ≡ k ∷ a ∷ b ∷ s ∷ n ∷ c ∷ f ∷ w ∷ [] → true ≡ is-row (k ∷ a ∷ b ∷ s ∷ n ∷ c ∷ f ∷ w ∷ []) → row-right A (row-of k a b s n c f w) ≡ node-right A ws
 unfolding node-right row
-node-in A ws k a b s n c f e t = ap (λ (x : Bool). x && row-right A (row-of k a b s n c f)) t ∙ ap (node-right A) (sym e)
+node-in A ws k a b s n c f w e t = ap (λ (x : Bool). x && row-right A (row-of k a b s n c f w)) t ∙ ap (node-right A) (sym e)
 
-pub node-out : (A : Arena) (ws : List ℕ) (k a b s n c f : ℕ) → ws ≡ k ∷ a ∷ b ∷ s ∷ n ∷ c ∷ f ∷ [] → false ≡ is-row (k ∷ a ∷ b ∷ s ∷ n ∷ c ∷ f ∷ []) → false ≡ node-right A ws
+pub node-out : (A : Arena) (ws : List ℕ) (k a b s n c f w : ℕ) → ws ≡ k ∷ a ∷ b ∷ s ∷ n ∷ c ∷ f ∷ w ∷ [] → false ≡ is-row (k ∷ a ∷ b ∷ s ∷ n ∷ c ∷ f ∷ w ∷ []) → false ≡ node-right A ws
 unfolding node-right row
-node-out A ws k a b s n c f e t = ap (λ (x : Bool). x && row-right A (row-of k a b s n c f)) t ∙ ap (node-right A) (sym e)
+node-out A ws k a b s n c f w e t = ap (λ (x : Bool). x && row-right A (row-of k a b s n c f w)) t ∙ ap (node-right A) (sym e)
 
 -- an integer's node has neither ranges nor names
-pub node-fixnum : (A : Arena) (ws : List ℕ) (k a b s n c f : ℕ) → ws ≡ k ∷ a ∷ b ∷ s ∷ n ∷ c ∷ f ∷ [] → k ≡ 2 → eqb (0 + b + s + n + c + f) 0 ≡ node-right A ws
+pub node-fixnum : (A : Arena) (ws : List ℕ) (k a b s n c f w : ℕ) → ws ≡ k ∷ a ∷ b ∷ s ∷ n ∷ c ∷ f ∷ w ∷ [] → k ≡ 2 → eqb (0 + b + s + n + c + f + w) 0 ≡ node-right A ws
 unfolding node-right row row-right row-of pick
-node-fixnum A ws k a b s n c f e q =
-    row-2 a b s n c f
-    ∙ sym (and-true (is-row (2 ∷ a ∷ b ∷ s ∷ n ∷ c ∷ f ∷ [])))
-    ∙ ap (λ (k : ℕ). node-right A (k ∷ a ∷ b ∷ s ∷ n ∷ c ∷ f ∷ [])) (sym q)
+node-fixnum A ws k a b s n c f w e q =
+    row-2 a b s n c f w
+    ∙ sym (and-true (is-row (2 ∷ a ∷ b ∷ s ∷ n ∷ c ∷ f ∷ w ∷ [])))
+    ∙ ap (λ (k : ℕ). node-right A (k ∷ a ∷ b ∷ s ∷ n ∷ c ∷ f ∷ w ∷ [])) (sym q)
     ∙ ap (node-right A) (sym e)
 
 -- ---- all nodes
@@ -272,6 +291,17 @@ and-in x y t = ap (λ (b : Bool). b && y) t
 
 pub and-out : (x y : Bool) → false ≡ x → false ≡ (x && y)
 and-out x y t = ap (λ (b : Bool). b && y) t
+
+-- three of them
+module _ (x y z : Bool) where
+  pub third-in : true ≡ x → true ≡ y → z ≡ (x && y && z)
+  third-in p q = and-in (x && y) z (q ∙ and-in x y p)
+
+  pub second-out : true ≡ x → false ≡ y → false ≡ (x && y && z)
+  second-out p q = and-out (x && y) z (q ∙ and-in x y p)
+
+  pub first-out : false ≡ x → false ≡ (x && y && z)
+  first-out p = and-out (x && y) z (and-out x y p)
 
 pub not-so : {A : Type 0} → false ≡ true → A
 not-so e = absurd (subst T (sym e) tt)

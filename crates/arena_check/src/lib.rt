@@ -14,7 +14,7 @@ ghost use lib.ListN.{length, take, drop};
 ghost use Rattle.definition.specs.Node.{width, is-row, row-of, rows, vars};
 ghost use Rattle.definition.specs.Magnitude.{magnitude};
 ghost use Rattle.definition.specs.Run.{pick};
-ghost use Rattle.definition.specs.Arena.{Arena, Tables, too-long, bad-nodes, range, firsts, all-below, all-names, is-name, bytes-right, list-right, pairs-right, vars-right, number-right, row-right, node-right, faulty, counts-fit, fault, tables-of, counts-of};
+ghost use Rattle.definition.specs.Arena.{Arena, Tables, too-long, bad-nodes, range, firsts, all-below, all-names, is-name, bytes-right, list-right, pairs-right, vars-right, class-right, number-right, row-right, node-right, faulty, counts-fit, fault, tables-of, counts-of};
 ghost use Rattle.definition.specs.Slice.{greatest-length};
 ghost use Rattle.lists.specs.Slices.{Named, Small};
 ghost use Rattle.arena_check.specs.Held.{Held, checked, Fits, FitIf};
@@ -75,49 +75,49 @@ pub fn size(x: u32) -> usize
     x as usize
 }
 
-fn all_zero(a: u32, b: u32, s: u32, n: u32, c: u32, f: u32) -> bool
-    ensures { λ r. ⌜ r ≡ eqb (a + b + s + n + c + f) 0 ⌝ }
+fn all_zero(a: u32, b: u32, s: u32, n: u32, c: u32, f: u32, w: u32) -> bool
+    ensures { λ r. ⌜ r ≡ eqb (a + b + s + n + c + f + w) 0 ⌝ }
 {
-    wide(a) + wide(b) + wide(s) + wide(n) + wide(c) + wide(f) == 0
+    wide(a) + wide(b) + wide(s) + wide(n) + wide(c) + wide(f) + wide(w) == 0
 }
 
 // Unused words are zero, flags are 0 or 1; an integer's node is tested before. A kind has an arm of its own here and in
 // row_right_at, also where another kind's is the same: the compiler then makes one jump of the two matches.
-fn is_row_of(k: u32, a: u32, b: u32, s: u32, n: u32, c: u32, f: u32) -> bool
+fn is_row_of(k: u32, a: u32, b: u32, s: u32, n: u32, c: u32, f: u32, w: u32) -> bool
     requires { ⌜ (k ≡ 2 → ⊥) ⌝ }
-    ensures { λ r. ⌜ r ≡ is-row (k ∷ a ∷ b ∷ s ∷ n ∷ c ∷ f ∷ []) ⌝ }
+    ensures { λ r. ⌜ r ≡ is-row (k ∷ a ∷ b ∷ s ∷ n ∷ c ∷ f ∷ w ∷ []) ⌝ }
 {
     match k {
-        Node::NIL => all_zero(a, b, s, n, c, f),
+        Node::NIL => all_zero(a, b, s, n, c, f, w),
         Node::BOOL => {
             if a <= 1 {
-                all_zero(0, b, s, n, c, f)
+                all_zero(0, b, s, n, c, f, w)
             } else {
                 false
             }
         }
-        Node::SYMBOL => all_zero(0, 0, s, n, c, f),
-        Node::ARRAY => all_zero(a, b, 0, 0, c, f),
-        Node::HASH => all_zero(a, b, 0, 0, c, 0),
-        Node::OBJECT => all_zero(a, b, 0, 0, 0, f),
+        Node::SYMBOL => all_zero(0, 0, s, n, c, f, w),
+        Node::ARRAY => all_zero(a, b, 0, 0, c, f, 0),
+        Node::HASH => all_zero(a, b, 0, 0, c, 0, 0),
+        Node::OBJECT => all_zero(a, b, 0, 0, 0, f, w),
         Node::STRING => {
             if f == 0 {
-                all_zero(0, 0, s, n, c, 0)
+                all_zero(0, 0, s, n, c, 0, 0)
             } else {
                 if f == 1 { c == 0 } else { false }
             }
         }
         Node::USER_DEFINED => {
             if f == 0 {
-                all_zero(0, 0, s, n, 0, 0)
+                all_zero(0, 0, s, n, 0, 0, w)
             } else {
-                f == 1
+                if f == 1 { w == 0 } else { false }
             }
         }
-        Node::FLOAT => all_zero(0, 0, s, n, c, f),
+        Node::FLOAT => all_zero(0, 0, s, n, c, f, w),
         Node::BIGNUM => {
             if n <= 1 {
-                all_zero(0, 0, s, 0, c, f)
+                all_zero(0, 0, s, 0, c, f, w)
             } else {
                 false
             }
@@ -230,6 +230,18 @@ fn vars_right_at(
     }
 }
 
+// A class, where there is one, is a symbol.
+fn class_right_at(nodes: &[u32], count: usize, w: u32) -> bool
+    requires { ⌜ count * width ≤ length (now nodes) ⌝ }
+    ensures { λ r. ⌜ ((A : Arena) → A .nodes ≡ rows count (now (nodes .entry)) → r ≡ class-right A w) ⌝ }
+{
+    if w == 0 {
+        true
+    } else {
+        is_name_at(&nodes[..], count, w - 1)
+    }
+}
+
 // A Bignum's magnitude fits, and zero is plus.
 fn number_right_at(low: u32, high: u32, sign: u32) -> bool
     ensures { λ r. ⌜ r ≡ number-right (magnitude low high) (eqb sign 1) ⌝ }
@@ -242,7 +254,7 @@ fn number_right_at(low: u32, high: u32, sign: u32) -> bool
     }
 }
 
-// The ranges, members and names, and a Bignum's number, of a row of kind k with words 1 to 6.
+// The ranges, members and names, and a Bignum's number, of a row of kind k with words 1 to 7.
 fn row_right_at(
     nodes: &[u32],
     references: &[u32],
@@ -256,16 +268,27 @@ fn row_right_at(
     n: u32,
     c: u32,
     f: u32,
+    w: u32,
 ) -> bool
     requires { ⌜ (count * width ≤ length (now nodes)) × (used ≤ length (now references)) ⌝ }
-    ensures { λ r. ⌜ ((A : Arena) → Held A (now (nodes .entry)) (now (references .entry)) count used stored → r ≡ row-right A (row-of k a b s n c f)) ⌝ }
+    ensures { λ r. ⌜ ((A : Arena) → Held A (now (nodes .entry)) (now (references .entry)) count used stored → r ≡ row-right A (row-of k a b s n c f w)) ⌝ }
 {
     match k {
         Node::SYMBOL => bytes_right_at(stored, a, b),
-        Node::ARRAY => list_right_at(&references[..], used, count, s, size(n)),
+        Node::ARRAY => {
+            if list_right_at(&references[..], used, count, s, size(n)) {
+                class_right_at(&nodes[..], count, w)
+            } else {
+                false
+            }
+        }
         Node::HASH => {
             if list_right_at(&references[..], used, count, s, size(n) * 2) {
-                size(f) <= count
+                if size(f) <= count {
+                    class_right_at(&nodes[..], count, w)
+                } else {
+                    false
+                }
             } else {
                 false
             }
@@ -279,7 +302,11 @@ fn row_right_at(
         }
         Node::STRING => {
             if bytes_right_at(stored, a, b) {
-                vars_right_at(&nodes[..], &references[..], count, used, f, s, n)
+                if vars_right_at(&nodes[..], &references[..], count, used, f, s, n) {
+                    class_right_at(&nodes[..], count, w)
+                } else {
+                    false
+                }
             } else {
                 false
             }
@@ -321,10 +348,11 @@ fn node_right_at(
     let n = nodes[at + Node::COUNT];
     let c = nodes[at + Node::NAME];
     let f = nodes[at + Node::DEFAULT];
+    let w = nodes[at + Node::CLASS];
     if k == Node::FIXNUM {
-        return all_zero(0, b, s, n, c, f);
+        return all_zero(0, b, s, n, c, f, w);
     }
-    if is_row_of(k, a, b, s, n, c, f) {
+    if is_row_of(k, a, b, s, n, c, f, w) {
         row_right_at(
             &nodes[..],
             &references[..],
@@ -338,6 +366,7 @@ fn node_right_at(
             n,
             c,
             f,
+            w,
         )
     } else {
         false

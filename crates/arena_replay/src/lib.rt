@@ -5,10 +5,14 @@
 // string; the words at which the list stands, and the tables as they are expected afterwards; the bytes at which the byte table
 // stands, the byte string, and the byte table as expected; what is expected: the answer's number and two details, four counts, and
 // as many words as a node has, which hold what else the call answers; then the tables. Of a Bignum the first number is 1 for
-// minus, and the list is its low and its high word.
+// minus, and the list is its low and its high word; of replace_class the list is the class.
 use batch_cost::batch_cost;
 use bits::signed;
 use builder_calls::create;
+use console::BYTES;
+use console::NODES;
+use console::NUMBERED;
+use console::REFERENCES;
 use definition::Answer;
 use definition::Counts;
 use definition::Created;
@@ -72,15 +76,6 @@ const COUNTS_AFTER: usize = 21;
 const WORDS: usize = 25;
 
 const TABLES: usize = WORDS + Node::WIDTH;
-
-// The longest tables and list.
-const NODES: usize = 600 * Node::WIDTH;
-
-const REFERENCES: usize = 8192;
-
-const BYTES: usize = 2048;
-
-const MEMBERS: usize = 128;
 
 // The calls from here on are the builder's.
 const BUILDER: u32 = 21;
@@ -306,7 +301,7 @@ pub fn agree(data: &[u8]) -> bool {
     let mut nodes = [0u32; NODES];
     let mut references = [0u32; REFERENCES];
     let mut bytes = [0u8; BYTES];
-    let mut list = [0u32; MEMBERS];
+    let mut list = [0u32; NUMBERED];
     let n = words_at(&data[..], SIZES, &nodes);
     let r = words_at(&data[..], SIZES + 1, &references);
     let b = bytes_at(&data[..], SIZES + 2, &bytes);

@@ -10,7 +10,7 @@ use lib.Dec.{eqb, ltb, leb}
 use lib.ListN.{length, getD, take, drop}
 use borrow.Author.Tests.{eqb-true, le-leb, lt-leb, lt-ltb, le-ltb, ltb-true}
 use Rattle.definition.specs.Run.{ok, pick}
-use Rattle.definition.specs.Node.{Row, fixnum, symbol, hash, kind, row-of, rows, equal, width, START, LENGTH, LIST, COUNT, NAME, DEFAULT, words}
+use Rattle.definition.specs.Node.{Row, fixnum, symbol, hash, kind, row-of, rows, equal, width, START, LENGTH, LIST, COUNT, NAME, DEFAULT, CLASS, words}
 use Rattle.definition.specs.Arena.{Arena, arena, node, range, name-of, is-name}
 use Rattle.definition.specs.Build.{Lent, held, check}
 use Rattle.definition.specs.Cost.{entries, amount, is-amount, line, lines, pairs, check-entries}
@@ -33,8 +33,8 @@ module _ (A : Arena) (count : ℕ) (t : List ℕ) (e : A .nodes ≡ rows count t
   first = getD t (h * width) 0
 
   module _ (l : h < count) where
-    by-first : (k : ℕ) → first ≡ k → node A h ≡ row-of k (word t h START) (word t h LENGTH) (word t h LIST) (word t h COUNT) (word t h NAME) (word t h DEFAULT)
-    by-first k q = node-row A count t e h l ∙ ap (λ (x : ℕ). row-of x (word t h START) (word t h LENGTH) (word t h LIST) (word t h COUNT) (word t h NAME) (word t h DEFAULT)) q
+    by-first : (k : ℕ) → first ≡ k → node A h ≡ row-of k (word t h START) (word t h LENGTH) (word t h LIST) (word t h COUNT) (word t h NAME) (word t h DEFAULT) (word t h CLASS)
+    by-first k q = node-row A count t e h l ∙ ap (λ (x : ℕ). row-of x (word t h START) (word t h LENGTH) (word t h LIST) (word t h COUNT) (word t h NAME) (word t h DEFAULT) (word t h CLASS)) q
 
     pub is-fixnum : first ≡ 2 → node A h ≡ fixnum (word t h START)
     unfolding row-of pick
@@ -44,12 +44,12 @@ module _ (A : Arena) (count : ℕ) (t : List ℕ) (e : A .nodes ≡ rows count t
     unfolding row-of pick
     is-symbol = by-first 3
 
-    pub is-hash : first ≡ 5 → node A h ≡ hash (word t h LIST) (word t h COUNT) (word t h DEFAULT)
+    pub is-hash : first ≡ 5 → node A h ≡ hash (word t h LIST) (word t h COUNT) (word t h DEFAULT) (word t h CLASS)
     unfolding row-of pick
     is-hash = by-first 5
 
     pub kind-is : (x : ℕ) → 0 < x → x ≤ 10 → eqb (kind (node A h)) x ≡ eqb first x
-    kind-is x p q = ap (λ (r : Row). eqb (kind r) x) (node-row A count t e h l) ∙ kind-test x p q _ _ _ _ _ _ _
+    kind-is x p q = ap (λ (r : Row). eqb (kind r) x) (node-row A count t e h l) ∙ kind-test x p q _ _ _ _ _ _ _ _
 
     -- a Fixnum from zero up
     pub amount-test : eqb first 2 && leb (word t h START) 2147483647 ≡ is-amount (node A h)
@@ -193,11 +193,11 @@ module _ (L : Lent) (e : check [] L ≡ ok tt L) where
 
   -- a hash
   module _ (h : ℕ) (l : h < count) (p : getD nodes (h * width) 0 ≡ 5) where
-    h-hash : node (held L) h ≡ hash (word nodes h LIST) (word nodes h COUNT) (word nodes h DEFAULT)
+    h-hash : node (held L) h ≡ hash (word nodes h LIST) (word nodes h COUNT) (word nodes h DEFAULT) (word nodes h CLASS)
     h-hash = is-hash (held L) count nodes rows-are h l p
 
     h-list : word nodes h LIST + word nodes h COUNT * 2 ≤ L .counts .references
-    h-list = omega (arith, row-right h (hash (word nodes h LIST) (word nodes h COUNT) (word nodes h DEFAULT)) l h-hash .0 .inside, fit .references)
+    h-list = omega (arith, row-right h (hash (word nodes h LIST) (word nodes h COUNT) (word nodes h DEFAULT) (word nodes h CLASS)) l h-hash .0 .inside, fit .references)
 
     pub listed : Listed nodes (L .tables .references) h
     listed = record { inside = omega (arith, l, in-table); list = omega (arith, h-list, fit .references-fit) }

@@ -15,6 +15,7 @@ use value_arena::create_string;
 use value_arena::create_symbol;
 use value_arena::create_user_defined;
 use value_arena::new;
+use value_arena::replace_class;
 
 // A call of the builder.
 pub fn create(
@@ -42,6 +43,7 @@ pub fn create(
         30 => create_user_defined(nodes, references, bytes, counts, x, &text[..]),
         31 => create_float(nodes, references, bytes, counts, &text[..]),
         32 => create_bignum(nodes, references, bytes, counts, x == 1, low, high),
+        33 => replace_class(nodes, references, bytes, counts, x, low),
         _ => {
             let r = new(nodes, references, bytes);
             let answer = r.answer;

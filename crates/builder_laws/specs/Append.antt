@@ -95,18 +95,18 @@ module _ (L : Lent) (bs ms : List ℕ) (r : Row) (ρ : Room L bs ms) where
 
 -- ---- new
 
-zeros : (m : ℕ) → take width (replicate (suc (suc (suc (suc (suc (suc (suc m))))))) 0) ≡ words nil
+zeros : (m : ℕ) → take width (replicate (suc (suc (suc (suc (suc (suc (suc (suc m)))))))) 0) ≡ words nil
 unfolding words
 zeros m = refl
 
-seven-zeros : (n : ℕ) → width ≤ n → take width (replicate n 0) ≡ words nil
-seven-zeros n h =
-    let z : n ≡ suc (suc (suc (suc (suc (suc (suc (n - width))))))) = omega arith in
+first-zeros : (n : ℕ) → width ≤ n → take width (replicate n 0) ≡ words nil
+first-zeros n h =
+    let z : n ≡ suc (suc (suc (suc (suc (suc (suc (suc (n - width)))))))) = omega arith in
     ap (λ (k : ℕ). take width (replicate k 0)) z ∙ zeros (n - width)
 
 one-nil : (A : Arena) (n : ℕ) → width ≤ n → faulty A 1 0 (replicate n 0) ≡ none
 unfolding faulty node-right row-right pick
-one-nil A n h = rw (seven-zeros n h, is-row-words nil, row-words-back nil)
+one-nil A n h = rw (first-zeros n h, is-row-words nil, row-words-back nil)
 
 -- the counts that `new` answers
 abbrev pub first-counts : Counts

@@ -8,11 +8,11 @@ use lib.Dec.{ltb}
 use lib.IntN.{ℤ}
 use lib.ListN.{length}
 use native.Mathlib.Omega.{arith}
-use Rattle.definition.specs.Run.{Run, Outcome, ok, refused, pure, next, _>>=_, look, pick}
-use Rattle.definition.specs.Node.{Row, nil, bool, fixnum, symbol, array, hash, object, string, user, float, bignum, absent}
+use Rattle.definition.specs.Run.{Run, ok, pure, look, pick}
+use Rattle.definition.specs.Node.{Row, nil, bool, fixnum, symbol, array, hash, object, string, user, float, bignum, absent, optional-node}
 use Rattle.definition.specs.Magnitude.{sign, magnitude}
-use Rattle.definition.specs.Arena.{Tables, Arena, firsts, is-name, all-below, all-names, fault, bytes-right, row-right, vars-right, find-symbol}
-use Rattle.definition.specs.Build.{Lent, held, wrong, check, check-handles, byte-slice, member-slice, pair-slice, handles-checked, set-root, exchange-root, add, bits, create-nil, create-bool, create-fixnum, add-symbol, create-new-symbol, known-or-new, create-symbol, create-array, default-handle, create-hash, create-object, create-string, create-user-defined, create-float, create-bignum}
+use Rattle.definition.specs.Arena.{Tables, Arena, firsts, is-name, all-below, all-names, fault, bytes-right, row-right, vars-right, class-right, find-symbol}
+use Rattle.definition.specs.Build.{Lent, held, wrong, byte-slice, member-slice, pair-slice, set-root, exchange-root, add, bits, create-nil, create-bool, create-fixnum, add-symbol, create-new-symbol, known-or-new, create-symbol, create-array, create-hash, create-object, create-string, create-user-defined, create-float, create-bignum}
 use Rattle.lists.specs.Joined.{yes-and, pick-true}
 use Rattle.lists.specs.Slices.{lowest-none, whole-pairs, tables-right}
 use Rattle.well_formed.specs.Right.{Fit, below-of, fault-fit}
@@ -20,7 +20,7 @@ use Rattle.states.specs.Right.{sign-right, number-right-yes}
 use Rattle.builder_laws.specs.Grown.{grown, name-grown, bytes-added, list-added, pairs-added, default-added}
 use Rattle.builder_laws.specs.Append.{Room, appended}
 use Rattle.well_formed.specs.Checks.{after-check, after-handles}
-use Rattle.builder_laws.specs.Checks.{after-names, after-magnitude, after-add}
+use Rattle.builder_laws.specs.Checks.{after-handles-checked, after-names, after-magnitude, after-add}
 
 -- ---- the calls
 
@@ -107,10 +107,10 @@ made-row (make-bool v) b r = bool v
 made-row (make-fixnum z) b r = fixnum (bits z)
 made-row (make-new-symbol name) b r = symbol b (length name)
 made-row (make-symbol name) b r = symbol b (length name)
-made-row (make-array ms) b r = array r (length ms)
-made-row (make-hash ps d) b r = hash r (length ps / 2) d
+made-row (make-array ms) b r = array r (length ms) 0
+made-row (make-hash ps d) b r = hash r (length ps / 2) d 0
 made-row (make-object c ps) b r = object r (length ps / 2) c
-made-row (make-string bs) b r = string b (length bs) absent
+made-row (make-string bs) b r = string b (length bs) absent 0
 made-row (make-user-defined c bs) b r = user b (length bs) c absent
 made-row (make-float bs) b r = float b (length bs)
 made-row (make-bignum minus low high) b r = bignum low high (sign minus (magnitude low high))
@@ -167,8 +167,8 @@ all-below-parts n (x ∷ l) m e =
     let (u, v) = all-below-parts n l m q in
     (rw (p, u), v)
 
-default-most : (n d : ℕ) → all-below n (default-handle d) ≡ true → d ≤ n
-unfolding default-handle
+default-most : (n d : ℕ) → all-below n (optional-node d) ≡ true → d ≤ n
+unfolding optional-node
 default-most n zero e = omega arith
 default-most n (suc d) e = below-of n (d ∷ []) e 0 d refl
 
@@ -179,14 +179,6 @@ all-below-first n c l e = pick-true (ltb c n) (all-below n l) e .1
 all-names-first : (A : Arena) (c : ℕ) (l : List ℕ) → all-names A (c ∷ l) ≡ true → (is-name A c ≡ true) × (all-names A l ≡ true)
 unfolding all-names
 all-names-first A c l e = pick-true (is-name A c) (all-names A l) e
-
-bind-assoc : {A B C : Type 0} (m : Run Lent A) (f : A → Run Lent B) (k : B → Run Lent C) (L : Lent) → (m >>= f >>= k) L ≡ (m >>= λ a. f a >>= k) L
-unfolding _>>=_ next
-bind-assoc {A = A} m f k L = go (m L)
-  where
-    go : (o : Outcome Lent A) → next (next o f) k ≡ next o (λ a s. next (f a s) k)
-    go (ok a s) = refl
-    go (refused r) = refl
 
 -- ---- call by call
 
@@ -251,26 +243,26 @@ module _ (L M : Lent) (h : ℕ) where
       go s none p e = added tt tt (symbol-added name s e)
 
   did-array : (ms : List ℕ) → create-array ms L ≡ ok h M → Result (make-array ms)
-  unfolding create-array row-right
+  unfolding create-array row-right class-right all-names optional-node
   did-array ms e =
       let (w, s, e₁) = after-check (member-slice ms ∷ []) _ L M h e in
       let (b, e₂) = after-handles ms _ L M h e₁ in (
         s,
-        added tt tt (add-done [] ms (λ b r. array r (length ms)) s
-            (λ f. list-added (held L) [] ms (array (L .counts .references) (length ms)) (L .counts .references) (length ms) (f .references) refl (rw (f .nodes) b)) e₂),
+        added tt tt (add-done [] ms (λ b r. array r (length ms) 0) s
+            (λ f. yes-and _ _ (list-added (held L) [] ms (array (L .counts .references) (length ms) 0) (L .counts .references) (length ms) (f .references) refl (rw (f .nodes) b)) refl) e₂),
       )
 
   did-hash : (ps : List ℕ) (d : ℕ) → create-hash ps d L ≡ ok h M → Result (make-hash ps d)
-  unfolding create-hash row-right
+  unfolding create-hash row-right class-right all-names optional-node
   did-hash ps d e =
       let (w, s, e₁) = after-check (pair-slice ps ∷ []) _ L M h e in
-      let (b, e₂) = after-handles (ps ++ default-handle d) _ L M h e₁ in
-      let (b₁, b₂) = all-below-parts (L .counts .nodes) ps (default-handle d) b in
-      let r = hash (L .counts .references) (length ps / 2) d in (
+      let (b, e₂) = after-handles (ps ++ optional-node d) _ L M h e₁ in
+      let (b₁, b₂) = all-below-parts (L .counts .nodes) ps (optional-node d) b in
+      let r = hash (L .counts .references) (length ps / 2) d 0 in (
         s,
-        added tt (even-pairs (L .tables) ps w) (add-done [] ps (λ b r. hash r (length ps / 2) d) s
-            (λ f. yes-and _ _ (list-added (held L) [] ps r (L .counts .references) (length ps / 2 * 2) (f .references) (even-pairs (L .tables) ps w) (rw (f .nodes) b₁))
-            (default-added (held L) [] ps r d (rw (f .nodes) (default-most (L .counts .nodes) d b₂)))) e₂),
+        added tt (even-pairs (L .tables) ps w) (add-done [] ps (λ b r. hash r (length ps / 2) d 0) s
+            (λ f. yes-and _ _ (yes-and _ _ (list-added (held L) [] ps r (L .counts .references) (length ps / 2 * 2) (f .references) (even-pairs (L .tables) ps w) (rw (f .nodes) b₁))
+            (default-added (held L) [] ps r d (rw (f .nodes) (default-most (L .counts .nodes) d b₂)))) refl) e₂),
       )
 
   did-object : (c : ℕ) (ps : List ℕ) → create-object c ps L ≡ ok h M → Result (make-object c ps)
@@ -288,10 +280,10 @@ module _ (L M : Lent) (h : ℕ) where
       )
 
   did-string : (bs : List ℕ) → create-string bs L ≡ ok h M → Result (make-string bs)
-  unfolding create-string row-right vars-right
+  unfolding create-string row-right vars-right class-right all-names optional-node
   did-string bs e =
       let (w, s, e₁) = after-check (byte-slice bs ∷ []) _ L M h e in
-      (s, added tt tt (text-added bs (λ b n. string b n absent) (λ A b y. yes-and _ _ y refl) s e₁))
+      (s, added tt tt (text-added bs (λ b n. string b n absent 0) (λ A b y. yes-and _ _ (yes-and _ _ y refl) refl) s e₁))
 
   did-user : (c : ℕ) (bs : List ℕ) → create-user-defined c bs L ≡ ok h M → Result (make-user-defined c bs)
   unfolding create-user-defined row-right vars-right
@@ -322,10 +314,9 @@ module _ (L M : Lent) (h : ℕ) where
       (s, added tt tt (add-done [] [] (λ b r. bignum low high (sign minus m)) s (λ f. number-right-yes m (sign minus m) (sign-right m minus q)) e₂))
 
   did-root : (n : ℕ) → exchange-root n L ≡ ok h M → Result (move-root n)
-  unfolding exchange-root handles-checked set-root
+  unfolding exchange-root set-root
   did-root n e =
-      let (w, s, e₁) = after-check [] (λ u. check-handles (n ∷ []) >>= λ v. set-root n) L M h (sym (bind-assoc (check []) (λ u. check-handles (n ∷ [])) (λ v. set-root n) L) ∙ e) in
-      let (b, e₂) = after-handles (n ∷ []) (λ v. set-root n) L M h e₁ in
+      let (s, b, e₁) = after-handles-checked (n ∷ []) (λ v. set-root n) L M h e in
       (s, moved (below-of (L .counts .nodes) (n ∷ []) b 0 n refl) (cc) (cc))
 
   -- an accepted call was made on a well-formed arena

@@ -7,16 +7,16 @@ use lib.Dec.{leb}
 use lib.ListN.{length, length-append}
 use native.Mathlib.Omega.{arith}
 use borrow.Author.Tests.{le-leb}
-use Rattle.definition.specs.Node.{Row, Vars, nil, bool, fixnum, symbol, array, hash, object, string, user, float, bignum, absent, present, kind}
+use Rattle.definition.specs.Node.{Row, Vars, nil, bool, fixnum, symbol, array, hash, object, string, user, float, bignum, absent, present, kind, words, optional-node}
 use Rattle.definition.specs.Arena.{Arena, node, range, firsts, all-below, is-name, all-names, bytes-right, list-right, pairs-right, row-right}
-use Rattle.definition.specs.Graph.{header, vars-links, links}
+use Rattle.definition.specs.Graph.{header, links}
 use Rattle.lists.specs.Joined.{yes-and}
 use Rattle.lists.specs.Lists.{At, no-at, at-app, at-snoc, len-snoc, below-up}
 use Rattle.lists.specs.Ranges.{range-more, range-last}
 use Rattle.well_formed.specs.Nodes.{node-at, at-node, Name}
 use Rattle.states.specs.Rows.{bytes-start, bytes-length, list-start, list-length, vars-start, vars-length, row-words, Within, links-same, header-same, ranges}
-use Rattle.states.specs.Right.{row-names, RightIn, names-first, Onward, row-onward, is-name-yes, all-names-yes, list-right-yes, right-yes, names-by-kind, own-names}
-use Rattle.well_formed.specs.Right.{VarsRight, RowRight, below-of, name-of-test, names-of, right-of, links-below}
+use Rattle.states.specs.Right.{row-names, RightIn, names-first, names-join, Onward, row-onward, is-name-yes, all-names-yes, list-right-yes, right-yes, pair-names, own-names}
+use Rattle.well_formed.specs.Right.{VarsRight, ClassRight, RowRight, below-of, name-of-test, names-of, right-of, links-below}
 use Rattle.definition.specs.Run.{pick}
 
 abbrev pub grown : Arena → List ℕ → List ℕ → Row → Arena
@@ -42,30 +42,33 @@ module _ (A : Arena) where
   row-in (bool b) h = record { bytes-inside = omega arith; list-inside = omega arith }
   row-in (fixnum w) h = record { bytes-inside = omega arith; list-inside = omega arith }
   row-in (symbol s l) h = record { bytes-inside = h; list-inside = omega arith }
-  row-in (array s n) h = record { bytes-inside = omega arith; list-inside = h .inside }
-  row-in (hash s n d) h = record { bytes-inside = omega arith; list-inside = h .0 .inside }
+  row-in (array s n w) h = record { bytes-inside = omega arith; list-inside = h .0 .inside }
+  row-in (hash s n d w) h = record { bytes-inside = omega arith; list-inside = h .0 .inside }
   row-in (object s n c) h = record { bytes-inside = omega arith; list-inside = h .1 .list .inside }
-  row-in (string s l v) h = record { bytes-inside = h .0; list-inside = vars-in v (h .1) }
+  row-in (string s l v w) h = record { bytes-inside = h .0; list-inside = vars-in v (h .1) }
   row-in (user s l c v) h = record { bytes-inside = h .0; list-inside = vars-in v (h .2) }
   row-in (float s l) h = record { bytes-inside = h; list-inside = omega arith }
   row-in (bignum low high m) h = record { bytes-inside = omega arith; list-inside = omega arith }
 
-  vars-names : (v : Vars) → VarsRight A v → (k c : ℕ) → At (firsts (vars-links A v)) k c → Name A c
-  unfolding vars-links firsts
+  vars-names : (v : Vars) → VarsRight A v → (k c : ℕ) → At (firsts (range (A .references) (vars-start v) (vars-length v))) k c → Name A c
+  unfolding vars-start vars-length range firsts
   vars-names absent h k c a = no-at k c a
   vars-names (present s n) h k c a = h .names k c a
 
+  class-names : (w : ℕ) → ClassRight A w → (k c : ℕ) → At (optional-node w ++ []) k c → Name A c
+  class-names w h = names-join A (optional-node w) [] h (λ k c a. no-at k c a)
+
   names-in : (r : Row) → RowRight A r → (k c : ℕ) → At (row-names A r) k c → Name A c
-  unfolding row-names names-by-kind own-names kind links pick
+  unfolding row-names own-names pair-names kind words optional-node list-start list-length ranges pick
   names-in nil h k c a = no-at k c a
   names-in (bool b) h k c a = no-at k c a
   names-in (fixnum w) h k c a = no-at k c a
   names-in (symbol s l) h k c a = no-at k c a
-  names-in (array s n) h k c a = no-at k c a
-  names-in (hash s n d) h k c a = no-at k c a
+  names-in (array s n w) h k c a = class-names w (h .1) k c a
+  names-in (hash s n d w) h k c a = class-names w (h .2) k c a
   names-in (object s n c) h k d a = names-first A c (firsts (range (A .references) s (n * 2))) (h .0) (h .1 .names) k d a
-  names-in (string s l v) h k c a = vars-names v (h .1) k c a
-  names-in (user s l c v) h k d a = names-first A c (firsts (vars-links A v)) (h .1) (vars-names v (h .2)) k d a
+  names-in (string s l v w) h k c a = names-join A (optional-node w) (firsts (range (A .references) (vars-start v) (vars-length v))) (h .2) (vars-names v (h .1)) k c a
+  names-in (user s l c v) h k d a = names-first A c (firsts (range (A .references) (vars-start v) (vars-length v))) (h .1) (vars-names v (h .2)) k d a
   names-in (float s l) h k c a = no-at k c a
   names-in (bignum low high m) h k c a = no-at k c a
 

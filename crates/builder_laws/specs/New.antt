@@ -6,11 +6,11 @@ use mathlib.Core.Option.{none, some}
 use mathlib.Core.List.{List, [], _∷_, _++_}
 use lib.ListN.{length}
 use Rattle.definition.specs.Run.{ok, look, pure}
-use Rattle.definition.specs.Node.{symbol}
+use Rattle.definition.specs.Node.{symbol, optional-present, optional-node}
 use Rattle.definition.specs.Magnitude.{sign, magnitude}
 use Rattle.definition.specs.Arena.{Arena, node, range, fault, find-symbol}
 use Rattle.definition.specs.Build.{Lent, held, bits, byte-slice, known-or-new, create-symbol}
-use Rattle.definition.specs.Graph.{Header, header-of, default-present, vars-count, vars-present, header, vars-links, default-link, links}
+use Rattle.definition.specs.Graph.{Header, header-of, vars-count, vars-present, header, vars-links, links}
 use Rattle.lists.specs.Lists.{apart}
 use Rattle.well_formed.specs.Nodes.{node-at}
 use Rattle.well_formed.specs.Right.{fault-fit}
@@ -22,20 +22,20 @@ use Rattle.builder_laws.specs.Built.{known-row}
 
 -- what is asked for
 abbrev pub made-header : Builder → Header
-made-header make-nil = header-of 0 0 [] 0 false
-made-header (make-bool false) = header-of 1 0 [] 0 false
-made-header (make-bool true) = header-of 1 1 [] 0 false
-made-header (make-fixnum z) = header-of 2 (bits z) [] 0 false
-made-header (make-new-symbol name) = header-of 3 0 name 0 false
-made-header (make-symbol name) = header-of 3 0 name 0 false
-made-header (make-array ms) = header-of 4 0 [] (length ms) false
-made-header (make-hash ps d) = header-of 5 0 [] (length ps / 2) (default-present d)
-made-header (make-object c ps) = header-of 6 0 [] (length ps / 2) false
-made-header (make-string bs) = header-of 7 0 bs 0 false
-made-header (make-user-defined c bs) = header-of 8 0 bs 0 false
-made-header (make-float bs) = header-of 9 0 bs 0 false
-made-header (make-bignum minus low high) = header-of 10 (magnitude low high) [] 0 (sign minus (magnitude low high))
-made-header (move-root h) = header-of 0 0 [] 0 false
+made-header make-nil = header-of 0 0 [] 0 false false
+made-header (make-bool false) = header-of 1 0 [] 0 false false
+made-header (make-bool true) = header-of 1 1 [] 0 false false
+made-header (make-fixnum z) = header-of 2 (bits z) [] 0 false false
+made-header (make-new-symbol name) = header-of 3 0 name 0 false false
+made-header (make-symbol name) = header-of 3 0 name 0 false false
+made-header (make-array ms) = header-of 4 0 [] (length ms) false false
+made-header (make-hash ps d) = header-of 5 0 [] (length ps / 2) (optional-present d) false
+made-header (make-object c ps) = header-of 6 0 [] (length ps / 2) false false
+made-header (make-string bs) = header-of 7 0 bs 0 false false
+made-header (make-user-defined c bs) = header-of 8 0 bs 0 false false
+made-header (make-float bs) = header-of 9 0 bs 0 false false
+made-header (make-bignum minus low high) = header-of 10 (magnitude low high) [] 0 (sign minus (magnitude low high)) false
+made-header (move-root h) = header-of 0 0 [] 0 false false
 
 abbrev pub made-links : Builder → List ℕ
 made-links make-nil = []
@@ -44,7 +44,7 @@ made-links (make-fixnum z) = []
 made-links (make-new-symbol name) = []
 made-links (make-symbol name) = []
 made-links (make-array ms) = ms
-made-links (make-hash ps d) = ps ++ default-link d
+made-links (make-hash ps d) = ps ++ optional-node d
 made-links (make-object c ps) = c ∷ ps
 made-links (make-string bs) = []
 made-links (make-user-defined c bs) = c ∷ []
@@ -65,31 +65,31 @@ module _ (A : Arena) (b r : ℕ) (p : length (A .bytes) ≡ b) (q : length (A .r
   list-is ms n e = range-added (A .references) ms r n q e
 
   made-header-is : (c : Builder) → Makes c → header (G c) (made-row c b r) ≡ made-header c
-  unfolding header vars-count vars-present
+  unfolding header vars-count vars-present optional-present
   made-header-is make-nil m = refl
   made-header-is (make-bool false) m = refl
   made-header-is (make-bool true) m = refl
   made-header-is (make-fixnum z) m = refl
-  made-header-is (make-new-symbol name) m = ap (λ (x : List ℕ). header-of 3 0 x 0 false) (bytes-are name)
-  made-header-is (make-symbol name) m = ap (λ (x : List ℕ). header-of 3 0 x 0 false) (bytes-are name)
+  made-header-is (make-new-symbol name) m = ap (λ (x : List ℕ). header-of 3 0 x 0 false false) (bytes-are name)
+  made-header-is (make-symbol name) m = ap (λ (x : List ℕ). header-of 3 0 x 0 false false) (bytes-are name)
   made-header-is (make-array ms) m = refl
   made-header-is (make-hash ps d) m = refl
   made-header-is (make-object c ps) m = refl
-  made-header-is (make-string bs) m = ap (λ (x : List ℕ). header-of 7 0 x 0 false) (bytes-are bs)
-  made-header-is (make-user-defined c bs) m = ap (λ (x : List ℕ). header-of 8 0 x 0 false) (bytes-are bs)
-  made-header-is (make-float bs) m = ap (λ (x : List ℕ). header-of 9 0 x 0 false) (bytes-are bs)
+  made-header-is (make-string bs) m = ap (λ (x : List ℕ). header-of 7 0 x 0 false false) (bytes-are bs)
+  made-header-is (make-user-defined c bs) m = ap (λ (x : List ℕ). header-of 8 0 x 0 false false) (bytes-are bs)
+  made-header-is (make-float bs) m = ap (λ (x : List ℕ). header-of 9 0 x 0 false false) (bytes-are bs)
   made-header-is (make-bignum minus low high) m = refl
   made-header-is (move-root n) m = absurd m
 
   made-links-are : (c : Builder) → Makes c → Even c → links (G c) (made-row c b r) ≡ made-links c
-  unfolding links vars-links
+  unfolding links vars-links optional-node
   made-links-are make-nil m e = refl
   made-links-are (make-bool v) m e = refl
   made-links-are (make-fixnum z) m e = refl
   made-links-are (make-new-symbol name) m e = refl
   made-links-are (make-symbol name) m e = refl
   made-links-are (make-array ms) m e = list-is ms (length ms) refl
-  made-links-are (make-hash ps d) m e = ap (λ (l : List ℕ). l ++ default-link d) (list-is ps (length ps / 2 * 2) e)
+  made-links-are (make-hash ps d) m e = ap (λ (l : List ℕ). l ++ optional-node d) (list-is ps (length ps / 2 * 2) e)
   made-links-are (make-object c ps) m e = ap (λ (l : List ℕ). c ∷ l) (list-is ps (length ps / 2 * 2) e)
   made-links-are (make-string bs) m e = refl
   made-links-are (make-user-defined c bs) m e = refl

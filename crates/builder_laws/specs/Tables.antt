@@ -13,7 +13,7 @@ use Rattle.lists.specs.Tables.{words-next}
 
 -- ---- stores
 
-range-set : (l : List ℕ) (s n i v : ℕ) → s + n ≤ i → range (set l i v) s n ≡ range l s n
+pub range-set : (l : List ℕ) (s n i v : ℕ) → s + n ≤ i → range (set l i v) s n ≡ range l s n
 unfolding range
 range-set l zero n i v h = take-set-le n l i v (omega arith)
 range-set [] (suc s) n i v h = refl

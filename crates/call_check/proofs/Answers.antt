@@ -1,7 +1,7 @@
 -- From the answer of a test to that of the next, or of the call.
 use Prim.Native.Nat.{ℕ, _<_}
 use mathlib.Core.Bool.{Bool, true, false}
-use mathlib.Core.List.{[], _∷_}
+use mathlib.Core.List.{List, [], _∷_}
 use mathlib.Core.Path.{_≡_, refl, ap, _∙_, subst}
 use lib.Dec.{ltb}
 use Rattle.definition.specs.Run.{Run, Outcome, ok, refused, pure, refuse, next, _>>=_, look, pick}
@@ -60,21 +60,21 @@ module _ (L : Lent) where
   unfolding _>>=_ handles-checked
   handle-stop h q p = stop _ p
 
-  -- a second handle after the first
-  by-first : (h k : ℕ) → handles-checked (h ∷ k ∷ []) L ≡ next (handles-checked (h ∷ []) L) (λ _. check-handles (k ∷ []))
+  -- other handles after the first
+  by-first : (h : ℕ) (ks : List ℕ) → handles-checked (h ∷ ks) L ≡ next (handles-checked (h ∷ []) L) (λ _. check-handles ks)
   unfolding handles-checked check-handles look pick pure refuse _>>=_ next
-  by-first h k = go (check [] L)
+  by-first h ks = go (check [] L)
     where
-      one : (b : Bool) (s : Lent) → pick {A = Run Lent (Unit {0})} b (check-handles (k ∷ [])) (refuse (BadHandle h)) s ≡ next (pick b (pure {A = Unit {0}} tt) (refuse (BadHandle h)) s) (λ _. check-handles (k ∷ []))
+      one : (b : Bool) (s : Lent) → pick {A = Run Lent (Unit {0})} b (check-handles ks) (refuse (BadHandle h)) s ≡ next (pick b (pure {A = Unit {0}} tt) (refuse (BadHandle h)) s) (λ _. check-handles ks)
       one true s = refl
       one false s = refl
 
-      go : (o : Outcome Lent (Unit {0})) → next o (λ _. check-handles (h ∷ k ∷ [])) ≡ next (next o (λ _. check-handles (h ∷ []))) (λ _. check-handles (k ∷ []))
+      go : (o : Outcome Lent (Unit {0})) → next o (λ _. check-handles (h ∷ ks)) ≡ next (next o (λ _. check-handles (h ∷ []))) (λ _. check-handles ks)
       go (ok u s) = one (ltb h (s .counts .nodes)) s
       go (refused q) = refl
 
-  pub second-on : (h k : ℕ) → handles-checked (h ∷ []) L ≡ ok tt L → handles-checked (h ∷ k ∷ []) L ≡ check-handles (k ∷ []) L
-  second-on h k p = by-first h k ∙ on _ p
+  pub others-on : (h : ℕ) (ks : List ℕ) → handles-checked (h ∷ []) L ≡ ok tt L → handles-checked (h ∷ ks) L ≡ check-handles ks L
+  others-on h ks p = by-first h ks ∙ on _ p
 
-  pub second-stop : (h k : ℕ) (q : Refusal) → handles-checked (h ∷ []) L ≡ refused q → handles-checked (h ∷ k ∷ []) L ≡ refused q
-  second-stop h k q p = by-first h k ∙ stop _ p
+  pub others-stop : (h : ℕ) (ks : List ℕ) (q : Refusal) → handles-checked (h ∷ []) L ≡ refused q → handles-checked (h ∷ ks) L ≡ refused q
+  others-stop h ks q p = by-first h ks ∙ stop _ p

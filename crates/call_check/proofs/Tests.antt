@@ -2,23 +2,28 @@
 use Prim.Native.Nat.{ℕ, zero, suc, _+_, _-_, _*_, _≤_, _<_}
 use native.Mathlib.Omega.{arith}
 use native.Mathlib.Numerals.{add-one}
-use mathlib.Core.Bool.{Bool, true, false}
+use mathlib.Core.Bool.{Bool, true, false, _||_}
 use mathlib.Core.List.{List, [], _∷_, _++_}
 use mathlib.Core.Option.{Option, none, some}
 use mathlib.Core.Path.{_≡_, refl, sym, ap, _∙_}
+use lib.Dec.{eqb}
 use lib.ListN.{length, getD, drop, drop-of-length-le}
 use lib.Seq.{drop-cons}
 use native.Mathlib.Decide.{decLt}
-use borrow.Author.Tests.{lt-ltb, le-ltb}
-use Rattle.definition.specs.Run.{ok, refused, pure, refuse, next, _>>=_, look, pick}
-use Rattle.definition.specs.Node.{rows}
+use borrow.Author.Tests.{lt-ltb, le-ltb, eqb-true}
+use Rattle.definition.specs.Run.{Run, ok, refused, pure, refuse, next, _>>=_, look, pick}
+use Rattle.definition.specs.Node.{Row, row-of, rows, width, START, LENGTH, LIST, COUNT, NAME, DEFAULT, CLASS, kind, word, words, array-kind, hash-kind, string-kind, optional-node}
 use Rattle.definition.specs.Magnitude.{fits}
-use Rattle.definition.specs.Arena.{arena, firsts, is-name, lowest, allowed, sound, fault}
-use Rattle.definition.specs.Build.{Lent, held, wrong, check, check-handles, check-names, check-magnitude, default-handle}
+use Rattle.definition.specs.Arena.{arena, node, firsts, is-name, lowest, allowed, sound, fault}
+use Rattle.definition.specs.Build.{Lent, held, wrong, check, check-handles, check-names, check-magnitude, takes-class, check-class}
 use Rattle.definition.specs.declared.Fault.{Fault}
 use Rattle.definition.specs.declared.Refusal.{Refusal}
 use Rattle.definition.specs.declared.Refusal.the-variants.{BadTables, BadArena, BadHandle, WrongKind, TooBig}
+use Rattle.lists.specs.Rows.{row-4, row-5, row-7}
 use Rattle.lists.specs.Runs.{no-ok}
+use Rattle.arena_check.proofs.Lists.{kind-test}
+use Rattle.arena_check.proofs.Rights.{not-so}
+use Rattle.well_formed.specs.Nodes.{node-row}
 
 -- ---- 1
 
@@ -147,16 +152,60 @@ module _ (L : Lent) (l : List ℕ) (i : ℕ) where
   unfolding firsts
   pair-names-end h = ap (λ (m : List ℕ). check-names (firsts m) L) (drop-of-length-le l {i = i * 2} h) ∙ no-names L
 
--- ---- a default, and a name before other names
+-- ---- a node that takes a class
 
-pub default-none : (L : Lent) (d : ℕ) → d ≡ 0 → check-handles (default-handle d) L ≡ ok tt L
-unfolding default-handle
-default-none L d e = ap (λ (k : ℕ). check-handles (default-handle k) L) e ∙ no-handles L
+-- a row takes a class exactly where word 0 says so
+pub class-test : (k a b s n c f w : ℕ) → takes-class (kind (row-of k a b s n c f w)) ≡ takes-class k
+unfolding takes-class
+class-test k a b s n c f w =
+    λ i. kind-test array-kind (omega arith) (omega arith) k a b s n c f w i || kind-test hash-kind (omega arith) (omega arith) k a b s n c f w i || kind-test string-kind (omega arith) (omega arith) k a b s n c f w i
 
-pub default-some : (L : Lent) (d : ℕ) → (d ≡ 0 → ⊥) → check-handles (default-handle d) L ≡ check-handles ((d - 1) ∷ []) L
-unfolding default-handle
-default-some L zero n = absurd (n refl)
-default-some L (suc d) n = ap (λ (k : ℕ). check-handles (k ∷ []) L) (omega arith)
+-- word 7 of a row that takes a class
+class-word : (k a b s n c f w : ℕ) → takes-class k ≡ true → word (row-of k a b s n c f w) CLASS ≡ w
+unfolding words takes-class
+class-word k a b s n c f w t = go (eqb k array-kind) (eqb k hash-kind) (eqb k string-kind) refl refl refl t
+  where
+    go : (x y z : Bool) → eqb k array-kind ≡ x → eqb k hash-kind ≡ y → eqb k string-kind ≡ z → (x || y || z) ≡ true → word (row-of k a b s n c f w) CLASS ≡ w
+    go true y z p q r t = ap (λ (r : Row). word r CLASS) (row-4 k a b s n c f w (eqb-true k array-kind p))
+    go false true z p q r t = ap (λ (r : Row). word r CLASS) (row-5 k a b s n c f w (eqb-true k hash-kind q))
+    go false false true p q r t = ap (λ (r : Row). word r CLASS) (row-7 k a b s n c f w (eqb-true k string-kind r))
+    go false false false p q r t = not-so t
+
+module _ (L : Lent) (t : List ℕ) (count h : ℕ) (e : L .tables .nodes ≡ t) (f : L .counts .nodes ≡ count) (l : h < count) where
+  at-word : node (held L) h ≡ row-of (getD t (h * width) 0) (getD t (h * width + START) 0) (getD t (h * width + LENGTH) 0) (getD t (h * width + LIST) 0) (getD t (h * width + COUNT) 0) (getD t (h * width + NAME) 0) (getD t (h * width + DEFAULT) 0) (getD t (h * width + CLASS) 0)
+  at-word = node-row (held L) count t (held-nodes L t count e f) h l
+
+  class-kind : takes-class (getD t (h * width) 0) ≡ takes-class (kind (node (held L) h))
+  class-kind = sym (ap (λ (r : Row). takes-class (kind r)) at-word ∙ class-test _ _ _ _ _ _ _ _)
+
+  pub class-on : true ≡ takes-class (getD t (h * width) 0) → check-class h L ≡ ok tt L
+  unfolding check-class look pick pure
+  class-on q = ap (λ (b : Bool). pick b (pure tt) (refuse (WrongKind h)) L) (sym (q ∙ class-kind))
+
+  pub class-not : false ≡ takes-class (getD t (h * width) 0) → check-class h L ≡ refused (WrongKind h)
+  unfolding check-class look pick refuse
+  class-not q = ap (λ (b : Bool). pick b (pure tt) (refuse (WrongKind h)) L) (sym (q ∙ class-kind))
+
+  -- a node that was tested has its class in word 7
+  pub old-class : check-class h L ≡ ok tt L → getD t (h * width + CLASS) 0 ≡ word (node (held L) h) CLASS
+  unfolding check-class look pick pure refuse
+  old-class q = sym (ap (λ (r : Row). word r CLASS) at-word ∙ class-word _ _ _ _ _ _ _ _ (class-kind ∙ go (takes-class (kind (node (held L) h))) q))
+    where
+      go : (b : Bool) → pick {A = Run Lent (Unit {0})} b (pure tt) (refuse (WrongKind h)) L ≡ ok tt L → b ≡ true
+      go true q = refl
+      go false q = no-ok q
+
+-- ---- a default or a class, and a name before other names
+
+-- a test of handles or of names, on a node that may be missing
+module _ (test : List ℕ → Run Lent (Unit {0})) (L : Lent) (w : ℕ) where
+  pub optional-none : test [] L ≡ ok tt L → w ≡ 0 → test (optional-node w) L ≡ ok tt L
+  unfolding optional-node
+  optional-none n e = ap (λ (k : ℕ). test (optional-node k) L) e ∙ n
+
+  pub optional-some : (w ≡ 0 → ⊥) → test (optional-node w) L ≡ test ((w - 1) ∷ []) L
+  unfolding optional-node
+  optional-some n = let z : w ≡ suc (w - 1) = omega arith in ap (λ (k : ℕ). test (optional-node k) L) z
 
 module _ (L : Lent) (h : ℕ) (hs : List ℕ) where
   pub names-then : check-names (h ∷ []) L ≡ ok tt L → check-names (h ∷ hs) L ≡ check-names hs L

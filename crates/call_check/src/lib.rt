@@ -9,14 +9,15 @@ use arena_check::wrong_table;
 use definition::Answer;
 use definition::Bignum;
 use definition::Counts;
+use definition::Node;
 use definition::Refusal;
 use definition::Slice;
 ghost use mathlib.Core.Path.{_≡_};
 ghost use mathlib.Core.Bool.{Bool};
 ghost use mathlib.Core.List.{List, [], _∷_};
-ghost use Prim.Native.Nat.{ℕ, _-_, _*_, _/_, _≤_};
+ghost use Prim.Native.Nat.{ℕ, _-_, _*_, _/_, _<_, _≤_};
 ghost use lib.ListN.{length};
-ghost use Rattle.definition.specs.Node.{width};
+ghost use Rattle.definition.specs.Node.{width, optional-node};
 ghost use Rattle.definition.specs.Arena.{firsts, lowest};
 ghost use Rattle.definition.specs.Build.{Lent, lent, check-handles, check-names};
 ghost use Rattle.definition.specs.Build as B;
@@ -144,14 +145,57 @@ pub fn begin_handles(
     }
 }
 
-// 13 for a default's node.
-pub fn check_default(default: u32, count: usize) -> Answer
-    ensures { λ r. ⌜ ((L : Lent) → L .counts .nodes ≡ count → Says r (check-handles (B.default-handle default)) L) ⌝ }
+// 13 for the node of a default or of a class, where there is one.
+pub fn check_optional(word: u32, count: usize) -> Answer
+    ensures { λ r. ⌜ ((L : Lent) → L .counts .nodes ≡ count → Says r (check-handles (optional-node word)) L) ⌝ }
 {
-    if default == 0 {
+    if word == 0 {
         return Answer::Accepted;
     }
-    check_handle(default - 1, count)
+    check_handle(word - 1, count)
+}
+
+// 1, 2, the handle, then a class's node.
+pub fn begin_class(
+    nodes: &[u32],
+    references: &[u32],
+    bytes: &[u8],
+    counts: Counts,
+    h: u32,
+    class: u32,
+) -> Answer
+    ensures { λ r. ⌜ Says r (B.handles-checked (h ∷ optional-node class)) (lent (now (nodes .entry)) (now (references .entry)) (now (bytes .entry)) counts) ⌝ }
+    ensures { λ r. ⌜ FitsIf r (length (now (nodes .entry))) (length (now (references .entry))) (length (now (bytes .entry))) 0 counts × Below r h (counts .nodes) ⌝ }
+{
+    let count = counts.nodes;
+    match begin_handle(&nodes[..], &references[..], &bytes[..], counts, h) {
+        Answer::Accepted => check_optional(class, count),
+        Answer::Refused(q) => Answer::Refused(q),
+    }
+}
+
+// 14 for a node of a kind that takes no class.
+pub fn check_class(nodes: &[u32], count: usize, h: u32) -> Answer
+    requires { ⌜ (h < count) × (count * width ≤ length (now nodes)) ⌝ }
+    ensures { λ r. ⌜ ((L : Lent) → L .tables .nodes ≡ now (nodes .entry) → L .counts .nodes ≡ count → Says r (B.check-class h) L) ⌝ }
+{
+    let k = nodes[size(h) * Node::WIDTH];
+    if (k == Node::ARRAY) | (k == Node::HASH) | (k == Node::STRING) {
+        Answer::Accepted
+    } else {
+        Answer::Refused(Refusal::WrongKind(h))
+    }
+}
+
+// 14 for a class, where there is one, that is no symbol.
+pub fn check_class_name(nodes: &[u32], count: usize, class: u32) -> Answer
+    requires { ⌜ count * width ≤ length (now nodes) ⌝ }
+    ensures { λ r. ⌜ ((L : Lent) → L .tables .nodes ≡ now (nodes .entry) → L .counts .nodes ≡ count → Says r (check-names (optional-node class)) L) ⌝ }
+{
+    if class == 0 {
+        return Answer::Accepted;
+    }
+    check_name(&nodes[..], count, class - 1)
 }
 
 // 14 for an object's name, then for the names of its pairs.

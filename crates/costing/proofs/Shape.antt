@@ -29,7 +29,7 @@ use Rattle.costing.specs.Batch.{elements, is-hash, other-shape, cost-pai
 module _ (A : Arena) (n : ℕ) (t : List ℕ) (i : ℕ) (e : A .nodes ≡ rows n t) where
   pub hash-at : i < n → eqb (getD t (i * width) 0) 5 ≡ is-hash A i
   unfolding is-hash
-  hash-at h = sym (ap (λ (r : Row). eqb (kind r) 5) (node-row A n t e i h) ∙ kind-test 5 (omega arith) (omega arith) _ _ _ _ _ _ _)
+  hash-at h = sym (ap (λ (r : Row). eqb (kind r) 5) (node-row A n t e i h) ∙ kind-test 5 (omega arith) (omega arith) _ _ _ _ _ _ _ _)
 
   pub no-hash : n ≤ i → false ≡ is-hash A i
   unfolding is-hash kind
@@ -62,10 +62,10 @@ no-elements A nil n = refl
 no-elements A (bool b) n = refl
 no-elements A (fixnum w) n = refl
 no-elements A (symbol s l) n = refl
-no-elements A (array s k) n = absurd (n refl)
-no-elements A (hash s k d) n = refl
+no-elements A (array s k w) n = absurd (n refl)
+no-elements A (hash s k d w) n = refl
 no-elements A (object s k c) n = refl
-no-elements A (string s l v) n = refl
+no-elements A (string s l v w) n = refl
 no-elements A (user s l c v) n = refl
 no-elements A (float s l) n = refl
 no-elements A (bignum low high m) n = refl
@@ -97,24 +97,24 @@ module _ (L : Lent) (e : fault (L .tables) (L .counts) ≡ none) (i : ℕ) (q : 
   pub root-inside : i * width + width ≤ length (L .tables .nodes)
   root-inside = omega (arith, fit .nodes-fit, fit .root-below, q)
 
-  root-row : node (held L) (L .counts .root) ≡ row-of (getD (L .tables .nodes) (i * width) 0) (word 1) (word 2) (word 3) (word 4) (word 5) (word 6)
+  root-row : node (held L) (L .counts .root) ≡ row-of (getD (L .tables .nodes) (i * width) 0) (word 1) (word 2) (word 3) (word 4) (word 5) (word 6) (word 7)
   unfolding arena
   root-row = ap (node (held L)) (sym q) ∙ node-row (held L) (L .counts .nodes) (L .tables .nodes) refl i (omega (arith, fit .root-below, q))
 
   pub not-array : {r : Costed} → r ≡ cost-done (refused (NotARecipe (L .counts .root))) → (getD (L .tables .nodes) (i * width) 0 ≡ 4 → ⊥) → r ≡ cost-done (cost-root L)
   unfolding cost-root cost-elements other-shape look refuse
   not-array h n =
-      h ∙ sym (ap (λ (l : List ℕ). cost-done (cost-elements l L)) (no-elements (held L) (node (held L) (L .counts .root)) (λ k. n (kind-is _ _ _ _ _ _ _ 4 (sym (ap kind root-row) ∙ k) (omega arith)))))
+      h ∙ sym (ap (λ (l : List ℕ). cost-done (cost-elements l L)) (no-elements (held L) (node (held L) (L .counts .root)) (λ k. n (kind-is _ _ _ _ _ _ _ _ 4 (sym (ap kind root-row) ∙ k) (omega arith)))))
 
   module _ (k : getD (L .tables .nodes) (i * width) 0 ≡ 4) where
-    array-row : node (held L) (L .counts .root) ≡ array (word 3) (word 4)
-    array-row = root-row ∙ row-4 _ _ _ _ _ _ _ k
+    array-row : node (held L) (L .counts .root) ≡ array (word 3) (word 4) (word 7)
+    array-row = root-row ∙ row-4 _ _ _ _ _ _ _ _ k
 
     in-list : word 3 + word 4 ≤ length (held L .references)
     in-list =
         let a : At (held L .nodes) (L .counts .root) (node (held L) (L .counts .root)) = at-node (held L) (L .counts .root) (omega (arith, fit .nodes, fit .root-below)) in
-        let r : RowRight (held L) (array (word 3) (word 4)) = subst (RowRight (held L)) array-row (fault-right (L .tables) (L .counts) e .rows-right (L .counts .root) _ a) in
-        r .inside
+        let r : RowRight (held L) (array (word 3) (word 4) (word 7)) = subst (RowRight (held L)) array-row (fault-right (L .tables) (L .counts) e .rows-right (L .counts .root) _ a) in
+        r .0 .inside
 
     listed : elements (held L) (node (held L) (L .counts .root)) ≡ range (held L .references) (word 3) (word 4)
     unfolding elements

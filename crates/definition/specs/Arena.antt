@@ -1,4 +1,4 @@
--- The arena: lent tables and counts, what they hold, and when they are well formed (01, "The arena"; 02, 2.1, 2.3 and 2.4).
+-- The arena: lent tables and counts, what they hold, and when they are well formed (01, "The arena"; 02, 2.1, 2.3, 2.4 and 2.9).
 use Prim.Native.Nat.{ℕ, zero, suc, _+_, _-_, _*_, _/_, _%_}
 use mathlib.Core.Bool.{Bool, true, false, not, _&&_, _||_}
 use mathlib.Core.List.{List, [], _∷_, _++_}
@@ -6,7 +6,7 @@ use mathlib.Core.Option.{Option, none, some}
 use lib.Dec.{ltb, leb, eqb}
 use lib.ListN.{length, getD, take, drop, replicate}
 use Rattle.definition.specs.Run.{Run, pure, refuse, pick}
-use Rattle.definition.specs.Node.{Row, Vars, nil, bool, fixnum, symbol, array, hash, object, string, user, float, bignum, absent, present, width, START, LENGTH, symbol-kind, kind, word, row, rows, is-row, equal}
+use Rattle.definition.specs.Node.{Row, Vars, nil, bool, fixnum, symbol, array, hash, object, string, user, float, bignum, absent, present, width, START, LENGTH, symbol-kind, kind, word, row, rows, is-row, equal, optional-node}
 use Rattle.definition.specs.Slice.{greatest-length}
 use Rattle.definition.specs.Magnitude.{fits, magnitude}
 use Rattle.definition.specs.declared.Counts.{Counts}
@@ -120,6 +120,10 @@ unfoldable pub vars-right : Arena → Vars → Bool
 vars-right A absent = true
 vars-right A (present start n) = pairs-right A start n
 
+-- a class, where there is one, is a name too: "class name node + 1 or zero"
+unfoldable pub class-right : Arena → ℕ → Bool
+class-right A w = all-names A (optional-node w)
+
 -- a Bignum: "Magnitudes run to 2^63 − 1; zero is plus; a node that breaks either is BAD-ARENA"
 unfoldable pub number-right : ℕ → Bool → Bool
 number-right m minus = fits m && not (minus && eqb m 0)
@@ -130,10 +134,10 @@ row-right A nil = true
 row-right A (bool b) = true
 row-right A (fixnum w) = true
 row-right A (symbol s l) = bytes-right A s l
-row-right A (array s n) = list-right A s n
-row-right A (hash s n d) = list-right A s (n * 2) && leb d (length (A .nodes))
+row-right A (array s n w) = list-right A s n && class-right A w
+row-right A (hash s n d w) = list-right A s (n * 2) && leb d (length (A .nodes)) && class-right A w
 row-right A (object s n c) = is-name A c && pairs-right A s n
-row-right A (string s l v) = bytes-right A s l && vars-right A v
+row-right A (string s l v w) = bytes-right A s l && vars-right A v && class-right A w
 row-right A (user s l c v) = bytes-right A s l && is-name A c && vars-right A v
 row-right A (float s l) = bytes-right A s l
 row-right A (bignum low high m) = number-right (magnitude low high) m

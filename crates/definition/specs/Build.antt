@@ -1,17 +1,17 @@
--- The getters and the builder: the answer and all that is lent, as each call leaves it (01, "Builder and listing"; 02, 2.1 and 2.4).
+-- The getters and the builder: the answer and all that is lent, as each call leaves it (01, "Builder and listing"; 02, 2.1, 2.4 and 2.9).
 use Prim.Native.Nat.{ℕ, zero, suc, _+_, _-_, _*_, _/_, _%_}
 use mathlib.Core.Bool.{Bool, not, _||_}
 use mathlib.Core.List.{List, [], _∷_, _++_}
 use mathlib.Core.Option.{Option, none, some}
 use lib.Dec.{ltb, leb, eqb}
 use lib.IntN.{ℤ, pos, negsuc}
-use lib.ListN.{length, getD, take, drop, replicate}
+use lib.ListN.{length, getD, set, take, drop, replicate}
 use lib.Seq.{sets}
 use Rattle.definition.specs.Run.{Run, Outcome, ok, refused, pure, refuse, _>>=_, look, pick}
-use Rattle.definition.specs.Node.{Row, nil, bool, fixnum, symbol, array, hash, object, string, user, float, bignum, absent, width, words}
+use Rattle.definition.specs.Node.{Row, nil, bool, fixnum, symbol, array, hash, object, string, user, float, bignum, absent, width, CLASS, array-kind, hash-kind, string-kind, kind, word, words, optional-node}
 use Rattle.definition.specs.Magnitude.{fits, sign, magnitude}
 use Rattle.definition.specs.Slice.{NODES, REFERENCES, BYTES, INPUT, MEMBERS}
-use Rattle.definition.specs.Arena.{Tables, Arena, tables-of, counts-of, arena, firsts, is-name, too-long, bad-nodes, lowest, allowed, fault, sound, zeroed, find-symbol}
+use Rattle.definition.specs.Arena.{Tables, Arena, tables-of, counts-of, arena, node, firsts, is-name, too-long, bad-nodes, lowest, allowed, fault, sound, zeroed, find-symbol}
 use Rattle.definition.specs.declared.Answer.the-variants.{Accepted, Refused}
 use Rattle.definition.specs.declared.Begun.{Begun}
 use Rattle.definition.specs.declared.Counts.{Counts}
@@ -73,7 +73,7 @@ words-at table h = take width (drop (h * width) table)
 unfoldable pub handles-checked : List ℕ → Run Lent (Unit {0})
 handles-checked hs = check [] >>= λ _. check-handles hs
 
--- "`get` answers the seven words"
+-- `get` answers a node's words
 unfoldable pub get-words : ℕ → Run Lent (List ℕ)
 get-words h = handles-checked (h ∷ []) >>= λ _. look λ L. pure (words-at (L .tables .nodes) h)
 
@@ -96,6 +96,21 @@ set-root h L = ok (L .counts .root) (record { tables = L .tables; counts = count
 -- `replace_root`: the handle is tested, then the root replaced
 unfoldable pub exchange-root : ℕ → Run Lent ℕ
 exchange-root h = handles-checked (h ∷ []) >>= λ _. set-root h
+
+-- only kinds 4, 5 and 7 take a class: 14
+unfoldable pub takes-class : ℕ → Bool
+takes-class k = eqb k array-kind || eqb k hash-kind || eqb k string-kind
+
+unfoldable pub check-class : ℕ → Run Lent (Unit {0})
+check-class h = look λ L. pick (takes-class (kind (node (held L) h))) (pure tt) (refuse (WrongKind h))
+
+-- a node's class word is replaced, and the old one answered
+unfoldable pub set-class : ℕ → ℕ → Run Lent ℕ
+set-class h w L = ok (word (node (held L) h) CLASS) (lent (set (L .tables .nodes) (h * width + CLASS) w) (L .tables .references) (L .tables .bytes) (L .counts))
+
+-- `replace_class`: the class is passed as word 7 holds it; the handle, then the class are tested by 13, then by 14
+unfoldable pub exchange-class : ℕ → ℕ → Run Lent ℕ
+exchange-class h w = handles-checked (h ∷ optional-node w) >>= λ _. check-class h >>= λ _. check-names (optional-node w) >>= λ _. set-class h w
 
 -- ---- builder
 
@@ -160,16 +175,11 @@ create-symbol name = check (byte-slice name ∷ []) >>= λ _. look λ L. known-o
 
 -- `create_array`: the members are handles
 unfoldable pub create-array : List ℕ → Run Lent ℕ
-create-array ms = check (member-slice ms ∷ []) >>= λ _. check-handles ms >>= λ _. add [] ms λ b r. array r (length ms)
+create-array ms = check (member-slice ms ∷ []) >>= λ _. check-handles ms >>= λ _. add [] ms λ b r. array r (length ms) 0
 
--- a default as a handle: "13 names that word less 1"
-unfoldable pub default-handle : ℕ → List ℕ
-default-handle zero = []
-default-handle (suc d) = d ∷ []
-
--- "A hash default is passed as word 6 holds it, and tested after the pairs"
+-- "A hash default is passed as word 6 holds it, and tested after the pairs; 13 names that word less 1"
 unfoldable pub create-hash : List ℕ → ℕ → Run Lent ℕ
-create-hash ps d = check (pair-slice ps ∷ []) >>= λ _. check-handles (ps ++ default-handle d) >>= λ _. add [] ps λ b r. hash r (length ps / 2) d
+create-hash ps d = check (pair-slice ps ∷ []) >>= λ _. check-handles (ps ++ optional-node d) >>= λ _. add [] ps λ b r. hash r (length ps / 2) d 0
 
 -- "name before pairs (13, then 14 for names)"
 unfoldable pub create-object : ℕ → List ℕ → Run Lent ℕ
@@ -177,7 +187,7 @@ create-object c ps = check (pair-slice ps ∷ []) >>= λ _. check-handles (c ∷
 
 -- `create_string`: no variable list
 unfoldable pub create-string : List ℕ → Run Lent ℕ
-create-string bs = check (byte-slice bs ∷ []) >>= λ _. add bs [] λ b r. string b (length bs) absent
+create-string bs = check (byte-slice bs ∷ []) >>= λ _. add bs [] λ b r. string b (length bs) absent 0
 
 -- `create_user_defined`: the name, then the bytes; no variable list
 unfoldable pub create-user-defined : ℕ → List ℕ → Run Lent ℕ

@@ -26,28 +26,28 @@ use Rattle.definition.specs.declared.Name.{Name}
 use Rattle.definition.specs.declared.Number.{Number}
 use Rattle.definition.specs.declared.Refusal.{Refusal}
 use Rattle.definition.specs.declared.Refusal.the-variants.{BadTables, BadArena, InvalidVersion, ShortInput, InvalidKind, NegativeCount, MissingSymbol, MissingObject, NotASymbol, NotAnObject}
-use Rattle.definition.specs.declared.Refusal.the-variants.{TooDeep, NoSpace, BadHandle, WrongKind, TooBig}
+use Rattle.definition.specs.declared.Refusal.the-variants.{TooDeep, NoSpace, BadHandle, WrongKind, TooBig, NotWrappable}
 use Rattle.definition.specs.declared.Words.{Words}
 
 -- ---- rows and their words
 
 abbrev rows : List (Row × List ℕ)
 rows =
-    (nil, 0 ∷ 0 ∷ 0 ∷ 0 ∷ 0 ∷ 0 ∷ 0 ∷ [])
-    ∷ (bool false, 1 ∷ 0 ∷ 0 ∷ 0 ∷ 0 ∷ 0 ∷ 0 ∷ [])
-    ∷ (bool true, 1 ∷ 1 ∷ 0 ∷ 0 ∷ 0 ∷ 0 ∷ 0 ∷ [])
-    ∷ (fixnum 21, 2 ∷ 21 ∷ 0 ∷ 0 ∷ 0 ∷ 0 ∷ 0 ∷ [])
-    ∷ (symbol 21 22, 3 ∷ 21 ∷ 22 ∷ 0 ∷ 0 ∷ 0 ∷ 0 ∷ [])
-    ∷ (array 23 24, 4 ∷ 0 ∷ 0 ∷ 23 ∷ 24 ∷ 0 ∷ 0 ∷ [])
-    ∷ (hash 23 24 26, 5 ∷ 0 ∷ 0 ∷ 23 ∷ 24 ∷ 0 ∷ 26 ∷ [])
-    ∷ (object 23 24 25, 6 ∷ 0 ∷ 0 ∷ 23 ∷ 24 ∷ 25 ∷ 0 ∷ [])
-    ∷ (string 21 22 absent, 7 ∷ 21 ∷ 22 ∷ 0 ∷ 0 ∷ 0 ∷ 0 ∷ [])
-    ∷ (string 21 22 (present 23 24), 7 ∷ 21 ∷ 22 ∷ 23 ∷ 24 ∷ 0 ∷ 1 ∷ [])
-    ∷ (user 21 22 25 absent, 8 ∷ 21 ∷ 22 ∷ 0 ∷ 0 ∷ 25 ∷ 0 ∷ [])
-    ∷ (user 21 22 25 (present 23 24), 8 ∷ 21 ∷ 22 ∷ 23 ∷ 24 ∷ 25 ∷ 1 ∷ [])
-    ∷ (float 21 22, 9 ∷ 21 ∷ 22 ∷ 0 ∷ 0 ∷ 0 ∷ 0 ∷ [])
-    ∷ (bignum 21 22 false, 10 ∷ 21 ∷ 22 ∷ 0 ∷ 0 ∷ 0 ∷ 0 ∷ [])
-    ∷ (bignum 21 22 true, 10 ∷ 21 ∷ 22 ∷ 0 ∷ 1 ∷ 0 ∷ 0 ∷ [])
+    (nil, 0 ∷ 0 ∷ 0 ∷ 0 ∷ 0 ∷ 0 ∷ 0 ∷ 0 ∷ [])
+    ∷ (bool false, 1 ∷ 0 ∷ 0 ∷ 0 ∷ 0 ∷ 0 ∷ 0 ∷ 0 ∷ [])
+    ∷ (bool true, 1 ∷ 1 ∷ 0 ∷ 0 ∷ 0 ∷ 0 ∷ 0 ∷ 0 ∷ [])
+    ∷ (fixnum 21, 2 ∷ 21 ∷ 0 ∷ 0 ∷ 0 ∷ 0 ∷ 0 ∷ 0 ∷ [])
+    ∷ (symbol 21 22, 3 ∷ 21 ∷ 22 ∷ 0 ∷ 0 ∷ 0 ∷ 0 ∷ 0 ∷ [])
+    ∷ (array 23 24 27, 4 ∷ 0 ∷ 0 ∷ 23 ∷ 24 ∷ 0 ∷ 0 ∷ 27 ∷ [])
+    ∷ (hash 23 24 26 27, 5 ∷ 0 ∷ 0 ∷ 23 ∷ 24 ∷ 0 ∷ 26 ∷ 27 ∷ [])
+    ∷ (object 23 24 25, 6 ∷ 0 ∷ 0 ∷ 23 ∷ 24 ∷ 25 ∷ 0 ∷ 0 ∷ [])
+    ∷ (string 21 22 absent 27, 7 ∷ 21 ∷ 22 ∷ 0 ∷ 0 ∷ 0 ∷ 0 ∷ 27 ∷ [])
+    ∷ (string 21 22 (present 23 24) 27, 7 ∷ 21 ∷ 22 ∷ 23 ∷ 24 ∷ 0 ∷ 1 ∷ 27 ∷ [])
+    ∷ (user 21 22 25 absent, 8 ∷ 21 ∷ 22 ∷ 0 ∷ 0 ∷ 25 ∷ 0 ∷ 0 ∷ [])
+    ∷ (user 21 22 25 (present 23 24), 8 ∷ 21 ∷ 22 ∷ 23 ∷ 24 ∷ 25 ∷ 1 ∷ 0 ∷ [])
+    ∷ (float 21 22, 9 ∷ 21 ∷ 22 ∷ 0 ∷ 0 ∷ 0 ∷ 0 ∷ 0 ∷ [])
+    ∷ (bignum 21 22 false, 10 ∷ 21 ∷ 22 ∷ 0 ∷ 0 ∷ 0 ∷ 0 ∷ 0 ∷ [])
+    ∷ (bignum 21 22 true, 10 ∷ 21 ∷ 22 ∷ 0 ∷ 1 ∷ 0 ∷ 0 ∷ 0 ∷ [])
     ∷ []
 
 -- ---- slices
@@ -57,7 +57,7 @@ lengths = (0, false) ∷ (2147483647, false) ∷ (2147483648, true) ∷ []
 
 -- a node table of so many words
 abbrev node-lengths : List (ℕ × Bool)
-node-lengths = (0, true) ∷ (width, false) ∷ (width + 1, true) ∷ (width * 3, false) ∷ (2147483646, false) ∷ (2147483653, true) ∷ []
+node-lengths = (0, true) ∷ (width, false) ∷ (width + 1, true) ∷ (width * 3, false) ∷ (2147483640, false) ∷ (2147483648, true) ∷ []
 
 -- ---- load
 
@@ -111,20 +111,47 @@ loaded =
     ∷ (ample (0x46 ∷ []), holding (bool false ∷ []) [] [] 1 3)
     ∷ (ample (0x69 ∷ 0xFA ∷ []), holding (fixnum 4294967295 ∷ []) [] [] 1 4)
     ∷ (ample (0x3A ∷ 0x06 ∷ 0x61 ∷ []), holding (symbol 0 1 ∷ []) [] (0x61 ∷ []) 1 5)
-    ∷ (ample (0x5B ∷ 0x07 ∷ 0x69 ∷ 0x7F ∷ 0x3A ∷ 0x06 ∷ 0x61 ∷ []), holding (array 0 2 ∷ fixnum 122 ∷ symbol 0 1 ∷ []) (2 ∷ 3 ∷ []) (0x61 ∷ []) 1 9)
-    ∷ (ample (0x7B ∷ 0x06 ∷ 0x69 ∷ 0x06 ∷ 0x54 ∷ []), holding (hash 0 1 0 ∷ fixnum 1 ∷ bool true ∷ []) (2 ∷ 3 ∷ []) [] 1 7)
-    ∷ (ample (0x7D ∷ 0x06 ∷ 0x30 ∷ 0x54 ∷ 0x46 ∷ []), holding (hash 0 1 5 ∷ nil ∷ bool true ∷ bool false ∷ []) (2 ∷ 3 ∷ []) [] 1 7)
+    ∷ (ample (0x5B ∷ 0x07 ∷ 0x69 ∷ 0x7F ∷ 0x3A ∷ 0x06 ∷ 0x61 ∷ []), holding (array 0 2 0 ∷ fixnum 122 ∷ symbol 0 1 ∷ []) (2 ∷ 3 ∷ []) (0x61 ∷ []) 1 9)
+    ∷ (ample (0x7B ∷ 0x06 ∷ 0x69 ∷ 0x06 ∷ 0x54 ∷ []), holding (hash 0 1 0 0 ∷ fixnum 1 ∷ bool true ∷ []) (2 ∷ 3 ∷ []) [] 1 7)
+    ∷ (ample (0x7D ∷ 0x06 ∷ 0x30 ∷ 0x54 ∷ 0x46 ∷ []), holding (hash 0 1 5 0 ∷ nil ∷ bool true ∷ bool false ∷ []) (2 ∷ 3 ∷ []) [] 1 7)
     ∷ (ample (0x6F ∷ 0x3A ∷ 0x06 ∷ 0x61 ∷ 0x06 ∷ 0x3A ∷ 0x06 ∷ 0x62 ∷ 0x30 ∷ []), holding (object 0 1 2 ∷ symbol 0 1 ∷ symbol 1 1 ∷ nil ∷ []) (3 ∷ 4 ∷ []) (0x61 ∷ 0x62 ∷ []) 1 11)
-    ∷ (ample (0x22 ∷ 0x06 ∷ 0x61 ∷ []), holding (string 0 1 absent ∷ []) [] (0x61 ∷ []) 1 5)
-    ∷ (ample (0x49 ∷ 0x22 ∷ 0x06 ∷ 0x61 ∷ 0x00 ∷ []), holding (string 0 1 (present 0 0) ∷ []) [] (0x61 ∷ []) 1 7)
+    ∷ (ample (0x22 ∷ 0x06 ∷ 0x61 ∷ []), holding (string 0 1 absent 0 ∷ []) [] (0x61 ∷ []) 1 5)
+    ∷ (ample (0x49 ∷ 0x22 ∷ 0x06 ∷ 0x61 ∷ 0x00 ∷ []), holding (string 0 1 (present 0 0) 0 ∷ []) [] (0x61 ∷ []) 1 7)
     ∷ (ample (0x75 ∷ 0x3A ∷ 0x06 ∷ 0x61 ∷ 0x06 ∷ 0x62 ∷ []), holding (symbol 0 1 ∷ user 1 1 1 absent ∷ []) [] (0x61 ∷ 0x62 ∷ []) 2 8)
     ∷ (ample (0x66 ∷ 0x06 ∷ 0x31 ∷ []), holding (float 0 1 ∷ []) [] (0x31 ∷ []) 1 5)
     ∷ (ample (0x6C ∷ 0x2D ∷ 0x06 ∷ 0x01 ∷ 0x00 ∷ []), holding (bignum 1 0 true ∷ []) [] [] 1 7)
     -- links: an object's second entry, a symbol's first
-    ∷ (ample (0x5B ∷ 0x07 ∷ 0x22 ∷ 0x00 ∷ 0x40 ∷ 0x06 ∷ []), holding (array 0 2 ∷ string 0 0 absent ∷ []) (2 ∷ 2 ∷ []) [] 1 8)
-    ∷ (ample (0x5B ∷ 0x07 ∷ 0x3A ∷ 0x06 ∷ 0x61 ∷ 0x3B ∷ 0x00 ∷ []), holding (array 0 2 ∷ symbol 0 1 ∷ []) (2 ∷ 2 ∷ []) (0x61 ∷ []) 1 9)
+    ∷ (ample (0x5B ∷ 0x07 ∷ 0x22 ∷ 0x00 ∷ 0x40 ∷ 0x06 ∷ []), holding (array 0 2 0 ∷ string 0 0 absent 0 ∷ []) (2 ∷ 2 ∷ []) [] 1 8)
+    ∷ (ample (0x5B ∷ 0x07 ∷ 0x3A ∷ 0x06 ∷ 0x61 ∷ 0x3B ∷ 0x00 ∷ []), holding (array 0 2 0 ∷ symbol 0 1 ∷ []) (2 ∷ 2 ∷ []) (0x61 ∷ []) 1 9)
     -- a list's start is taken when its words are reserved: after those of the list around it
-    ∷ (ample (0x5B ∷ 0x06 ∷ 0x5B ∷ 0x06 ∷ 0x30 ∷ []), holding (array 0 1 ∷ array 1 1 ∷ nil ∷ []) (2 ∷ 3 ∷ []) [] 1 7)
+    ∷ (ample (0x5B ∷ 0x06 ∷ 0x5B ∷ 0x06 ∷ 0x30 ∷ []), holding (array 0 1 0 ∷ array 1 1 0 ∷ nil ∷ []) (2 ∷ 3 ∷ []) [] 1 7)
+    -- `C`: the name's node precedes the node, and its bytes those of a string; the level is tested once, before it, and members are one deeper
+    ∷ (under 1 (0x43 ∷ 0x3A ∷ 0x06 ∷ 0x61 ∷ 0x5B ∷ 0x00 ∷ []), holding (symbol 0 1 ∷ array 0 0 2 ∷ []) [] (0x61 ∷ []) 2 8)
+    ∷ (under 1 (0x43 ∷ 0x3A ∷ 0x06 ∷ 0x61 ∷ 0x5B ∷ 0x06 ∷ []), zeros 5 5 5 5 5 (TooDeep 1))
+    ∷ (under 2 (0x43 ∷ 0x3A ∷ 0x06 ∷ 0x61 ∷ 0x5B ∷ 0x06 ∷ 0x30 ∷ []), holding (symbol 0 1 ∷ array 0 1 2 ∷ nil ∷ []) (3 ∷ []) (0x61 ∷ []) 2 9)
+    ∷ (ample (0x43 ∷ 0x3A ∷ 0x06 ∷ 0x61 ∷ 0x7B ∷ 0x06 ∷ 0x30 ∷ 0x54 ∷ []), holding (symbol 0 1 ∷ hash 0 1 0 2 ∷ nil ∷ bool true ∷ []) (3 ∷ 4 ∷ []) (0x61 ∷ []) 2 10)
+    ∷ (ample (0x43 ∷ 0x3A ∷ 0x06 ∷ 0x61 ∷ 0x7D ∷ 0x00 ∷ 0x30 ∷ []), holding (symbol 0 1 ∷ hash 0 0 4 2 ∷ nil ∷ []) [] (0x61 ∷ []) 2 9)
+    ∷ (ample (0x43 ∷ 0x3A ∷ 0x06 ∷ 0x61 ∷ 0x22 ∷ 0x06 ∷ 0x62 ∷ []), holding (symbol 0 1 ∷ string 1 1 absent 2 ∷ []) [] (0x61 ∷ 0x62 ∷ []) 2 9)
+    ∷ (under 2 (0x49 ∷ 0x43 ∷ 0x3A ∷ 0x06 ∷ 0x61 ∷ 0x22 ∷ 0x00 ∷ 0x00 ∷ []), holding (symbol 0 1 ∷ string 1 0 (present 0 0) 2 ∷ []) [] (0x61 ∷ []) 2 10)
+    ∷ (under 1 (0x49 ∷ 0x43 ∷ 0x3A ∷ 0x06 ∷ 0x61 ∷ 0x22 ∷ 0x00 ∷ 0x00 ∷ []), zeros 5 5 5 5 5 (TooDeep 1))
+    ∷ (ample (0x5B ∷ 0x07 ∷ 0x43 ∷ 0x3A ∷ 0x06 ∷ 0x61 ∷ 0x5B ∷ 0x00 ∷ 0x40 ∷ 0x06 ∷ []), holding (array 0 2 0 ∷ symbol 0 1 ∷ array 2 0 3 ∷ []) (3 ∷ 3 ∷ []) (0x61 ∷ []) 1 12)
+    -- its refusals in their order, whatever room there is: the level, the name, the byte after it, 22, and only then what the kind asks
+    ∷ (under 0 (0x43 ∷ []), zeros 5 5 5 5 5 (TooDeep 0))
+    ∷ (ample (0x43 ∷ []), zeros 5 5 5 5 5 ShortInput)
+    ∷ (ample (0x43 ∷ 0x30 ∷ []), zeros 5 5 5 5 5 (NotASymbol 48))
+    ∷ (ample (0x43 ∷ 0x3B ∷ 0x00 ∷ 0x5B ∷ 0x00 ∷ []), zeros 5 5 5 5 5 (MissingSymbol 0))
+    ∷ (tight 2 0 1 0 0 (0x43 ∷ 0x3A ∷ 0x06 ∷ 0x61 ∷ []), zeros 2 0 1 0 0 (NoSpace SYMBOLS))
+    ∷ (ample (0x43 ∷ 0x3A ∷ 0x06 ∷ 0x61 ∷ []), zeros 5 5 5 5 5 ShortInput)
+    ∷ (tight 2 0 1 1 0 (0x43 ∷ 0x3A ∷ 0x06 ∷ 0x61 ∷ 0x30 ∷ []), zeros 2 0 1 1 0 (NotWrappable 48))
+    ∷ (tight 2 0 1 1 0 (0x43 ∷ 0x3A ∷ 0x06 ∷ 0x61 ∷ 0x5B ∷ []), zeros 2 0 1 1 0 (NoSpace NODES))
+    ∷ (tight 3 0 1 1 0 (0x43 ∷ 0x3A ∷ 0x06 ∷ 0x61 ∷ 0x5B ∷ []), zeros 3 0 1 1 0 (NoSpace OBJECTS))
+    ∷ (tight 3 0 1 1 1 (0x43 ∷ 0x3A ∷ 0x06 ∷ 0x61 ∷ 0x5B ∷ []), zeros 3 0 1 1 1 ShortInput)
+    -- every other byte after the name is 22: `C`, `@`, `I`, `o`, one that is no kind
+    ∷ (ample (0x43 ∷ 0x3A ∷ 0x06 ∷ 0x61 ∷ 0x43 ∷ []), zeros 5 5 5 5 5 (NotWrappable 67))
+    ∷ (ample (0x43 ∷ 0x3A ∷ 0x06 ∷ 0x61 ∷ 0x40 ∷ []), zeros 5 5 5 5 5 (NotWrappable 64))
+    ∷ (ample (0x43 ∷ 0x3A ∷ 0x06 ∷ 0x61 ∷ 0x49 ∷ []), zeros 5 5 5 5 5 (NotWrappable 73))
+    ∷ (ample (0x43 ∷ 0x3A ∷ 0x06 ∷ 0x61 ∷ 0x6F ∷ []), zeros 5 5 5 5 5 (NotWrappable 111))
+    ∷ (ample (0x43 ∷ 0x3A ∷ 0x06 ∷ 0x61 ∷ 0xFF ∷ []), zeros 5 5 5 5 5 (NotWrappable 255))
     -- refused by the bytes: 3 to 10
     ∷ (record { n = 5 * width; r = 5; b = 5; y = 5; o = 5; limit = 64; input = 4 ∷ 9 ∷ [] }, zeros 5 5 5 5 5 (InvalidVersion 4 9))
     ∷ (record { n = 5 * width; r = 5; b = 5; y = 5; o = 5; limit = 64; input = 5 ∷ [] }, zeros 5 5 5 5 5 ShortInput)
@@ -139,7 +166,7 @@ loaded =
     ∷ (under 0 [], zeros 5 5 5 5 5 (TooDeep 0))
     ∷ (under 1 (0x5B ∷ 0x06 ∷ []), zeros 5 5 5 5 5 (TooDeep 1))
     ∷ (under 1 (0x49 ∷ 0x22 ∷ 0x00 ∷ 0x00 ∷ []), zeros 5 5 5 5 5 (TooDeep 1))
-    ∷ (under 2 (0x49 ∷ 0x22 ∷ 0x00 ∷ 0x00 ∷ []), holding (string 0 0 (present 0 0) ∷ []) [] [] 1 6)
+    ∷ (under 2 (0x49 ∷ 0x22 ∷ 0x00 ∷ 0x00 ∷ []), holding (string 0 0 (present 0 0) 0 ∷ []) [] [] 1 6)
     -- 12: bytes before the node, the node before either list
     ∷ (tight 1 0 0 0 0 (0x30 ∷ []), zeros 1 0 0 0 0 (NoSpace NODES))
     ∷ (tight 2 1 0 0 1 (0x7B ∷ 0x06 ∷ []), zeros 2 1 0 0 1 (NoSpace REFERENCES))
@@ -172,7 +199,11 @@ abbrev of-nil : ℕ → ℕ → ℕ → Dump
 of-nil scratch output limit = record { rows = nil ∷ []; root = 0; scratch = scratch; output = output; limit = limit }
 
 abbrev of-string : ℕ → ℕ → Dump
-of-string output limit = record { rows = string 0 0 (present 0 0) ∷ []; root = 0; scratch = 1; output = output; limit = limit }
+of-string output limit = record { rows = string 0 0 (present 0 0) 0 ∷ []; root = 0; scratch = 1; output = output; limit = limit }
+
+-- a string with variables and the empty symbol for its class
+abbrev of-class : ℕ → ℕ → Dump
+of-class output limit = record { rows = symbol 0 0 ∷ string 0 0 (present 0 0) 1 ∷ []; root = 1; scratch = 2; output = output; limit = limit }
 
 -- refused after 1 and 2: output and scratch are zero; with 1 or 2: nothing is touched
 abbrev emptied : Refusal → ℕ → ℕ → DumpCall
@@ -193,11 +224,15 @@ dumped =
     -- 11: before a value's first byte, and between `I` and the kind
     ∷ (of-nil 2 3 0, emptied (TooDeep 0) 2 3)
     ∷ (of-string 3 1, emptied (TooDeep 1) 1 3)
+    -- a class after `I` and its level
+    ∷ (of-class 9 2, dump-call-of Accepted 9 (0 ∷ 0 ∷ []) (0x04 ∷ 0x08 ∷ 0x49 ∷ 0x43 ∷ 0x3A ∷ 0x00 ∷ 0x22 ∷ 0x00 ∷ 0x00 ∷ []))
+    ∷ (of-class 3 1, emptied (TooDeep 1) 2 3)
+    ∷ (of-class 3 2, emptied (NoSpace OUTPUT) 2 3)
     -- 1: scratch too short, a limit above 128; 2: the counts before the nodes
     ∷ (of-nil 0 3 129, unwritten (BadTables LIMIT) 0 3)
     ∷ (of-nil 0 3 1, unwritten (BadTables SCRATCH) 0 3)
     ∷ (record { rows = symbol 0 1 ∷ []; root = 1; scratch = 1; output = 3; limit = 1 }, unwritten (BadArena Bad-counts) 1 3)
-    ∷ (record { rows = nil ∷ symbol 0 1 ∷ array 1 0 ∷ []; root = 0; scratch = 3; output = 3; limit = 1 }, unwritten (BadArena (Bad-node 1)) 3 3)
+    ∷ (record { rows = nil ∷ symbol 0 1 ∷ array 1 0 0 ∷ []; root = 0; scratch = 3; output = 3; limit = 1 }, unwritten (BadArena (Bad-node 1)) 3 3)
     ∷ []
 
 -- ---- builder and getters
@@ -212,6 +247,10 @@ roomy = basis 1 2 1
 
 abbrev full : Lent
 full = basis 0 0 0
+
+-- nil, the symbol a, and a string of this class
+abbrev wrapped : ℕ → Lent
+wrapped w = lent (flat (nil ∷ symbol 0 1 ∷ string 1 0 absent w ∷ [])) [] (0x61 ∷ []) (counts-of 3 0 1 0)
 
 -- counts that do not fit: the root is node 2 of two
 abbrev broken : Lent
@@ -245,18 +284,18 @@ built =
     ∷ ((full, B.create-symbol (0x62 ∷ [])), unchanged full (NoSpace BYTES))
     ∷ ((roomy, B.create-new-symbol (0x61 ∷ [])), with-node (symbol 1 1) [] (0x61 ∷ []))
     ∷ ((full, B.create-new-symbol []), unchanged full (NoSpace NODES))
-    ∷ ((roomy, B.create-array (1 ∷ 0 ∷ [])), with-node (array 0 2) (1 ∷ 0 ∷ []) [])
+    ∷ ((roomy, B.create-array (1 ∷ 0 ∷ [])), with-node (array 0 2 0) (1 ∷ 0 ∷ []) [])
     ∷ ((full, B.create-array (0 ∷ 5 ∷ 2 ∷ [])), unchanged full (BadHandle 5))
     ∷ ((full, B.create-array (0 ∷ [])), unchanged full (NoSpace REFERENCES))
     -- the default is tested after the pairs, and told less 1
-    ∷ ((roomy, B.create-hash (1 ∷ 0 ∷ []) 2), with-node (hash 0 1 2) (1 ∷ 0 ∷ []) [])
+    ∷ ((roomy, B.create-hash (1 ∷ 0 ∷ []) 2), with-node (hash 0 1 2 0) (1 ∷ 0 ∷ []) [])
     ∷ ((full, B.create-hash (1 ∷ 0 ∷ []) 3), unchanged full (BadHandle 2))
     ∷ ((full, B.create-hash (1 ∷ 0 ∷ 7 ∷ []) 3), unchanged full (BadTables 9))
     -- every 13 before any 14; the name's 14 before those of the pairs
     ∷ ((roomy, B.create-object 1 (1 ∷ 0 ∷ [])), with-node (object 0 1 1) (1 ∷ 0 ∷ []) [])
     ∷ ((full, B.create-object 0 (0 ∷ 2 ∷ [])), unchanged full (BadHandle 2))
     ∷ ((full, B.create-object 1 (0 ∷ 1 ∷ [])), unchanged full (WrongKind 0))
-    ∷ ((roomy, B.create-string (0x62 ∷ [])), with-node (string 1 1 absent) [] (0x62 ∷ []))
+    ∷ ((roomy, B.create-string (0x62 ∷ [])), with-node (string 1 1 absent 0) [] (0x62 ∷ []))
     ∷ ((full, B.create-string (0x62 ∷ [])), unchanged full (NoSpace BYTES))
     ∷ ((roomy, B.create-user-defined 1 (0x62 ∷ [])), with-node (user 1 1 1 absent) [] (0x62 ∷ []))
     ∷ ((full, B.create-user-defined 0 (0x62 ∷ [])), unchanged full (WrongKind 0))
@@ -268,6 +307,14 @@ built =
     -- the old root, and the counts with the new one
     ∷ ((full, B.exchange-root 1), build-call-of (record { answer = Accepted; handle = 0; counts = counts-of 2 0 1 1 }) (full .tables .nodes) (full .tables .references) (full .tables .bytes))
     ∷ ((full, B.exchange-root 2), unchanged full (BadHandle 2))
+    -- the old class word; every 13 before any 14, the node's 14 before the class's, and for no class too
+    ∷ ((wrapped 2, B.exchange-class 2 0), build-call-of (record { answer = Accepted; handle = 2; counts = counts-of 3 0 1 0 }) (wrapped 0 .tables .nodes) [] (0x61 ∷ []))
+    ∷ ((wrapped 0, B.exchange-class 2 2), build-call-of (record { answer = Accepted; handle = 0; counts = counts-of 3 0 1 0 }) (wrapped 2 .tables .nodes) [] (0x61 ∷ []))
+    ∷ ((wrapped 2, B.exchange-class 3 5), unchanged (wrapped 2) (BadHandle 3))
+    ∷ ((wrapped 2, B.exchange-class 1 4), unchanged (wrapped 2) (BadHandle 3))
+    ∷ ((wrapped 2, B.exchange-class 1 1), unchanged (wrapped 2) (WrongKind 1))
+    ∷ ((wrapped 2, B.exchange-class 0 0), unchanged (wrapped 2) (WrongKind 0))
+    ∷ ((wrapped 2, B.exchange-class 2 1), unchanged (wrapped 2) (WrongKind 0))
     ∷ []
 
 -- `new` over a node table of so many words, and two references and bytes
@@ -330,5 +377,5 @@ unfolding holds dumps
 dumps-computed = refl
 
 arena-calls-computed : holds builds built × holds news begun × holds numbered told × holds nodes got × holds names named
-unfolding holds builds news numbered nodes names B.new-if B.get-root B.get-kind B.get-words B.get-name B.words-at B.create-nil B.create-bool B.create-fixnum B.create-symbol B.create-new-symbol B.create-array B.create-hash B.create-object B.create-string B.create-user-defined B.create-float B.create-bignum B.exchange-root B.set-root B.check-magnitude B.default-handle B.known-or-new B.add-symbol B.bits B.pair-slice B.member-slice B.byte-slice B.add B.append B.check-space B.check-names B.check-handles B.handles-checked B.check B.wrong A.allowed A.lowest A.bad-nodes A.too-long A.sound A.fault A.fault-if A.faulty A.counts-fit A.node-right A.row-right A.number-right A.vars-right A.pairs-right A.list-right A.bytes-right A.all-names A.is-name A.all-below A.firsts A.find-symbol A.named A.name-of A.range A.node A.arena A.zeroed N.is-row N.equal N.rows N.row N.row-of N.vars words flat N.kind fits sign magnitude sets pure refuse next _>>=_ look pick
+unfolding holds builds news numbered nodes names B.new-if B.get-root B.get-kind B.get-words B.get-name B.words-at B.create-nil B.create-bool B.create-fixnum B.create-symbol B.create-new-symbol B.create-array B.create-hash B.create-object B.create-string B.create-user-defined B.create-float B.create-bignum B.exchange-root B.set-root B.exchange-class B.set-class B.check-class B.takes-class B.check-magnitude B.known-or-new B.add-symbol B.bits B.pair-slice B.member-slice B.byte-slice B.add B.append B.check-space B.check-names B.check-handles B.handles-checked B.check B.wrong A.allowed A.lowest A.bad-nodes A.too-long A.sound A.fault A.fault-if A.faulty A.counts-fit A.node-right A.row-right A.number-right A.class-right A.vars-right A.pairs-right A.list-right A.bytes-right A.all-names A.is-name A.all-below A.firsts A.find-symbol A.named A.name-of A.range A.node A.arena A.zeroed N.is-row N.equal N.rows N.row N.row-of N.optional-node N.vars words flat N.kind fits sign magnitude pure refuse next _>>=_ look pick
 arena-calls-computed = (refl, refl, refl, refl, refl)

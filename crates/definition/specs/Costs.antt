@@ -57,7 +57,7 @@ result (ok n L) = cents n
 result (refused r) = refused-with (numbers r)
 
 costed : Case → Result
-unfolding result C.batch-cost C.cost-nodes C.sum C.priced C.line-cost C.rounded C.price C.surviving C.has-name C.check-prices C.check-recipe C.check-pairs C.check-entries C.check-number C.check-kind C.right-if C.pairs C.lines C.line C.is-amount C.amount C.entries B.handles-checked B.check B.check-handles B.wrong A.allowed A.lowest A.bad-nodes A.too-long A.sound A.fault A.fault-if A.faulty A.counts-fit A.node-right A.row-right A.number-right A.bytes-right A.list-right A.all-below A.vars-right A.pairs-right A.all-names A.is-name A.name-of A.firsts A.range A.node A.arena N.is-row N.equal N.rows N.row N.row-of N.vars N.words N.flat N.kind fits magnitude signed numbers pure refuse next _>>=_ look pick
+unfolding result C.batch-cost C.cost-nodes C.sum C.priced C.line-cost C.rounded C.price C.surviving C.has-name C.check-prices C.check-recipe C.check-pairs C.check-entries C.check-number C.check-kind C.right-if C.pairs C.lines C.line C.is-amount C.amount C.entries B.handles-checked B.check B.check-handles B.wrong A.allowed A.lowest A.bad-nodes A.too-long A.sound A.fault A.fault-if A.faulty A.counts-fit A.node-right A.row-right A.number-right A.class-right A.bytes-right A.list-right A.all-below A.vars-right A.pairs-right A.all-names A.is-name A.name-of A.firsts A.range A.node A.arena N.is-row N.equal N.rows N.row N.row-of N.optional-node N.vars N.words N.flat N.kind fits magnitude signed numbers pure refuse next _>>=_ look pick
 costed c =
     result (C.batch-cost (c .recipe) (c .prices) (B.lent (N.flat (c .rows)) (c .references) (c .bytes)
     (A.counts-of (length (c .rows)) (length (c .references)) (length (c .bytes)) 0)))
@@ -69,7 +69,7 @@ basis recipe prices =
 
 -- the recipe's n keys and values, then the prices
 abbrev case : ℕ → List ℕ → Case
-case n refs = record { rows = basis (hash 0 n 0) (hash (n * 2) (length refs / 2 - n) 0); references = refs; bytes = 0x61 ∷ 0x62 ∷ 0x41 ∷ 0x61 ∷ 0 ∷ []; recipe = 12; prices = 13 }
+case n refs = record { rows = basis (hash 0 n 0 0) (hash (n * 2) (length refs / 2 - n) 0 0); references = refs; bytes = 0x61 ∷ 0x62 ∷ 0x41 ∷ 0x61 ∷ 0 ∷ []; recipe = 12; prices = 13 }
 
 abbrev calls : List (Case × Result)
 calls =
@@ -105,13 +105,15 @@ calls =
     ∷ (case 513 (replicate 1026 10), refused-with (20, pos 12, pos 0))
     ∷ (case 0 (replicate 1026 1), refused-with (20, pos 1, pos 0))
     -- the kind of either; handles, the recipe's first; the arena before them; defaults play no part; one hash for both
-    ∷ (record { rows = basis (array 0 2) nil; references = 1 ∷ 7 ∷ []; bytes = 0x61 ∷ 0x62 ∷ 0x41 ∷ 0x61 ∷ 0 ∷ []; recipe = 12; prices = 13 }, refused-with (20, pos 12, pos 0))
-    ∷ (record { rows = basis (hash 0 1 0) (array 0 2); references = 1 ∷ 7 ∷ []; bytes = 0x61 ∷ 0x62 ∷ 0x41 ∷ 0x61 ∷ 0 ∷ []; recipe = 12; prices = 13 }, refused-with (20, pos 13, pos 0))
-    ∷ (record { rows = basis (hash 0 1 1) (hash 0 1 8); references = 1 ∷ 7 ∷ []; bytes = 0x61 ∷ 0x62 ∷ 0x41 ∷ 0x61 ∷ 0 ∷ []; recipe = 12; prices = 12 }, cents 250)
-    ∷ (record { rows = basis (hash 0 1 0) (hash 0 0 8); references = 1 ∷ 7 ∷ []; bytes = 0x61 ∷ 0x62 ∷ 0x41 ∷ 0x61 ∷ 0 ∷ []; recipe = 12; prices = 13 }, refused-with (21, pos 1, pos 0))
+    ∷ (record { rows = basis (array 0 2 0) nil; references = 1 ∷ 7 ∷ []; bytes = 0x61 ∷ 0x62 ∷ 0x41 ∷ 0x61 ∷ 0 ∷ []; recipe = 12; prices = 13 }, refused-with (20, pos 12, pos 0))
+    ∷ (record { rows = basis (hash 0 1 0 0) (array 0 2 0); references = 1 ∷ 7 ∷ []; bytes = 0x61 ∷ 0x62 ∷ 0x41 ∷ 0x61 ∷ 0 ∷ []; recipe = 12; prices = 13 }, refused-with (20, pos 13, pos 0))
+    ∷ (record { rows = basis (hash 0 1 1 0) (hash 0 1 8 0); references = 1 ∷ 7 ∷ []; bytes = 0x61 ∷ 0x62 ∷ 0x41 ∷ 0x61 ∷ 0 ∷ []; recipe = 12; prices = 12 }, cents 250)
+    -- hashes in a class
+    ∷ (record { rows = basis (hash 0 1 0 2) (hash 0 1 0 2); references = 1 ∷ 7 ∷ []; bytes = 0x61 ∷ 0x62 ∷ 0x41 ∷ 0x61 ∷ 0 ∷ []; recipe = 12; prices = 13 }, cents 250)
+    ∷ (record { rows = basis (hash 0 1 0 0) (hash 0 0 8 0); references = 1 ∷ 7 ∷ []; bytes = 0x61 ∷ 0x62 ∷ 0x41 ∷ 0x61 ∷ 0 ∷ []; recipe = 12; prices = 13 }, refused-with (21, pos 1, pos 0))
     ∷ (record { rows = basis nil nil; references = []; bytes = 0x61 ∷ 0x62 ∷ 0x41 ∷ 0x61 ∷ 0 ∷ []; recipe = 14; prices = 15 }, refused-with (13, pos 14, pos 0))
     ∷ (record { rows = basis nil nil; references = []; bytes = 0x61 ∷ 0x62 ∷ 0x41 ∷ 0x61 ∷ 0 ∷ []; recipe = 12; prices = 15 }, refused-with (13, pos 15, pos 0))
-    ∷ (record { rows = basis (hash 0 1 0) nil; references = []; bytes = 0x61 ∷ 0x62 ∷ 0x41 ∷ 0x61 ∷ 0 ∷ []; recipe = 14; prices = 15 }, refused-with (2, pos 12, pos 0))
+    ∷ (record { rows = basis (hash 0 1 0 0) nil; references = []; bytes = 0x61 ∷ 0x62 ∷ 0x41 ∷ 0x61 ∷ 0 ∷ []; recipe = 14; prices = 15 }, refused-with (2, pos 12, pos 0))
     ∷ []
 
 computed : holds line costs × holds costed calls

@@ -1,4 +1,4 @@
--- What dump answers and what it leaves in output and scratch (01, "dump"; 02, 2.1 and 2.4).
+-- What dump answers and what it leaves in output and scratch (01, "dump"; 02, 2.1, 2.4 and 2.9).
 use Prim.Native.Nat.{ℕ, zero, suc, _+_, _-_, _*_, _/_}
 use mathlib.Core.Bool.{true, false, _||_}
 use mathlib.Core.List.{List, [], _∷_, _++_}
@@ -7,7 +7,7 @@ use lib.Dec.{ltb, leb, eqb}
 use lib.ListN.{length}
 use Rattle.definition.specs.Run.{Run, Outcome, ok, refused, pure, refuse, _>>=_, look, pick}
 use Rattle.definition.specs.Integer.{integer-bytes}
-use Rattle.definition.specs.Kind.{NIL, TRUE, FALSE, FIXNUM, SYMBOL, SYMBOL-LINK, OBJECT-LINK, INSTANCE-VARIABLES, ARRAY, HASH, HASH-DEFAULT, OBJECT, STRING, USER-DEFINED, FLOAT, BIGNUM}
+use Rattle.definition.specs.Kind.{NIL, TRUE, FALSE, FIXNUM, SYMBOL, SYMBOL-LINK, OBJECT-LINK, INSTANCE-VARIABLES, ARRAY, HASH, HASH-DEFAULT, OBJECT, STRING, USER-DEFINED, FLOAT, BIGNUM, USER-CLASS}
 use Rattle.definition.specs.Node.{Row, Vars, nil, bool, fixnum, symbol, array, hash, object, string, user, float, bignum, absent, present, width}
 use Rattle.definition.specs.Magnitude.{magnitude, bignum-bytes}
 use Rattle.definition.specs.Slice.{NODES, REFERENCES, BYTES, OUTPUT, LIMIT, SCRATCH, greatest-limit}
@@ -87,7 +87,7 @@ module _ (size : ℕ) (A : Arena) where
   unfoldable pub write-instance-variables : (ℕ → Writer) → ℕ → ℕ → Writer
   write-instance-variables inner start n = write size (integer-bytes n) >> write-pairs write-name inner (range (A .references) start (n * 2))
 
-  -- "`I` precedes 7 and 8 exactly when a list is present"; the level is tested between `I` and the kind; body is the value after `I`
+  -- "`I` precedes 7 and 8 exactly when a list is present"; the level is tested between `I` and what follows; body is the value after `I`
   unfoldable pub write-variables : Writer → (ℕ → Writer) → Writer → Vars → Writer
   write-variables level inner body absent = body
   write-variables level inner body (present start n) = write size (INSTANCE-VARIABLES ∷ []) >> level >> body >> write-instance-variables inner start n
@@ -102,6 +102,11 @@ module _ (size : ℕ) (A : Arena) where
   hash-byte zero = HASH
   hash-byte (suc d) = HASH-DEFAULT
 
+  -- "then `C` and the name, then the kind": a class, where there is one
+  unfoldable pub write-class : ℕ → Writer
+  write-class zero = pure tt
+  write-class (suc c) = write size (USER-CLASS ∷ []) >> write-name c
+
   -- a value by its row; level tests for one level more, inner writes a value one level deeper
   unfoldable pub write-row : Writer → (ℕ → Writer) → ℕ → Row → Writer
   write-row level inner h nil = write size (NIL ∷ [])
@@ -109,10 +114,10 @@ module _ (size : ℕ) (A : Arena) where
   write-row level inner h (bool false) = write size (FALSE ∷ [])
   write-row level inner h (fixnum w) = write size (FIXNUM ∷ integer-bytes w)
   write-row level inner h (symbol s l) = write-symbol size h (range (A .bytes) s l)
-  write-row level inner h (array s n) = write-object-or-link size h (write size (ARRAY ∷ integer-bytes n) >> write-elements inner (range (A .references) s n))
-  write-row level inner h (hash s n d) = write-object-or-link size h (write size (hash-byte d ∷ integer-bytes n) >> write-elements inner (range (A .references) s (n * 2)) >> write-default inner d)
+  write-row level inner h (array s n w) = write-object-or-link size h (write-class w >> write size (ARRAY ∷ integer-bytes n) >> write-elements inner (range (A .references) s n))
+  write-row level inner h (hash s n d w) = write-object-or-link size h (write-class w >> write size (hash-byte d ∷ integer-bytes n) >> write-elements inner (range (A .references) s (n * 2)) >> write-default inner d)
   write-row level inner h (object s n c) = write-object-or-link size h (write size (OBJECT ∷ []) >> write-name c >> write-instance-variables inner s n)
-  write-row level inner h (string s l v) = write-object-or-link size h (write-variables level inner (write size (STRING ∷ byte-string-bytes (range (A .bytes) s l))) v)
+  write-row level inner h (string s l v w) = write-object-or-link size h (write-variables level inner (write-class w >> write size (STRING ∷ byte-string-bytes (range (A .bytes) s l))) v)
   write-row level inner h (user s l c v) =
       write-object-or-link size h (write-variables level inner (write size (USER-DEFINED ∷ []) >> write-name c >> write size (byte-string-bytes (range (A .bytes) s l))) v)
   write-row level inner h (float s l) = write-object-or-link size h (write size (FLOAT ∷ byte-string-bytes (range (A .bytes) s l)))

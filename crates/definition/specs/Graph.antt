@@ -1,26 +1,27 @@
--- When two arenas hold the same graph (01, "Same graph"; 02, 2.1 and 2.4).
-use Prim.Native.Nat.{ℕ, zero, suc, _*_, _≤_}
+-- When two arenas hold the same graph (01, "Same graph"; 02, 2.1, 2.4 and 2.9).
+use Prim.Native.Nat.{ℕ, _*_, _≤_}
 use mathlib.Core.Bool.{Bool, true, false}
 use mathlib.Core.List.{List, [], _∷_, _++_}
 use mathlib.Core.Option.{some}
 use mathlib.Core.Path.{_≡_}
 use lib.ListN.{getElem?}
-use Rattle.definition.specs.Node.{Row, Vars, nil, bool, fixnum, symbol, array, hash, object, string, user, float, bignum, absent, present, kind}
+use Rattle.definition.specs.Node.{Row, Vars, nil, bool, fixnum, symbol, array, hash, object, string, user, float, bignum, absent, present, kind, optional-node, optional-present}
 use Rattle.definition.specs.Magnitude.{magnitude}
 use Rattle.definition.specs.Arena.{Arena, node, range}
 
 -- "kinds, bool and fixnum values, byte strings, counts and presence of defaults and variables"
--- "Values equal in sign and magnitude": of a Bignum the magnitude is the value, and a minus is present or not
+-- "Values equal in sign and magnitude": of a Bignum the magnitude is the value, and a minus is present or not; class names are "paired or both absent"
 pub record Header : Type 0 where
   pub kind : ℕ
   pub value : ℕ
   pub bytes : List ℕ
   pub count : ℕ
   pub presence : Bool
+  pub class : Bool
 
 -- a header by its fields
-abbrev pub header-of : ℕ → ℕ → List ℕ → ℕ → Bool → Header
-header-of k v bs n p = record { kind = k; value = v; bytes = bs; count = n; presence = p }
+abbrev pub header-of : ℕ → ℕ → List ℕ → ℕ → Bool → Bool → Header
+header-of k v bs n p c = record { kind = k; value = v; bytes = bs; count = n; presence = p; class = c }
 
 -- how many variables
 unfoldable pub vars-count : Vars → ℕ
@@ -32,46 +33,36 @@ unfoldable pub vars-present : Vars → Bool
 vars-present absent = false
 vars-present (present s n) = true
 
--- "presence of defaults"
-unfoldable pub default-present : ℕ → Bool
-default-present zero = false
-default-present (suc d) = true
-
 -- a row's header
 unfoldable pub header : Arena → Row → Header
-header A nil = header-of 0 0 [] 0 false
-header A (bool false) = header-of 1 0 [] 0 false
-header A (bool true) = header-of 1 1 [] 0 false
-header A (fixnum w) = header-of 2 w [] 0 false
-header A (symbol s l) = header-of 3 0 (range (A .bytes) s l) 0 false
-header A (array s n) = header-of 4 0 [] n false
-header A (hash s n d) = header-of 5 0 [] n (default-present d)
-header A (object s n c) = header-of 6 0 [] n false
-header A (string s l v) = header-of 7 0 (range (A .bytes) s l) (vars-count v) (vars-present v)
-header A (user s l c v) = header-of 8 0 (range (A .bytes) s l) (vars-count v) (vars-present v)
-header A (float s l) = header-of 9 0 (range (A .bytes) s l) 0 false
-header A (bignum low high m) = header-of 10 (magnitude low high) [] 0 m
+header A nil = header-of 0 0 [] 0 false false
+header A (bool false) = header-of 1 0 [] 0 false false
+header A (bool true) = header-of 1 1 [] 0 false false
+header A (fixnum w) = header-of 2 w [] 0 false false
+header A (symbol s l) = header-of 3 0 (range (A .bytes) s l) 0 false false
+header A (array s n w) = header-of 4 0 [] n false (optional-present w)
+header A (hash s n d w) = header-of 5 0 [] n (optional-present d) (optional-present w)
+header A (object s n c) = header-of 6 0 [] n false false
+header A (string s l v w) = header-of 7 0 (range (A .bytes) s l) (vars-count v) (vars-present v) (optional-present w)
+header A (user s l c v) = header-of 8 0 (range (A .bytes) s l) (vars-count v) (vars-present v) false
+header A (float s l) = header-of 9 0 (range (A .bytes) s l) 0 false false
+header A (bignum low high m) = header-of 10 (magnitude low high) [] 0 m false
 
 -- "names, members in order and defaults"
 unfoldable pub vars-links : Arena → Vars → List ℕ
 vars-links A absent = []
 vars-links A (present s n) = range (A .references) s (n * 2)
 
--- a default's node
-unfoldable pub default-link : ℕ → List ℕ
-default-link zero = []
-default-link (suc d) = d ∷ []
-
--- a row's name, members in order and default
+-- a row's name or class, members in order and default: "class names are reachable like other names"
 unfoldable pub links : Arena → Row → List ℕ
 links A nil = []
 links A (bool b) = []
 links A (fixnum w) = []
 links A (symbol s l) = []
-links A (array s n) = range (A .references) s n
-links A (hash s n d) = range (A .references) s (n * 2) ++ default-link d
+links A (array s n w) = optional-node w ++ range (A .references) s n
+links A (hash s n d w) = optional-node w ++ (range (A .references) s (n * 2) ++ optional-node d)
 links A (object s n c) = c ∷ range (A .references) s (n * 2)
-links A (string s l v) = vars-links A v
+links A (string s l v w) = optional-node w ++ vars-links A v
 links A (user s l c v) = c ∷ vars-links A v
 links A (float s l) = []
 links A (bignum low high m) = []

@@ -1,4 +1,4 @@
--- The kind bytes, as the kind type's associated constants name them (01, "Value"; 02, 2.1 and 2.4).
+-- The kind bytes, as the kind type's associated constants name them (01, "Value"; 02, 2.1, 2.4 and 2.9).
 use Prim.Native.Nat.{ℕ}
 
 -- `0` `T` `F` `i`
@@ -51,6 +51,10 @@ FLOAT = 0x66
 
 abbrev pub BIGNUM : ℕ
 BIGNUM = 0x6C
+
+-- `C`
+abbrev pub USER-CLASS : ℕ
+USER-CLASS = 0x43
 
 -- a Bignum's sign bytes: `+` `-`
 abbrev pub PLUS : ℕ

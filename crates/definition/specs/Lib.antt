@@ -23,6 +23,7 @@ pub mod Calls
 pub mod Reads
 pub mod Floats
 pub mod Bignums
+pub mod Classes
 pub mod DumpForm
 pub mod Measures
 pub mod Hashes

@@ -1,4 +1,4 @@
--- What load answers and what it leaves in the tables: a reader over growing lists (01, "load"; 02, 2.1 to 2.4 and 2.6).
+-- What load answers and what it leaves in the tables: a reader over growing lists (01, "load"; 02, 2.1 to 2.4, 2.6 and 2.9).
 use Prim.Native.Nat.{ℕ, zero, suc, _+_, _-_, _*_, _/_}
 use mathlib.Core.Bool.{Bool, true, false, _&&_, _||_}
 use mathlib.Core.List.{List, [], _∷_, _++_}
@@ -8,8 +8,8 @@ use lib.ListN.{length, getD, set, replicate}
 use Rattle.definition.specs.Run.{Outcome, ok, refused, pure, refuse, _>>=_, look, pick}
 use Rattle.definition.specs.Integer.{Form, value as form-value, data-bytes, form, little, wrong-sign, integer-bytes}
 use Rattle.definition.specs.Kind.{NIL, TRUE, FALSE, FIXNUM, SYMBOL, SYMBOL-LINK, OBJECT-LINK, INSTANCE-VARIABLES}
-use Rattle.definition.specs.Kind.{ARRAY, HASH, HASH-DEFAULT, OBJECT, STRING, USER-DEFINED, FLOAT, BIGNUM, PLUS, MINUS}
-use Rattle.definition.specs.Node.{Row, nil, bool, fixnum, symbol, array, hash, object, string, user, float, absent, width, START, LENGTH, NAME, string-kind, user-kind, kind, word, flat, row-of, equal}
+use Rattle.definition.specs.Kind.{ARRAY, HASH, HASH-DEFAULT, OBJECT, STRING, USER-DEFINED, FLOAT, BIGNUM, USER-CLASS, PLUS, MINUS}
+use Rattle.definition.specs.Node.{Row, nil, bool, fixnum, symbol, array, hash, object, string, user, float, absent, width, START, LENGTH, NAME, CLASS, string-kind, user-kind, kind, word, flat, row-of, equal}
 use Rattle.definition.specs.Magnitude.{fits, sign, sign-byte, unit-bytes, bignum-row}
 use Rattle.definition.specs.Slice.{NODES, REFERENCES, BYTES, SYMBOLS, OBJECTS, LIMIT, INPUT, greatest-limit}
 use Rattle.definition.specs.Arena.{range, too-long, bad-nodes, lowest, padded, zeroed, counts-of, find-symbol, compared-among}
@@ -18,7 +18,7 @@ use Rattle.definition.specs.declared.Answer.the-variants.{Accepted, Refu
 use Rattle.definition.specs.declared.Loaded.{Loaded}
 use Rattle.definition.specs.declared.Refusal.{Refusal}
 use Rattle.definition.specs.declared.Refusal.the-variants.{BadTables, InvalidVersion, ShortInput, InvalidKind, NegativeCount, MissingSymbol, MissingObject, NotASymbol, NotAnObject}
-use Rattle.definition.specs.declared.Refusal.the-variants.{TooDeep, NoSpace, BadSign, TooBig, WrongSign}
+use Rattle.definition.specs.declared.Refusal.the-variants.{TooDeep, NoSpace, BadSign, TooBig, WrongSign, NotWrappable}
 
 -- ---- what is noted
 
@@ -129,9 +129,9 @@ read-object-link input = read-count input >>= λ i. look λ s. entry (s .objects
 
 -- ---- values
 
--- the kind bytes: `0` `T` `F` `i` `:` `;` `@` `I` `[` `{` `}` `o` `"` `u` `f` `l`
+-- the kind bytes: `0` `T` `F` `i` `:` `;` `@` `I` `[` `{` `}` `o` `"` `u` `f` `l` `C`
 pub data Head : Type 0 where
-  Nil True False Fixnum Symbol SymbolLink ObjectLink InstanceVariables Array Hash HashDefault Object String UserDefined Float Bignum Unknown : Head
+  Nil True False Fixnum Symbol SymbolLink ObjectLink InstanceVariables Array Hash HashDefault Object String UserDefined Float Bignum UserClass Unknown : Head
 
 -- a kind byte's head
 unfoldable pub head : ℕ → Head
@@ -151,7 +151,8 @@ head k =
     (pick (eqb k STRING) String
     (pick (eqb k USER-DEFINED) UserDefined
     (pick (eqb k FLOAT) Float
-    (pick (eqb k BIGNUM) Bignum Unknown)))))))))))))))
+    (pick (eqb k BIGNUM) Bignum
+    (pick (eqb k USER-CLASS) UserClass Unknown))))))))))))))))
 
 -- "Symbol-like": `:` or `;`; "Another kind is 9"
 unfoldable pub read-symbol-like : List ℕ → Room → Reader ℕ
@@ -179,18 +180,18 @@ read-instance-variables input room inner rest = counted input room 2 λ start n.
 unfoldable pub read-fixnum : List ℕ → Room → Reader ℕ
 read-fixnum input room = read-integer input >>= λ w. add-node room (fixnum w)
 
--- `[`: "a nil node is added and put on the object list; .. then the node is filled"
-unfoldable pub read-array : List ℕ → Room → Reader ℕ → Reader ℕ
-read-array input room inner = add-object-node room nil >>= λ h. counted input room 1 λ start n. read-elements inner n start >>= λ _. fill h (array start n)
+-- `[`: "a nil node is added and put on the object list; .. then the node is filled", with its class
+unfoldable pub read-array : List ℕ → Room → Reader ℕ → ℕ → Reader ℕ
+read-array input room inner class = add-object-node room nil >>= λ h. counted input room 1 λ start n. read-elements inner n start >>= λ _. fill h (array start n class)
 
 -- "a `}` default last"
-unfoldable pub read-default : Bool → Reader ℕ → ℕ → ℕ → ℕ → Reader ℕ
-read-default true inner h start n = inner >>= λ d. fill h (hash start n (d + 1))
-read-default false inner h start n = fill h (hash start n 0)
+unfoldable pub read-default : Bool → Reader ℕ → ℕ → ℕ → ℕ → ℕ → Reader ℕ
+read-default true inner class h start n = inner >>= λ d. fill h (hash start n (d + 1) class)
+read-default false inner class h start n = fill h (hash start n 0 class)
 
 -- `{` and, with a default, `}`
-unfoldable pub read-hash : Bool → List ℕ → Room → Reader ℕ → Reader ℕ
-read-hash default? input room inner = add-object-node room nil >>= λ h. counted input room 2 λ start n. read-elements inner (n * 2) start >>= λ _. read-default default? inner h start n
+unfoldable pub read-hash : Bool → List ℕ → Room → Reader ℕ → ℕ → Reader ℕ
+read-hash default? input room inner class = add-object-node room nil >>= λ h. counted input room 2 λ start n. read-elements inner (n * 2) start >>= λ _. read-default default? inner class h start n
 
 -- `o`: the count comes "after the name"
 unfoldable pub read-object : List ℕ → Room → Reader ℕ → Reader ℕ
@@ -201,8 +202,8 @@ unfoldable pub read-text : List ℕ → Room → (ℕ → ℕ → Row) → Reade
 read-text input room row = read-byte-string input >>= λ bs. add-bytes room bs >>= λ start. add-object-node room (row start (length bs))
 
 -- `"`
-unfoldable pub read-string : List ℕ → Room → Reader ℕ
-read-string input room = read-text input room λ start n. string start n absent
+unfoldable pub read-string : List ℕ → Room → ℕ → Reader ℕ
+read-string input room class = read-text input room λ start n. string start n absent class
 
 -- `u`: "symbol-like name, byte string, node, object list"
 unfoldable pub read-user-defined : List ℕ → Room → Reader ℕ
@@ -236,17 +237,29 @@ read-bignum input room = read-sign input >>= λ b. read-unit-count input >>= rea
 -- "`I` on a Float is still NOT-AN-OBJECT", and so on a Bignum
 unfoldable pub set-variables : ℕ → ℕ → ℕ → Row → Reader ℕ
 set-variables h start n r =
-    pick (eqb (kind r) string-kind || eqb (kind r) user-kind) (fill h (row-of (kind r) (word r START) (word r LENGTH) start n (word r NAME) 1)) (refuse NotAnObject)
+    pick (eqb (kind r) string-kind || eqb (kind r) user-kind) (fill h (row-of (kind r) (word r START) (word r LENGTH) start n (word r NAME) 1 (word r CLASS))) (refuse NotAnObject)
 
--- dump writes `I` directly before `"` or `u`: "an `I` on `I` or on `@`" is not dump's, and on any other kind it is refused
+-- dump writes `I` directly before `"`, `u` or `C`: "an `I` on `I` or on `@`" is not dump's, and on any other kind it is refused
 unfoldable pub takes-variables : ℕ → Bool
-takes-variables k = eqb k STRING || eqb k USER-DEFINED
+takes-variables k = eqb k STRING || eqb k USER-DEFINED || eqb k USER-CLASS
 
 -- `I`: "a value, then a count .., its reference words reserved, pairs of symbol-like name and value, then 10 unless .."
 unfoldable pub read-variables : List ℕ → Room → Reader ℕ → Reader ℕ
 read-variables input room inner =
     look λ s. note (takes-variables (getD input (s .at) 0)) >>= λ _. inner >>= λ h.
     read-instance-variables input room inner λ start n. look λ s. set-variables h start n (getD (s .nodes) h nil)
+
+-- after `C` and its name comes directly one of four kinds, which takes the class; "22 NOT-WRAPPABLE, with the byte after the name, before anything is added for it"
+unfoldable pub read-wrapped : List ℕ → Room → Reader ℕ → ℕ → ℕ → Reader ℕ
+read-wrapped input room inner k class =
+    pick (eqb k STRING) (read-string input room class)
+    (pick (eqb k ARRAY) (read-array input room inner class)
+    (pick (eqb k HASH) (read-hash false input room inner class)
+    (pick (eqb k HASH-DEFAULT) (read-hash true input room inner class) (refuse (NotWrappable k)))))
+
+-- `C`: "a symbol-like name", which is the class; "`C` takes no level and no object number"
+unfoldable pub read-user-class : List ℕ → Room → Reader ℕ → Reader ℕ
+read-user-class input room inner = read-symbol-like input room >>= λ c. read-byte input >>= λ k. read-wrapped input room inner k (suc c)
 
 -- a value after its kind byte; inner is a value one level deeper
 unfoldable pub value-of : List ℕ → Room → Reader ℕ → ℕ → Head → Reader ℕ
@@ -258,14 +271,15 @@ value-of input room inner k Symbol = read-symbol input room
 value-of input room inner k SymbolLink = read-symbol-link input
 value-of input room inner k ObjectLink = read-object-link input
 value-of input room inner k InstanceVariables = read-variables input room inner
-value-of input room inner k Array = read-array input room inner
-value-of input room inner k Hash = read-hash false input room inner
-value-of input room inner k HashDefault = read-hash true input room inner
+value-of input room inner k Array = read-array input room inner 0
+value-of input room inner k Hash = read-hash false input room inner 0
+value-of input room inner k HashDefault = read-hash true input room inner 0
 value-of input room inner k Object = read-object input room inner
-value-of input room inner k String = read-string input room
+value-of input room inner k String = read-string input room 0
 value-of input room inner k UserDefined = read-user-defined input room
 value-of input room inner k Float = read-float input room
 value-of input room inner k Bignum = read-bignum input room
+value-of input room inner k UserClass = read-user-class input room inner
 value-of input room inner k Unknown = refuse (InvalidKind k)
 
 -- "A value reads its members and each member is again a value", by the levels still allowed; "The level is tested before the kind byte"

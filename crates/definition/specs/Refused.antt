@@ -1,4 +1,4 @@
--- The number and the two details of each refusal (01, "Refused calls"; 02, 2.4 to 2.7).
+-- The number and the two details of each refusal (01, "Refused calls"; 02, 2.4 to 2.7 and 2.9).
 use Prim.Native.Nat.{ℕ, _+_, _-_}
 use mathlib.Core.Bool.{Bool, true, false}
 use lib.Dec.{ltb}
@@ -8,7 +8,7 @@ use Rattle.definition.specs.declared.Fault.{Fault}
 use Rattle.definition.specs.declared.Fault.the-variants.{Counts, Node}
 use Rattle.definition.specs.declared.Refusal.{Refusal}
 use Rattle.definition.specs.declared.Refusal.the-variants.{BadTables, BadArena, InvalidVersion, ShortInput, InvalidKind, NegativeCount, MissingSymbol, MissingObject, NotASymbol, NotAnObject}
-use Rattle.definition.specs.declared.Refusal.the-variants.{TooDeep, NoSpace, BadHandle, WrongKind, BadSign, TooBig, NotAWeight, BadMoisture, WrongSign, NotARecipe, NoPrice}
+use Rattle.definition.specs.declared.Refusal.the-variants.{TooDeep, NoSpace, BadHandle, WrongKind, BadSign, TooBig, NotAWeight, BadMoisture, WrongSign, NotARecipe, NoPrice, NotWrappable}
 use Rattle.definition.specs.declared.Answer.{Answer}
 use Rattle.definition.specs.declared.Numbers.{Numbers}
 use Rattle.definition.specs.declared.Answer.the-variants.{Accepted, Refused}
@@ -45,6 +45,7 @@ numbers BadMoisture = (18, pos 0, pos 0)
 numbers (WrongSign byte) = (19, pos byte, pos 0)
 numbers (NotARecipe handle) = (20, pos handle, pos 0)
 numbers (NoPrice handle) = (21, pos handle, pos 0)
+numbers (NotWrappable byte) = (22, pos byte, pos 0)
 
 -- an answer as its three numbers; 0 is accepted
 unfoldable pub answer-numbers : Answer → ℕ × ℤ × ℤ

@@ -60,11 +60,11 @@ pub data Result : Type 0 where
   not-loaded : ℕ × ℤ × ℤ → Result
 
 lent : L.Lists
-lent = L.lists (replicate 35 9) (replicate 5 9) (replicate 5 9) (replicate 5 9) (replicate 5 9)
+lent = L.lists (replicate (5 * N.width) 9) (replicate 5 9) (replicate 5 9) (replicate 5 9) (replicate 5 9)
 
 -- a call of dump, computed
 unfoldable pub dump-with : A.Tables → Counts → List ℕ → List ℕ → ℕ → D.DumpCall
-unfolding D.dump-call D.dump-wrong D.dump-checked D.dump-done D.dump D.write-value D.write-level D.write-row D.hash-byte D.write-default D.write-variables D.write-instance-variables D.write-name D.write-pairs D.write-elements D.write-object-or-link D.write-symbol D.byte-string-bytes D.link-or D.number-in D.number-object D.number-symbol D.write D._>>_ A.allowed A.lowest A.bad-nodes A.too-long A.sound A.fault A.fault-if A.faulty A.counts-fit A.node-right A.row-right A.number-right A.vars-right A.pairs-right A.list-right A.bytes-right A.all-names A.is-name A.all-below A.firsts A.name-of A.range A.node A.arena A.zeroed A.padded N.is-row N.equal N.rows N.row N.row-of N.vars N.words N.kind fits sign magnitude fewest-units sign-byte unit-bytes bignum-bytes integer-bytes low-bytes fewest leadingZeros pure refuse next _>>=_ look pick
+unfolding D.dump-call D.dump-wrong D.dump-checked D.dump-done D.dump D.write-value D.write-level D.write-row D.hash-byte D.write-class D.write-default D.write-variables D.write-instance-variables D.write-name D.write-pairs D.write-elements D.write-object-or-link D.write-symbol D.byte-string-bytes D.link-or D.number-in D.number-object D.number-symbol D.write D._>>_ A.allowed A.lowest A.bad-nodes A.too-long A.sound A.fault A.fault-if A.faulty A.counts-fit A.node-right A.row-right A.number-right A.class-right A.vars-right A.pairs-right A.list-right A.bytes-right A.all-names A.is-name A.all-below A.firsts A.name-of A.range A.node A.arena A.zeroed A.padded N.is-row N.equal N.rows N.row N.row-of N.optional-node N.vars N.words N.kind fits sign magnitude fewest-units sign-byte unit-bytes bignum-bytes integer-bytes low-bytes fewest leadingZeros pure refuse next _>>=_ look pick
 dump-with T c scratch output limit = D.dump-call T c scratch output limit
 
 dump-of : L.LoadCall → D.DumpCall
@@ -80,7 +80,7 @@ result c (Refused r) = not-loaded (numbers r)
 
 -- a call of load, computed
 unfoldable pub load-with : List ℕ → L.Lists → ℕ → L.LoadCall
-unfolding L.load-call L.load-if L.load-done L.load-wrong L.room-of L.load L.read-header L.read-value L.value-of L.read-variables L.set-variables L.read-bignum L.read-magnitude L.add-bignum L.read-unit-count L.read-sign L.read-float L.read-user-defined L.read-string L.read-text L.read-object L.read-hash L.read-default L.read-array L.read-fixnum L.read-instance-variables L.read-pairs L.read-elements L.counted L.read-symbol-like L.head L.read-object-link L.read-symbol-link L.entry L.read-symbol L.intern L.intern-as L.put-reference L.fill L.add-object-node L.add-object L.add-symbol L.add-bytes L.reserve L.add-node L.read-byte-string L.read-count L.read-integer L.read-form L.integer-of L.read-bytes L.read-byte L.takes-variables L.compare L.note A.compared-among A.compared-with A.bytes-compared A.find-symbol A.named A.name-of A.lowest A.bad-nodes A.too-long A.range A.zeroed A.padded N.equal N.flat N.words N.kind fits sign bignum-row fewest-units sign-byte unit-bytes form little wrong-sign integer-bytes low-bytes fewest leadingZeros pure refuse next _>>=_ look pick N.row-of N.vars
+unfolding L.load-call L.load-if L.load-done L.load-wrong L.room-of L.load L.read-header L.read-value L.value-of L.read-user-class L.read-wrapped L.read-variables L.set-variables L.read-bignum L.read-magnitude L.add-bignum L.read-unit-count L.read-sign L.read-float L.read-user-defined L.read-string L.read-text L.read-object L.read-hash L.read-default L.read-array L.read-fixnum L.read-instance-variables L.read-pairs L.read-elements L.counted L.read-symbol-like L.head L.read-object-link L.read-symbol-link L.entry L.read-symbol L.intern L.intern-as L.put-reference L.fill L.add-object-node L.add-object L.add-symbol L.add-bytes L.reserve L.add-node L.read-byte-string L.read-count L.read-integer L.read-form L.integer-of L.read-bytes L.read-byte L.takes-variables L.compare L.note A.compared-among A.compared-with A.bytes-compared A.find-symbol A.named A.name-of A.lowest A.bad-nodes A.too-long A.range A.zeroed A.padded N.equal N.flat N.words N.kind fits sign bignum-row fewest-units sign-byte unit-bytes form little wrong-sign integer-bytes low-bytes fewest leadingZeros pure refuse next _>>=_ look pick N.row-of N.vars
 load-with input T limit = L.load-call input T limit
 
 call : List ℕ → L.LoadCall
@@ -115,11 +115,11 @@ looks (n, m, input) = (answer-numbers (hashed .answer .load .answer), hashed .an
 abbrev outcomes : List (List ℕ × Result)
 outcomes =
     -- array holding itself, dumps alike
-    (0x04 ∷ 0x08 ∷ 0x5B ∷ 0x06 ∷ 0x40 ∷ 0x00 ∷ [], dumped (0 ∷ 0 ∷ 0 ∷ 0 ∷ 0 ∷ 0 ∷ 0 ∷ 4 ∷ 0 ∷ 0 ∷ 0 ∷ 1 ∷ 0 ∷ 0 ∷ []) (1 ∷ []) [] 6 (0x04 ∷ 0x08 ∷ 0x5B ∷ 0x06 ∷ 0x40 ∷ 0x00 ∷ []))
+    (0x04 ∷ 0x08 ∷ 0x5B ∷ 0x06 ∷ 0x40 ∷ 0x00 ∷ [], dumped (0 ∷ 0 ∷ 0 ∷ 0 ∷ 0 ∷ 0 ∷ 0 ∷ 0 ∷ 4 ∷ 0 ∷ 0 ∷ 0 ∷ 1 ∷ 0 ∷ 0 ∷ 0 ∷ []) (1 ∷ []) [] 6 (0x04 ∷ 0x08 ∷ 0x5B ∷ 0x06 ∷ 0x40 ∷ 0x00 ∷ []))
     -- variables given through a link
-    ∷ (0x04 ∷ 0x08 ∷ 0x5B ∷ 0x07 ∷ 0x22 ∷ 0x06 ∷ 0x61 ∷ 0x49 ∷ 0x40 ∷ 0x06 ∷ 0x00 ∷ [], dumped (0 ∷ 0 ∷ 0 ∷ 0 ∷ 0 ∷ 0 ∷ 0 ∷ 4 ∷ 0 ∷ 0 ∷ 0 ∷ 2 ∷ 0 ∷ 0 ∷ 7 ∷ 0 ∷ 1 ∷ 2 ∷ 0 ∷ 0 ∷ 1 ∷ []) (2 ∷ 2 ∷ []) (0x61 ∷ []) 11 (0x04 ∷ 0x08 ∷ 0x5B ∷ 0x07 ∷ 0x49 ∷ 0x22 ∷ 0x06 ∷ 0x61 ∷ 0x00 ∷ 0x40 ∷ 0x06 ∷ []))
+    ∷ (0x04 ∷ 0x08 ∷ 0x5B ∷ 0x07 ∷ 0x22 ∷ 0x06 ∷ 0x61 ∷ 0x49 ∷ 0x40 ∷ 0x06 ∷ 0x00 ∷ [], dumped (0 ∷ 0 ∷ 0 ∷ 0 ∷ 0 ∷ 0 ∷ 0 ∷ 0 ∷ 4 ∷ 0 ∷ 0 ∷ 0 ∷ 2 ∷ 0 ∷ 0 ∷ 0 ∷ 7 ∷ 0 ∷ 1 ∷ 2 ∷ 0 ∷ 0 ∷ 1 ∷ 0 ∷ []) (2 ∷ 2 ∷ []) (0x61 ∷ []) 11 (0x04 ∷ 0x08 ∷ 0x5B ∷ 0x07 ∷ 0x49 ∷ 0x22 ∷ 0x06 ∷ 0x61 ∷ 0x00 ∷ 0x40 ∷ 0x06 ∷ []))
     -- a name given twice
-    ∷ (0x04 ∷ 0x08 ∷ 0x5B ∷ 0x07 ∷ 0x3A ∷ 0x06 ∷ 0x61 ∷ 0x3A ∷ 0x06 ∷ 0x61 ∷ [], dumped (0 ∷ 0 ∷ 0 ∷ 0 ∷ 0 ∷ 0 ∷ 0 ∷ 4 ∷ 0 ∷ 0 ∷ 0 ∷ 2 ∷ 0 ∷ 0 ∷ 3 ∷ 0 ∷ 1 ∷ 0 ∷ 0 ∷ 0 ∷ 0 ∷ []) (2 ∷ 2 ∷ []) (0x61 ∷ []) 10 (0x04 ∷ 0x08 ∷ 0x5B ∷ 0x07 ∷ 0x3A ∷ 0x06 ∷ 0x61 ∷ 0x3B ∷ 0x00 ∷ []))
+    ∷ (0x04 ∷ 0x08 ∷ 0x5B ∷ 0x07 ∷ 0x3A ∷ 0x06 ∷ 0x61 ∷ 0x3A ∷ 0x06 ∷ 0x61 ∷ [], dumped (0 ∷ 0 ∷ 0 ∷ 0 ∷ 0 ∷ 0 ∷ 0 ∷ 0 ∷ 4 ∷ 0 ∷ 0 ∷ 0 ∷ 2 ∷ 0 ∷ 0 ∷ 0 ∷ 3 ∷ 0 ∷ 1 ∷ 0 ∷ 0 ∷ 0 ∷ 0 ∷ 0 ∷ []) (2 ∷ 2 ∷ []) (0x61 ∷ []) 10 (0x04 ∷ 0x08 ∷ 0x5B ∷ 0x07 ∷ 0x3A ∷ 0x06 ∷ 0x61 ∷ 0x3B ∷ 0x00 ∷ []))
     ∷ (0x04 ∷ 0x08 ∷ 0x40 ∷ 0x00 ∷ [], not-loaded (8, pos 0, pos 0))
     ∷ (0x04 ∷ 0x08 ∷ 0x49 ∷ 0x30 ∷ [], not-loaded (4, pos 0, pos 0))
     ∷ (0x04 ∷ 0x08 ∷ 0x49 ∷ 0x30 ∷ 0x00 ∷ [], not-loaded (10, pos 0, pos 0))

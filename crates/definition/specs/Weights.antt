@@ -95,7 +95,7 @@ result (ok w L) = weighs-as (toBits binary64 (w .dry)) (toBits binary64 (w .mois
 result (refused r) = refused-with (numbers r)
 
 weighed : Case → Result
-unfolding result W.wet-weight W.weigh-nodes W.dry-at W.double-at W.as-double W.node-reading W.row-reading W.check-moisture W.weigh W.wet read bits-of W.text-reading W.decimal W.unsigned W.decimal-if W.fraction-of W.after-digits W.digits W.is-digit W.double W.quotient W.with-sign W.whole-number B.handles-checked B.check B.check-handles B.wrong A.allowed A.lowest A.bad-nodes A.too-long A.sound A.fault A.fault-if A.faulty A.counts-fit A.node-right A.row-right A.number-right A.bytes-right A.range A.node A.arena N.is-row N.equal N.rows N.row N.row-of N.words N.flat fits magnitude signed numbers neg sub div lt ofInt pure refuse next _>>=_ look pick N.kind
+unfolding result W.wet-weight W.weigh-nodes W.dry-at W.double-at W.as-double W.node-reading W.row-reading W.check-moisture W.weigh W.wet read bits-of W.text-reading W.decimal W.unsigned W.decimal-if W.fraction-of W.after-digits W.digits W.is-digit W.double W.quotient W.with-sign W.whole-number B.handles-checked B.check B.check-handles B.wrong A.allowed A.lowest A.bad-nodes A.too-long A.sound A.fault A.fault-if A.faulty A.counts-fit A.node-right A.row-right A.number-right A.class-right A.bytes-right A.range A.node A.arena N.is-row N.equal N.rows N.row N.row-of N.optional-node N.words N.flat fits magnitude signed numbers neg sub div lt ofInt pure refuse next _>>=_ look pick N.kind
 weighed c =
     result (W.wet-weight (c .dry) (c .moisture) (B.lent (N.flat (c .rows)) [] (c .bytes) (record { nodes = length (c .rows); references = 0; bytes = length (c .bytes); root = 0 })))
 

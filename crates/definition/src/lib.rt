@@ -48,6 +48,8 @@ impl ValueKind {
     pub const FLOAT: u8 = b'f';
 
     pub const BIGNUM: u8 = b'l';
+
+    pub const USER_CLASS: u8 = b'C';
 }
 
 // A number's text in a Float: its minus, its point, its first and last digit, and the most digits that it may have.
@@ -94,7 +96,7 @@ impl Recipe {
 pub struct Node {}
 
 impl Node {
-    pub const WIDTH: usize = 7;
+    pub const WIDTH: usize = 8;
 
     // a bool or an integer; where a byte string starts, and how many bytes it has
     pub const VALUE: usize = 1;
@@ -122,6 +124,9 @@ impl Node {
     pub const DEFAULT: usize = 6;
 
     pub const VARIABLES: usize = 6;
+
+    // a class of an array, a hash or a string, its name's node + 1 or 0
+    pub const CLASS: usize = 7;
 
     // the kinds
     pub const NIL: u32 = 0;
@@ -187,7 +192,7 @@ pub enum Fault {
     Node(u32),
 }
 
-// Why a call is refused, in the order of the numbers 1 to 21 of documents 01 and 02.
+// Why a call is refused, in the order of the numbers 1 to 22 of documents 01 and 02.
 pub enum Refusal {
     BadTables(u32),
     BadArena(Fault),
@@ -211,6 +216,7 @@ pub enum Refusal {
     WrongSign(u8),
     NotARecipe(u32),
     NoPrice(u32),
+    NotWrappable(u8),
 }
 
 pub enum Answer {
@@ -291,7 +297,7 @@ pub struct Number {
     pub value: u32,
 }
 
-// get: a node's seven words.
+// get: a node's words.
 pub struct Words {
     pub answer: Answer,
     pub words: [u32; Node::WIDTH],
@@ -304,7 +310,7 @@ pub struct Name {
     pub length: u32,
 }
 
-// create_* and replace_root: the new node or the old root, and the counts as they now are.
+// create_*, replace_root and replace_class: the new node, the old root or the old class word, and the counts as they now are.
 pub struct Created {
     pub answer: Answer,
     pub handle: u32,

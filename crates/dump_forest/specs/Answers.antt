@@ -11,22 +11,22 @@ use native.Mathlib.Decide.{ℕ-discrete}
 use borrow.Author.Tests.{eq-eqb, ne-eqb}
 use Rattle.definition.specs.Run.{Outcome, ok, refused, pure, refuse, next, _>>=_, look, pick}
 use Rattle.definition.specs.Integer.{integer-bytes}
-use Rattle.definition.specs.Kind.{SYMBOL, SYMBOL-LINK, OBJECT-LINK, STRING, USER-DEFINED, FLOAT, BIGNUM}
-use Rattle.definition.specs.Node.{Row, nil, bool, fixnum, symbol, array, hash, object, string, user, bignum, absent, present}
+use Rattle.definition.specs.Kind.{SYMBOL, SYMBOL-LINK, OBJECT-LINK, STRING, USER-DEFINED, FLOAT, BIGNUM, USER-CLASS}
+use Rattle.definition.specs.Node.{Row, nil, bool, fixnum, symbol, array, hash, object, string, user, float, bignum, absent, present, optional-node, optional-present}
 use Rattle.definition.specs.Magnitude.{magnitude, bignum-bytes}
 use Rattle.definition.specs.Arena.{Arena, node, range, name-of, firsts}
 use Rattle.definition.specs.Graph.{header-of, SameGraph, header}
-use Rattle.definition.specs.Dump.{Written, Writer, _>>_, write, number-symbol, number-object, number-in, link-or, byte-string-bytes, write-symbol, write-object-or-link, write-elements, write-pairs, write-name, write-instance-variables, write-variables, write-default, hash-byte, write-row, write-level, write-value, dump}
+use Rattle.definition.specs.Dump.{Written, Writer, _>>_, write, number-symbol, number-object, number-in, link-or, byte-string-bytes, write-symbol, write-object-or-link, write-elements, write-pairs, write-name, write-instance-variables, write-variables, write-default, hash-byte, write-class, write-row, write-level, write-value, dump}
 use Rattle.definition.specs.Slice.{OUTPUT}
 use Rattle.definition.specs.declared.Refusal.{Refusal}
 use Rattle.definition.specs.declared.Refusal.the-variants.{NoSpace, TooDeep}
-use Rattle.lists.specs.Lists.{At, PW, pw-snoc}
-use Rattle.graph.specs.Forest.{Node, leaf, sym, box, Texted, text-string, text-float}
+use Rattle.lists.specs.Lists.{At, PW, pw-snoc, apart}
+use Rattle.graph.specs.Forest.{Node, leaf, sym, box}
 use Rattle.graph.specs.Describe.{Like, Key}
 use Rattle.graph.specs.Describe as Describe
-use Rattle.graph.specs.View.{see, text-row, seen, see-at, at-see}
+use Rattle.graph.specs.View.{see, seen, see-at, at-see}
 use Rattle.well_formed.specs.Nodes.{at-node, Name}
-use Rattle.well_formed.specs.Right.{Right, RowRight, Names}
+use Rattle.well_formed.specs.Right.{Right, RowRight, Names, ClassRight}
 use Rattle.dump_forest.specs.Shown.{Shown, nil-shown, false-shown, true-shown, fixnum-shown, symbol-shown, array-shown, hash-shown, default-shown, object-shown, string-shown, string-vars-shown, user-shown, user-vars-shown, float-shown, bignum-shown, shown-at, name-shown}
 use Rattle.dump_forest.specs.Same.{graph-of, same-pairing}
 
@@ -168,6 +168,15 @@ module _ (size : ℕ) (P Q : Arena) (R : ℕ → ℕ → Type 0) (π : Describe.
       subst (λ (x : List ℕ). Twin (write-symbol size c x) (write-symbol size d (name-of (Q .bytes) (node Q d)))) (psym p)
       (subst (λ (x : List ℕ). Twin (write-symbol size c b) (write-symbol size d x)) (psym q) (twin-symbol c d b (symbol-keys c d b r e f)))
 
+  -- a class and the members after it
+  twin-class : (a b : ℕ) (l m : List ℕ) → optional-present a ≡ optional-present b → ClassRight P a → PW R (optional-node a ++ l) (optional-node b ++ m)
+      → Twin (write-class size P a) (write-class size Q b) × PW R l m
+  unfolding write-class optional-present optional-node
+  twin-class zero zero l m o h p = (twin-pure, p)
+  twin-class zero (suc d) l m o h p = apart (cc)
+  twin-class (suc c) zero l m o h p = apart (cc)
+  twin-class (suc c) (suc d) l m o h p = (twin-then (twin-write (USER-CLASS ∷ [])) (twin-name c d (p .0) (h 0 c refl)), p .1)
+
   module _ (f g : ℕ → Writer) (inner : (v w : ℕ) → R v w → Twin (f v) (g w)) where
     twin-elements : (l m : List ℕ) → PW R l m → Twin (write-elements f l) (write-elements g m)
     unfolding write-elements
@@ -217,22 +226,28 @@ module _ (size : ℕ) (P Q : Arena) (R : ℕ → ℕ → Type 0) (π : Describe.
       unfolding write-row
       twin-symbol-row s l b e symbol-shown k = subst (λ (x : List ℕ). Twin (write-symbol size v x) (write-symbol size w b)) (psym e) (twin-symbol v w b k)
 
-      twin-array : (s n : ℕ) (ns : List ℕ) {q : Row} → PW R (range (P .references) s n) ns → Shown Q q (box (header-of 4 0 [] n false) ns) → Keys v w → Rows (array s n) q
+      twin-array : (s n a : ℕ) (c : Bool) (ns : List ℕ) {q : Row} → optional-present a ≡ c → ClassRight P a → PW R (optional-node a ++ range (P .references) s n) ns → Shown Q q (box (header-of 4 0 [] n false c) ns) → Keys v w → Rows (array s n a) q
       unfolding write-row
-      twin-array s n ns p array-shown k = twin-object-or-link v w k (twin-then (twin-write _) (twin-elements _ _ p))
+      twin-array s n a c ns o h p (array-shown {w = b}) k =
+          let (t, m) = twin-class a b _ _ o h p in
+          twin-object-or-link v w k (twin-then (twin-then t (twin-write _)) (twin-elements _ _ m))
 
-      twin-hash : (s n : ℕ) (ns : List ℕ) {q : Row} → PW R (range (P .references) s (n * 2) ++ []) ns → Shown Q q (box (header-of 5 0 [] n false) ns) → Keys v w → Rows (hash s n 0) q
+      twin-hash : (s n a : ℕ) (c : Bool) (ns : List ℕ) {q : Row} → optional-present a ≡ c → ClassRight P a → PW R (optional-node a ++ (range (P .references) s (n * 2) ++ [])) ns → Shown Q q (box (header-of 5 0 [] n false c) ns)
+          → Keys v w → Rows (hash s n 0 a) q
       unfolding write-row hash-byte write-default
-      twin-hash s n ns p (hash-shown {s = s′}) k =
-          twin-object-or-link v w k (twin-then (twin-then (twin-write _) (twin-elements _ _ (rw (append-nil (range (P .references) s (n * 2)), append-nil (range (Q .references) s′ (n * 2))) at p))) twin-pure)
+      twin-hash s n a c ns o h p (hash-shown {s = s′} {w = b}) k =
+          let (t, m) = twin-class a b _ _ o h p in
+          twin-object-or-link v w k (twin-then (twin-then (twin-then t (twin-write _)) (twin-elements _ _ (rw (append-nil (range (P .references) s (n * 2)), append-nil (range (Q .references) s′ (n * 2))) at m))) twin-pure)
 
-      twin-default : (s n d : ℕ) (ns : List ℕ) {q : Row} → PW R (range (P .references) s (n * 2) ++ (d ∷ [])) ns → Shown Q q (box (header-of 5 0 [] n true) ns) → Keys v w → Rows (hash s n (suc d)) q
+      twin-default : (s n d a : ℕ) (c : Bool) (ns : List ℕ) {q : Row} → optional-present a ≡ c → ClassRight P a → PW R (optional-node a ++ (range (P .references) s (n * 2) ++ (d ∷ []))) ns → Shown Q q (box (header-of 5 0 [] n true c) ns)
+          → Keys v w → Rows (hash s n (suc d) a) q
       unfolding write-row hash-byte write-default
-      twin-default s n d ns p (default-shown {s = s′} {d = d′}) k =
-          let (x, y) = pw-snoc-inv R (range (P .references) s (n * 2)) (range (Q .references) s′ (n * 2)) d d′ p in
-          twin-object-or-link v w k (twin-then (twin-then (twin-write _) (twin-elements _ _ x)) (inner d d′ y))
+      twin-default s n d a c ns o h p (default-shown {s = s′} {d = d′} {w = b}) k =
+          let (t, m) = twin-class a b _ _ o h p in
+          let (x, y) = pw-snoc-inv R (range (P .references) s (n * 2)) (range (Q .references) s′ (n * 2)) d d′ m in
+          twin-object-or-link v w k (twin-then (twin-then (twin-then t (twin-write _)) (twin-elements _ _ x)) (inner d d′ y))
 
-      twin-object : (s n c : ℕ) (ns : List ℕ) {q : Row} → PW R (c ∷ range (P .references) s (n * 2)) ns → Shown Q q (box (header-of 6 0 [] n false) ns)
+      twin-object : (s n c : ℕ) (ns : List ℕ) {q : Row} → PW R (c ∷ range (P .references) s (n * 2)) ns → Shown Q q (box (header-of 6 0 [] n false false) ns)
           → Name P c → Names P (range (P .references) s (n * 2)) → Keys v w → Rows (object s n c) q
       unfolding write-row
       twin-object s n c ns p (object-shown {s = s′} {c = c′}) a h k =
@@ -251,34 +266,39 @@ module _ (size : ℕ) (P Q : Arena) (R : ℕ → ℕ → Type 0) (π : Describe.
       unfolding write-variables
       twin-variables n s s′ x p h = twin-then (twin-then (twin-then (twin-write _) test) x) (twin-instance-variables n s s′ p h)
 
-      twin-text : {k i : ℕ} (t : Texted k i) (s l : ℕ) (b ns : List ℕ) {q : Row} → range (P .bytes) s l ≡ b → Shown Q q (box (header-of i 0 b 0 false) ns) → Keys v w → Rows (text-row t s l) q
+      twin-string : (s l a : ℕ) (c : Bool) (b ns : List ℕ) {q : Row} → optional-present a ≡ c → ClassRight P a → range (P .bytes) s l ≡ b → PW R (optional-node a ++ []) ns → Shown Q q (box (header-of 7 0 b 0 false c) ns)
+          → Keys v w → Rows (string s l absent a) q
       unfolding write-row write-variables
-      twin-text text-string s l b ns e string-shown k = twin-object-or-link v w k (twin-byte-string STRING e)
-      twin-text text-float s l b ns e float-shown k = twin-object-or-link v w k (twin-byte-string FLOAT e)
+      twin-string s l a c b ns o h e p (string-shown {w = a′}) k = twin-object-or-link v w k (twin-then (twin-class a a′ [] [] o h p .0) (twin-byte-string STRING e))
+
+      twin-float : (s l : ℕ) (b ns : List ℕ) {q : Row} → range (P .bytes) s l ≡ b → Shown Q q (box (header-of 9 0 b 0 false false) ns) → Keys v w → Rows (float s l) q
+      unfolding write-row
+      twin-float s l b ns e float-shown k = twin-object-or-link v w k (twin-byte-string FLOAT e)
 
       -- the same magnitude, whatever its words
-      twin-bignum : (low high n : ℕ) (m : Bool) (ns : List ℕ) {q : Row} → magnitude low high ≡ n → Shown Q q (box (header-of 10 n [] 0 m) ns) → Keys v w → Rows (bignum low high m) q
+      twin-bignum : (low high n : ℕ) (m : Bool) (ns : List ℕ) {q : Row} → magnitude low high ≡ n → Shown Q q (box (header-of 10 n [] 0 m false) ns) → Keys v w → Rows (bignum low high m) q
       unfolding write-row
       twin-bignum low high n m ns e bignum-shown k = twin-object-or-link v w k (twin-bytes _ _ (ap (λ (x : ℕ). BIGNUM ∷ bignum-bytes m x) e))
 
-      twin-string-vars : (s l p n : ℕ) (b ns : List ℕ) {q : Row} → range (P .bytes) s l ≡ b → PW R (range (P .references) p (n * 2)) ns → Shown Q q (box (header-of 7 0 b n true) ns)
-          → Names P (range (P .references) p (n * 2)) → Keys v w → Rows (string s l (present p n)) q
+      twin-string-vars : (s l p n a : ℕ) (c : Bool) (b ns : List ℕ) {q : Row} → optional-present a ≡ c → ClassRight P a → range (P .bytes) s l ≡ b → PW R (optional-node a ++ range (P .references) p (n * 2)) ns
+          → Shown Q q (box (header-of 7 0 b n true c) ns) → Names P (range (P .references) p (n * 2)) → Keys v w → Rows (string s l (present p n) a) q
       unfolding write-row
-      twin-string-vars s l p n b ns e x (string-vars-shown {p = p′}) h k =
-          twin-object-or-link v w k (twin-variables n p p′ (twin-byte-string STRING e) x h)
+      twin-string-vars s l p n a c b ns o r e x (string-vars-shown {p = p′} {w = a′}) h k =
+          let (t, m) = twin-class a a′ _ _ o r x in
+          twin-object-or-link v w k (twin-variables n p p′ (twin-then t (twin-byte-string STRING e)) m h)
 
-      twin-class : (c c′ : ℕ) (b b′ : List ℕ) → R c c′ → Name P c → b ≡ b′
+      twin-user-head : (c c′ : ℕ) (b b′ : List ℕ) → R c c′ → Name P c → b ≡ b′
           → Twin (write size (USER-DEFINED ∷ []) >> write-name size P c >> write size (byte-string-bytes b)) (write size (USER-DEFINED ∷ []) >> write-name size Q c′ >> write size (byte-string-bytes b′))
-      twin-class c c′ b b′ r a e = twin-then (twin-then (twin-write _) (twin-name c c′ r a)) (twin-bytes _ _ (ap byte-string-bytes e))
+      twin-user-head c c′ b b′ r a e = twin-then (twin-then (twin-write _) (twin-name c c′ r a)) (twin-bytes _ _ (ap byte-string-bytes e))
 
-      twin-user : (s l c : ℕ) (b ns : List ℕ) {q : Row} → range (P .bytes) s l ≡ b → PW R (c ∷ []) ns → Shown Q q (box (header-of 8 0 b 0 false) ns) → Name P c → Keys v w → Rows (user s l c absent) q
+      twin-user : (s l c : ℕ) (b ns : List ℕ) {q : Row} → range (P .bytes) s l ≡ b → PW R (c ∷ []) ns → Shown Q q (box (header-of 8 0 b 0 false false) ns) → Name P c → Keys v w → Rows (user s l c absent) q
       unfolding write-row write-variables
-      twin-user s l c b ns e x (user-shown {c = c′}) a k = twin-object-or-link v w k (twin-class c c′ _ _ (x .0) a e)
+      twin-user s l c b ns e x (user-shown {c = c′}) a k = twin-object-or-link v w k (twin-user-head c c′ _ _ (x .0) a e)
 
-      twin-user-vars : (s l c p n : ℕ) (b ns : List ℕ) {q : Row} → range (P .bytes) s l ≡ b → PW R (c ∷ range (P .references) p (n * 2)) ns → Shown Q q (box (header-of 8 0 b n true) ns)
+      twin-user-vars : (s l c p n : ℕ) (b ns : List ℕ) {q : Row} → range (P .bytes) s l ≡ b → PW R (c ∷ range (P .references) p (n * 2)) ns → Shown Q q (box (header-of 8 0 b n true false) ns)
           → Name P c → Names P (range (P .references) p (n * 2)) → Keys v w → Rows (user s l c (present p n)) q
       unfolding write-row
-      twin-user-vars s l c p n b ns e x (user-vars-shown {c = c′} {p = p′}) a h k = twin-object-or-link v w k (twin-variables n p p′ (twin-class c c′ _ _ (x .0) a e) (x .1) h)
+      twin-user-vars s l c p n b ns e x (user-vars-shown {c = c′} {p = p′}) a h k = twin-object-or-link v w k (twin-variables n p p′ (twin-user-head c c′ _ _ (x .0) a e) (x .1) h)
 
       box-keys : (h : _) (ms ns : List ℕ) → R v w → At (seen P) v (box h ms) → At (seen Q) w (box h ns) → Keys v w
       box-keys h ms ns r e e′ = record { paired = r; left-node = box h ms; right-node = box h ns; left-at = e; right-at = e′; left-key = tt; right-key = tt }
@@ -289,15 +309,15 @@ module _ (size : ℕ) (P Q : Arena) (R : ℕ → ℕ → Type 0) (π : Describe.
       twin-row {q = q} true-shown b k h r x y = twin-true (subst (Shown Q q) k b)
       twin-row {q = q} (fixnum-shown {w = z}) b k h r x y = twin-fixnum z (subst (Shown Q q) k b)
       twin-row {q = q} (symbol-shown {s = s} {l = l}) b k h r x y = twin-symbol-row s l _ refl (subst (Shown Q q) k b) (symbol-keys v w _ r x (y ∙ ap some k))
-      twin-row {q = q} (array-shown {s = s} {n = n}) b (ns, e, p) h r x y = twin-array s n ns p (subst (Shown Q q) e b) (box-keys _ _ ns r x (y ∙ ap some e))
-      twin-row {q = q} (hash-shown {s = s} {n = n}) b (ns, e, p) h r x y = twin-hash s n ns p (subst (Shown Q q) e b) (box-keys _ _ ns r x (y ∙ ap some e))
-      twin-row {q = q} (default-shown {s = s} {n = n} {d = d}) b (ns, e, p) h r x y = twin-default s n d ns p (subst (Shown Q q) e b) (box-keys _ _ ns r x (y ∙ ap some e))
+      twin-row {q = q} (array-shown {s = s} {n = n} {w = a}) b (ns, e, p) h r x y = twin-array s n a _ ns refl (h .1) p (subst (Shown Q q) e b) (box-keys _ _ ns r x (y ∙ ap some e))
+      twin-row {q = q} (hash-shown {s = s} {n = n} {w = a}) b (ns, e, p) h r x y = twin-hash s n a _ ns refl (h .2) p (subst (Shown Q q) e b) (box-keys _ _ ns r x (y ∙ ap some e))
+      twin-row {q = q} (default-shown {s = s} {n = n} {d = d} {w = a}) b (ns, e, p) h r x y = twin-default s n d a _ ns refl (h .2) p (subst (Shown Q q) e b) (box-keys _ _ ns r x (y ∙ ap some e))
       twin-row {q = q} (object-shown {s = s} {n = n} {c = c}) b (ns, e, p) h r x y = twin-object s n c ns p (subst (Shown Q q) e b) (h .0) (h .1 .names) (box-keys _ _ ns r x (y ∙ ap some e))
-      twin-row {q = q} (string-shown {s = s} {l = l}) b (ns, e, p) h r x y = twin-text text-string s l _ ns refl (subst (Shown Q q) e b) (box-keys _ _ ns r x (y ∙ ap some e))
-      twin-row {q = q} (string-vars-shown {s = s} {l = l} {p = p₀} {n = n}) b (ns, e, p) h r x y = twin-string-vars s l p₀ n _ ns refl p (subst (Shown Q q) e b) (h .1 .names) (box-keys _ _ ns r x (y ∙ ap some e))
+      twin-row {q = q} (string-shown {s = s} {l = l} {w = a}) b (ns, e, p) h r x y = twin-string s l a _ _ ns refl (h .2) refl p (subst (Shown Q q) e b) (box-keys _ _ ns r x (y ∙ ap some e))
+      twin-row {q = q} (string-vars-shown {s = s} {l = l} {p = p₀} {n = n} {w = a}) b (ns, e, p) h r x y = twin-string-vars s l p₀ n a _ _ ns refl (h .2) refl p (subst (Shown Q q) e b) (h .1 .names) (box-keys _ _ ns r x (y ∙ ap some e))
       twin-row {q = q} (user-shown {s = s} {l = l} {c = c}) b (ns, e, p) h r x y = twin-user s l c _ ns refl p (subst (Shown Q q) e b) (h .1) (box-keys _ _ ns r x (y ∙ ap some e))
       twin-row {q = q} (user-vars-shown {s = s} {l = l} {c = c} {p = p₀} {n = n}) b (ns, e, p) h r x y = twin-user-vars s l c p₀ n _ ns refl p (subst (Shown Q q) e b) (h .1) (h .2 .names) (box-keys _ _ ns r x (y ∙ ap some e))
-      twin-row {q = q} (float-shown {s = s} {l = l}) b (ns, e, p) h r x y = twin-text text-float s l _ ns refl (subst (Shown Q q) e b) (box-keys _ _ ns r x (y ∙ ap some e))
+      twin-row {q = q} (float-shown {s = s} {l = l}) b (ns, e, p) h r x y = twin-float s l _ ns refl (subst (Shown Q q) e b) (box-keys _ _ ns r x (y ∙ ap some e))
       twin-row {q = q} (bignum-shown {low = low} {high = high} {m = m}) b (ns, e, p) h r x y = twin-bignum low high _ m ns refl (subst (Shown Q q) e b) (box-keys _ _ ns r x (y ∙ ap some e))
 
   -- ---- values

@@ -9,14 +9,14 @@ use native.Mathlib.Omega.{arith}
 use native.Mathlib.Decide.{decLe}
 use Rattle.definition.specs.Run.{ok, pure, look}
 use Rattle.definition.specs.Integer.{integer-bytes}
-use Rattle.definition.specs.Kind.{NIL, TRUE, FALSE, FIXNUM, SYMBOL, SYMBOL-LINK, OBJECT-LINK, INSTANCE-VARIABLES, ARRAY, HASH, HASH-DEFAULT, OBJECT, STRING, USER-DEFINED, BIGNUM}
-use Rattle.definition.specs.Node.{Row, present}
+use Rattle.definition.specs.Kind.{NIL, TRUE, FALSE, FIXNUM, SYMBOL, SYMBOL-LINK, OBJECT-LINK, INSTANCE-VARIABLES, ARRAY, HASH, HASH-DEFAULT, OBJECT, STRING, USER-DEFINED, BIGNUM, USER-CLASS}
+use Rattle.definition.specs.Node.{Row, hash, present, optional-node, optional-present}
 use Rattle.definition.specs.Magnitude.{bignum-bytes}
 use Rattle.definition.specs.Arena.{Arena, node, range, name-of}
-use Rattle.definition.specs.Graph.{Header, header-of, default-link}
-use Rattle.definition.specs.Dump.{Writer, _>>_, write, number-symbol, number-object, link-or, byte-string-bytes, write-symbol, write-object-or-link, write-elements, write-pairs, write-name, write-instance-variables, write-variables, write-default, hash-byte, write-row, write-level, write-value, dump}
+use Rattle.definition.specs.Graph.{Header, header-of}
+use Rattle.definition.specs.Dump.{Writer, _>>_, write, number-symbol, number-object, link-or, byte-string-bytes, write-symbol, write-object-or-link, write-elements, write-pairs, write-name, write-instance-variables, write-variables, write-default, hash-byte, write-class, write-row, write-level, write-value, dump}
 use Rattle.lists.specs.Lists.{At, NotIn, Distinct, distinct-snoc}
-use Rattle.graph.specs.Forest.{leaf, sym, box, Num, addO, addS, fresh, F, Mode, values, pairs, value-pairs, name, name-pairs, after, IsValue, Text, tEnd, tEndPairs, tName, tNameLink, tOneName, tOneLink, tClass, tClassLink, tNil, tFalse, tTrue, tFixnum, tSymbol, tSymbolLink, tObjectLink, tArray, tHash, tHashDefault, tObject, Texted, text-string, text-float, tText, tBignum, tStringVars, tUser, tUserVars}
+use Rattle.graph.specs.Forest.{leaf, sym, box, Num, addO, addS, fresh, F, OneName, one-new, one-link, Class, no-class, a-class, Mode, values, pairs, value-pairs, name-pairs, after, IsValue, Text, tEnd, tEndPairs, tName, tNameLink, tClass, tClassLink, tNil, tFalse, tTrue, tFixnum, tSymbol, tSymbolLink, tObjectLink, tArray, tHash, tHashDefault, tObject, Texted, text-string, text-float, tText, tBignum, tStringVars, tUser, tUserVars}
 use Rattle.graph.specs.Describe.{Dist, no-dist, E, eEnd, eLeaf, eBox, eRef, eSym, eSymref, e-dist}
 use Rattle.graph.specs.View.{seen}
 use Rattle.dump_forest.specs.Writers.{written, un-then, then-ok, write-ok, at-number, notin-number, part-default}
@@ -94,8 +94,6 @@ run size A values inner vs = write-elements inner vs
 run size A (pairs n) inner vs = write-pairs (write-name size A) inner vs
 run size A (value-pairs n) inner [] = pure tt
 run size A (value-pairs n) inner (v ∷ vs) = inner v >> write-pairs (write-name size A) inner vs
-run size A name inner [] = pure tt
-run size A name inner (c ∷ vs) = write-name size A c
 run size A (name-pairs n) inner [] = pure tt
 run size A (name-pairs n) inner (c ∷ vs) = write-name size A c >> (write size (integer-bytes n) >> write-pairs (write-name size A) inner vs)
 
@@ -113,6 +111,38 @@ module _ (size : ℕ) (A : Arena) where
   unfolding write-name
   name-again σ c k d a = symbol-again size σ c k (name-of (A .bytes) (node A c)) d a
 
+  -- a name, numbered among the symbols only
+  data NameWrites (z : List ℕ) (σ : Num) : List ℕ → Num → Type 0 where
+    name-writes : {c : ℕ} {y : List ℕ} → ((o : List ℕ) → Writes size (write-name size A c) (record { objs = o; syms = σ .syms }) z (record { objs = o; syms = y }))
+        → NameWrites z σ (c ∷ []) (record { objs = σ .objs; syms = y })
+
+  one-name : {p : F} {z us : List ℕ} {σ σ₁ : Num} → OneName p z → E (seen A) p us σ σ₁ → Dist σ → NameWrites z σ us σ₁
+  one-name {σ = σ} (one-new {b = b}) (eSym {v = c} a n eEnd) h = name-writes (λ o. new-name (record { objs = o; syms = σ .syms }) c b a n)
+  one-name {σ = σ} (one-link {k = k}) (eSymref {v = c} a n eEnd) h = name-writes (λ o. name-again (record { objs = o; syms = σ .syms }) c k (h .dsy) n)
+
+  -- a class or none, as a forest says it of the members us
+  data ClassWrites (σ : Num) : Bool → List ℕ → List ℕ → Num → Type 0 where
+    none-writes : ClassWrites σ false [] [] σ
+    class-writes : {z us : List ℕ} {σ₁ : Num} → NameWrites z σ us σ₁ → ClassWrites σ true (USER-CLASS ∷ z) us σ₁
+
+  one-class : {c : Bool} {p : F} {z us : List ℕ} {σ σ₁ : Num} → Class c p z → E (seen A) p us σ σ₁ → Dist σ → ClassWrites σ c z us σ₁
+  one-class no-class eEnd h = none-writes
+  one-class (a-class n) d h = class-writes (one-name n d h)
+
+  -- it is the class w of a row whose members are w and then l; objects are not touched, so a node is numbered before it as well as after it
+  record Classed (w : ℕ) (l ms z : List ℕ) (σ σ₁ : Num) : Type 0 where
+    rest : l ≡ ms
+    new : (v : ℕ) → NotIn v (σ₁ .objs) → NotIn v (σ .objs)
+    writes : (v : ℕ) (b : List ℕ) → Writes size (write-class size A w >> write size b) (addO v σ) (z ++ b) (addO v σ₁)
+
+  classed : (w : ℕ) {l us ms z : List ℕ} {σ σ₁ : Num} → ClassWrites σ (optional-present w) z us σ₁ → optional-node w ++ l ≡ us ++ ms → Classed w l ms z σ σ₁
+  unfolding optional-present optional-node write-class
+  classed zero none-writes e = record { rest = e; new = λ v n. n; writes = λ v b. then-writes size (nothing size _) (bytes-writes size _ b) }
+  classed (suc d) {l} {us} {ms} {z} {σ} {σ₁} (class-writes (name-writes {c = c} w)) e =
+      let q : d ≡ c = cc in
+      let r : l ≡ ms = cc in
+      record { rest = r; new = λ v n. n; writes = λ v b. rw q (then-writes size (then-writes size (bytes-writes size _ (USER-CLASS ∷ [])) (w (σ .objs ++ (v ∷ [])))) (bytes-writes size _ b)) }
+
   module _ (inner : ℕ → Writer) where
     -- ---- modes
 
@@ -122,7 +152,6 @@ module _ (size : ℕ) (A : Arena) where
     run-value values v vs i p q = then-writes size p q
     run-value (pairs n) v vs i p q = absurd i
     run-value (value-pairs n) v vs i p q = then-writes size p q
-    run-value name v vs i p q = absurd i
     run-value (name-pairs n) v vs i p q = absurd i
 
     run-name : (n c : ℕ) (vs : List ℕ) (σ σ₁ σ′ : Num) (x y : List ℕ) → Writes size (write-name size A c) σ x σ₁ → Writes size (run size A (value-pairs n) inner vs) σ₁ y σ′
@@ -185,14 +214,20 @@ module _ (size : ℕ) (A : Arena) where
       put-object-link float-shown k d a = object-again size σ v k _ d a
       put-object-link bignum-shown k d a = object-again size σ v k _ d a
 
-      put-array : {r : Row} {n : ℕ} {ms : List ℕ} → Shown A r (box (header-of 4 0 [] n false) ms) → (y : List ℕ) (σ₂ : Num) → NotIn v (σ .objs)
-          → Writes size (write-elements inner ms) (addO v σ) y σ₂ → Row-writes r (ARRAY ∷ integer-bytes n ++ y) σ₂
+      -- a class or none, the bytes b, and the rest
+      after-class : {w : ℕ} {l ms z : List ℕ} {σ₁ σ₂ : Num} {rest : Writer} (b y : List ℕ) → Classed w l ms z σ σ₁ → Writes size rest (addO v σ₁) y σ₂
+          → Writes size (write-class size A w >> write size b >> rest) (addO v σ) (z ++ (b ++ y)) σ₂
+      after-class {z = z} b y d x = writes-as size (z ++ b ++ y) (z ++ (b ++ y)) (append-assoc z b y) (then-writes size (d .writes v b) x)
+
+      put-array : (ms : List ℕ) {r : Row} {n : ℕ} {c : Bool} {l us z : List ℕ} {σ₁ : Num} → Shown A r (box (header-of 4 0 [] n false c) l) → ClassWrites σ c z us σ₁ → l ≡ us ++ ms → (y : List ℕ) (σ₂ : Num) → NotIn v (σ₁ .objs)
+          → Writes size (write-elements inner ms) (addO v σ₁) y σ₂ → Row-writes r (z ++ (ARRAY ∷ integer-bytes n ++ y)) σ₂
       unfolding write-row
-      put-array {n = n} array-shown y σ₂ ni w =
-          object-new size ni (then-writes size (bytes-writes size (addO v σ) (ARRAY ∷ integer-bytes n)) w)
+      put-array ms {n = n} (array-shown {w = w}) c e y σ₂ ni x =
+          let d = classed w c e in
+          object-new size (d .new v ni) (after-class (ARRAY ∷ integer-bytes n) y d (rw (d .rest) x))
 
       -- a default is the last member
-      with-default : (l : List ℕ) (d : ℕ) (y : List ℕ) (τ σ₂ : Num) → Writes size (write-elements inner (l ++ default-link d)) τ y σ₂
+      with-default : (l : List ℕ) (d : ℕ) (y : List ℕ) (τ σ₂ : Num) → Writes size (write-elements inner (l ++ optional-node d)) τ y σ₂
           → Writes size (write-elements inner l >> write-default size A inner d) τ y σ₂
       with-default l d y τ σ₂ w = record {
         after-any = λ b h.
@@ -201,29 +236,36 @@ module _ (size : ℕ) (A : Arena) where
             then-ok (write-elements inner l) (write-default size A inner d) (written b τ) s₁ s′ e₁ e₂;
       }
 
-      put-hash : {r : Row} {n : ℕ} {ms : List ℕ} → Shown A r (box (header-of 5 0 [] n false) ms) → (y : List ℕ) (σ₂ : Num) → NotIn v (σ .objs)
-          → Writes size (write-elements inner ms) (addO v σ) y σ₂ → Row-writes r (HASH ∷ integer-bytes n ++ y) σ₂
-      unfolding write-row hash-byte default-link
-      put-hash {n = n} (hash-shown {s = s}) y σ₂ ni w =
-          object-new size ni (group-left size _ _ _ (then-writes size (bytes-writes size (addO v σ) (HASH ∷ integer-bytes n)) (with-default (range (A .references) s (n * 2)) 0 y (addO v σ) σ₂ w)))
+      put-hashed : (ms : List ℕ) (w s n d : ℕ) {us z : List ℕ} {σ₁ : Num} → ClassWrites σ (optional-present w) z us σ₁ → optional-node w ++ (range (A .references) s (n * 2) ++ optional-node d) ≡ us ++ ms → (y : List ℕ) (σ₂ : Num) → NotIn v (σ₁ .objs)
+          → Writes size (write-elements inner ms) (addO v σ₁) y σ₂ → Row-writes (hash s n d w) (z ++ (hash-byte size A d ∷ integer-bytes n ++ y)) σ₂
+      unfolding write-row
+      put-hashed ms w s n d {σ₁ = σ₁} c e y σ₂ ni x =
+          let k = classed w c e in
+          object-new size (k .new v ni)
+          (group-left size _ _ _ (after-class (hash-byte size A d ∷ integer-bytes n) y k (with-default (range (A .references) s (n * 2)) d y (addO v σ₁) σ₂ (rw (k .rest) x))))
 
-      put-default : {r : Row} {n : ℕ} {ms : List ℕ} → Shown A r (box (header-of 5 0 [] n true) ms) → (y : List ℕ) (σ₂ : Num) → NotIn v (σ .objs)
-          → Writes size (write-elements inner ms) (addO v σ) y σ₂ → Row-writes r (HASH-DEFAULT ∷ integer-bytes n ++ y) σ₂
-      unfolding write-row hash-byte default-link
-      put-default {n = n} (default-shown {s = s} {d = d}) y σ₂ ni w =
-          object-new size ni (group-left size _ _ _ (then-writes size (bytes-writes size (addO v σ) (HASH-DEFAULT ∷ integer-bytes n)) (with-default (range (A .references) s (n * 2)) (suc d) y (addO v σ) σ₂ w)))
+      put-hash : (ms : List ℕ) {r : Row} {n : ℕ} {c : Bool} {l us z : List ℕ} {σ₁ : Num} → Shown A r (box (header-of 5 0 [] n false c) l) → ClassWrites σ c z us σ₁ → l ≡ us ++ ms → (y : List ℕ) (σ₂ : Num) → NotIn v (σ₁ .objs)
+          → Writes size (write-elements inner ms) (addO v σ₁) y σ₂ → Row-writes r (z ++ (HASH ∷ integer-bytes n ++ y)) σ₂
+      unfolding write-row hash-byte optional-node
+      put-hash ms {n = n} (hash-shown {s = s} {w = w}) c e y σ₂ ni x = put-hashed ms w s n 0 c e y σ₂ ni x
 
-      put-object : {r : Row} {n : ℕ} {ms : List ℕ} → Shown A r (box (header-of 6 0 [] n false) ms) → (y : List ℕ) (σ₂ : Num) → NotIn v (σ .objs)
+      put-default : (ms : List ℕ) {r : Row} {n : ℕ} {c : Bool} {l us z : List ℕ} {σ₁ : Num} → Shown A r (box (header-of 5 0 [] n true c) l) → ClassWrites σ c z us σ₁ → l ≡ us ++ ms → (y : List ℕ) (σ₂ : Num) → NotIn v (σ₁ .objs)
+          → Writes size (write-elements inner ms) (addO v σ₁) y σ₂ → Row-writes r (z ++ (HASH-DEFAULT ∷ integer-bytes n ++ y)) σ₂
+      unfolding write-row hash-byte optional-node
+      put-default ms {n = n} (default-shown {s = s} {d = d} {w = w}) c e y σ₂ ni x = put-hashed ms w s n (suc d) c e y σ₂ ni x
+
+      put-object : {r : Row} {n : ℕ} {ms : List ℕ} → Shown A r (box (header-of 6 0 [] n false false) ms) → (y : List ℕ) (σ₂ : Num) → NotIn v (σ .objs)
           → Writes size (run size A (name-pairs n) inner ms) (addO v σ) y σ₂ → Row-writes r (OBJECT ∷ y) σ₂
       unfolding write-row write-instance-variables
       put-object object-shown y σ₂ ni w = object-new size ni (group-left size _ _ _ (then-writes size (bytes-writes size (addO v σ) (OBJECT ∷ [])) w))
 
-      put-text : {k n : ℕ} (q : Texted k n) {r : Row} {b ms : List ℕ} → Shown A r (box (header-of n 0 b 0 false) ms) → NotIn v (σ .objs) → Row-writes r (k ∷ byte-string-bytes b) (addO v σ)
+      put-text : {k n : ℕ} {c : Bool} (q : Texted k n c) {r : Row} {b l us z : List ℕ} {σ₁ : Num} → Shown A r (box (header-of n 0 b 0 false c) l) → ClassWrites σ c z us σ₁ → l ≡ us ++ [] → NotIn v (σ₁ .objs)
+          → Row-writes r (z ++ (k ∷ byte-string-bytes b)) (addO v σ₁)
       unfolding write-row write-variables
-      put-text text-string string-shown ni = object-new size ni (bytes-writes size (addO v σ) _)
-      put-text text-float float-shown ni = object-new size ni (bytes-writes size (addO v σ) _)
+      put-text text-string (string-shown {w = w}) c e ni = let d = classed w c e in object-new size (d .new v ni) (d .writes v _)
+      put-text text-float float-shown none-writes e ni = object-new size ni (bytes-writes size (addO v σ) _)
 
-      put-bignum : {r : Row} {n : ℕ} {minus : Bool} {ms : List ℕ} → Shown A r (box (header-of 10 n [] 0 minus) ms) → NotIn v (σ .objs) → Row-writes r (BIGNUM ∷ bignum-bytes minus n) (addO v σ)
+      put-bignum : {r : Row} {n : ℕ} {minus : Bool} {ms : List ℕ} → Shown A r (box (header-of 10 n [] 0 minus false) ms) → NotIn v (σ .objs) → Row-writes r (BIGNUM ∷ bignum-bytes minus n) (addO v σ)
       unfolding write-row
       put-bignum bignum-shown ni = object-new size ni (bytes-writes size (addO v σ) _)
 
@@ -237,38 +279,34 @@ module _ (size : ℕ) (A : Arena) where
           (then-writes size (then-writes size (then-writes size (bytes-writes size τ (INSTANCE-VARIABLES ∷ [])) w₀) w)
           (then-writes size (bytes-writes size τ₁ (integer-bytes n)) w₁))
 
-      put-string-vars : {r : Row} {b ms : List ℕ} {n : ℕ} → Shown A r (box (header-of 7 0 b n true) ms) → (y : List ℕ) (σ₂ : Num) → NotIn v (σ .objs) → Writes size level (addO v σ) [] (addO v σ)
-          → Writes size (write-pairs (write-name size A) inner ms) (addO v σ) y σ₂ → Row-writes r (INSTANCE-VARIABLES ∷ STRING ∷ byte-string-bytes b ++ integer-bytes n ++ y) σ₂
+      put-string-vars : (ms : List ℕ) {r : Row} {b l us z : List ℕ} {n : ℕ} {c : Bool} {σ₁ : Num} → Shown A r (box (header-of 7 0 b n true c) l) → ClassWrites σ c z us σ₁ → l ≡ us ++ ms → (y : List ℕ) (σ₂ : Num) → NotIn v (σ₁ .objs)
+          → Writes size level (addO v σ) [] (addO v σ) → Writes size (write-pairs (write-name size A) inner ms) (addO v σ₁) y σ₂
+          → Row-writes r (INSTANCE-VARIABLES ∷ z ++ (STRING ∷ byte-string-bytes b ++ integer-bytes n ++ y)) σ₂
       unfolding write-row
-      put-string-vars {b = b} {n = n} (string-vars-shown {p = p}) y σ₂ ni w₀ w =
-          object-new size ni (put-variables (write size (STRING ∷ byte-string-bytes b)) p n (addO v σ) (addO v σ) σ₂ (STRING ∷ byte-string-bytes b) y w₀ (bytes-writes size (addO v σ) (STRING ∷ byte-string-bytes b)) w)
-
-  -- the name of a user-defined node, numbered among the symbols only
-  data NameWrites (z : List ℕ) (σ : Num) : List ℕ → Num → Type 0 where
-    name-writes : {c : ℕ} {y : List ℕ} → ((o : List ℕ) → Writes size (write-name size A c) (record { objs = o; syms = σ .syms }) z (record { objs = o; syms = y }))
-        → NameWrites z σ (c ∷ []) (record { objs = σ .objs; syms = y })
-
-  one-name : {l : ℕ} {p : F} {z us : List ℕ} {σ σ₁ : Num} → Text name l p z → E (seen A) p us σ σ₁ → Dist σ → NameWrites z σ us σ₁
-  one-name {σ = σ} (tOneName {b = b}) (eSym {v = c} a n eEnd) h = name-writes (λ o. new-name (record { objs = o; syms = σ .syms }) c b a n)
-  one-name {σ = σ} (tOneLink {k = k}) (eSymref {v = c} a n eEnd) h = name-writes (λ o. name-again (record { objs = o; syms = σ .syms }) c k (h .dsy) n)
+      put-string-vars ms {b = b} {z = z} {n = n} {σ₁ = σ₁} (string-vars-shown {p = p} {w = w}) c e y σ₂ ni w₀ x =
+          let d = classed w c e in
+          let k : List ℕ = STRING ∷ byte-string-bytes b in
+          object-new size (d .new v ni)
+          (writes-as size (INSTANCE-VARIABLES ∷ (z ++ k) ++ integer-bytes n ++ y) (INSTANCE-VARIABLES ∷ z ++ (k ++ integer-bytes n ++ y)) (ap (λ (t : List ℕ). INSTANCE-VARIABLES ∷ t) (simp append-assoc refl))
+          (put-variables _ p n (addO v σ) (addO v σ₁) σ₂ (z ++ k) y w₀ (d .writes v k) (rw (d .rest) x)))
 
   module _ (inner : ℕ → Writer) (level : Writer) (v : ℕ) (σ : Num) where
     -- `u`, the name, the bytes
-    put-class : (c : ℕ) (b z y : List ℕ) (o : List ℕ) → Writes size (write-name size A c) (record { objs = o; syms = σ .syms }) z (record { objs = o; syms = y })
+    put-user-head : (c : ℕ) (b z y : List ℕ) (o : List ℕ) → Writes size (write-name size A c) (record { objs = o; syms = σ .syms }) z (record { objs = o; syms = y })
         → Writes size (write size (USER-DEFINED ∷ []) >> write-name size A c >> write size (byte-string-bytes b)) (record { objs = o; syms = σ .syms }) (USER-DEFINED ∷ z ++ byte-string-bytes b) (record { objs = o; syms = y })
-    put-class c b z y o w = then-writes size (then-writes size (bytes-writes size _ (USER-DEFINED ∷ [])) w) (bytes-writes size _ (byte-string-bytes b))
+    put-user-head c b z y o w = then-writes size (then-writes size (bytes-writes size _ (USER-DEFINED ∷ [])) w) (bytes-writes size _ (byte-string-bytes b))
 
-    put-user : {r : Row} {b z us : List ℕ} {σ₁ : Num} → NameWrites z σ us σ₁ → Shown A r (box (header-of 8 0 b 0 false) (us ++ [])) → NotIn v (σ₁ .objs)
+    put-user : {r : Row} {b z us : List ℕ} {σ₁ : Num} → NameWrites z σ us σ₁ → Shown A r (box (header-of 8 0 b 0 false false) (us ++ [])) → NotIn v (σ₁ .objs)
         → Row-writes inner level v σ r (USER-DEFINED ∷ z ++ byte-string-bytes b) (addO v σ₁)
     unfolding write-row write-variables
-    put-user {b = b} {z = z} (name-writes {c = c} {y = y} w) user-shown ni = object-new size ni (put-class c b z y (σ .objs ++ (v ∷ [])) (w (σ .objs ++ (v ∷ []))))
+    put-user {b = b} {z = z} (name-writes {c = c} {y = y} w) user-shown ni = object-new size ni (put-user-head c b z y (σ .objs ++ (v ∷ [])) (w (σ .objs ++ (v ∷ []))))
 
-    put-user-vars : (ms : List ℕ) {r : Row} {b z us : List ℕ} {n : ℕ} {σ₁ : Num} → NameWrites z σ us σ₁ → Shown A r (box (header-of 8 0 b n true) (us ++ ms)) → NotIn v (σ₁ .objs) → (y : List ℕ) (σ₂ : Num)
+    put-user-vars : (ms : List ℕ) {r : Row} {b z us : List ℕ} {n : ℕ} {σ₁ : Num} → NameWrites z σ us σ₁ → Shown A r (box (header-of 8 0 b n true false) (us ++ ms)) → NotIn v (σ₁ .objs) → (y : List ℕ) (σ₂ : Num)
         → Writes size level (addO v σ) [] (addO v σ) → Writes size (write-pairs (write-name size A) inner ms) (addO v σ₁) y σ₂
         → Row-writes inner level v σ r (INSTANCE-VARIABLES ∷ USER-DEFINED ∷ z ++ byte-string-bytes b ++ integer-bytes n ++ y) σ₂
     unfolding write-row
     put-user-vars ms {b = b} {z = z} {n = n} {σ₁ = σ₁} (name-writes {c = c} {y = y} w) (user-vars-shown {p = p}) ni x σ₂ w₀ w₁ =
-        object-new size ni (put-variables inner level v σ _ p n (addO v σ) (addO v σ₁) σ₂ (USER-DEFINED ∷ z ++ byte-string-bytes b) x w₀ (put-class c b z y (σ .objs ++ (v ∷ [])) (w (σ .objs ++ (v ∷ [])))) w₁)
+        object-new size ni (put-variables inner level v σ _ p n (addO v σ) (addO v σ₁) σ₂ (USER-DEFINED ∷ z ++ byte-string-bytes b) x w₀ (put-user-head c b z y (σ .objs ++ (v ∷ [])) (w (σ .objs ++ (v ∷ [])))) w₁)
 
 -- ---- forests
 
@@ -298,6 +336,11 @@ module _ (size : ℕ) (A : Arena) (limit : ℕ) where
       → Whole m (suc l) (v ∷ ws) σ (z ++ x) σ′
   step m l v ws {σ} {σ₁} {σ′} {z} {x} i w u = run-value size A (value (suc l)) m v ws i (row-value size A limit l v σ σ₁ z w) u
 
+  -- the same where its bytes begin with a class
+  step-class : (m : Mode) (l v : ℕ) (ws z y x : List ℕ) {σ σ₁ σ′ : Num} → IsValue m → Row-writes size A (value l) (write-level limit l) v σ (node A v) (z ++ y) σ₁ → Whole (after m) (suc l) ws σ₁ x σ′
+      → Whole m (suc l) (v ∷ ws) σ (z ++ (y ++ x)) σ′
+  step-class m l v ws z y x i w u = writes-as size (z ++ y ++ x) (z ++ (y ++ x)) (append-assoc z y x) (step m l v ws i w u)
+
   complete : {m : Mode} {l : ℕ} {g : F} {x vs : List ℕ} {σ σ′ : Num} → Text m l g x → E (seen A) g vs σ σ′ → Dist σ → Whole m l vs σ x σ′
   unfolding write-elements write-pairs
   complete {σ = σ} tEnd eEnd h = nothing size σ
@@ -306,8 +349,6 @@ module _ (size : ℕ) (A : Arena) (limit : ℕ) where
       run-name size A (value l) k c ws σ (addS c σ) σ′ (SYMBOL ∷ byte-string-bytes b) x (new-name size A σ c b a n) (complete t d (dist-s h n))
   complete {σ = σ} {σ′ = σ′} (tNameLink {l = l} {n = k} {k = j} {x = x} t) (eSymref {v = c} {ws = ws} a n d) h =
       run-name size A (value l) k c ws σ σ σ′ (SYMBOL-LINK ∷ integer-bytes j) x (name-again size A σ c j (h .dsy) n) (complete t d h)
-  complete {σ = σ} (tOneName {b = b}) (eSym {v = c} a n eEnd) h = new-name size A σ c b a n
-  complete {σ = σ} (tOneLink {k = j}) (eSymref {v = c} a n eEnd) h = name-again size A σ c j (h .dsy) n
   complete {σ = σ} (tClass {l = l} {n = k} {b = b} t) (eSym {v = c} {ws = ws} a n d) h =
       run-class size A (value l) k c ws (new-name size A σ c b a n) (complete t d (dist-s h n))
   complete {σ = σ} (tClassLink {l = l} {n = k} {k = j} t) (eSymref {v = c} {ws = ws} a n d) h =
@@ -319,20 +360,25 @@ module _ (size : ℕ) (A : Arena) (limit : ℕ) where
   complete {m = m} {σ = σ} (tSymbol {l = l} i t) (eSym {v = v} {ws = ws} a n d) h = step m l v ws i (put-symbol size A (value l) _ v σ (shown-at A v _ a) n) (complete t d (dist-s h n))
   complete {m = m} {σ = σ} (tSymbolLink {l = l} {k = j} i t) (eSymref {v = v} {ws = ws} a n d) h = step m l v ws i (put-symbol-link size A (value l) _ v σ (shown-at A v _ a) j (h .dsy) n) (complete t d h)
   complete {m = m} {σ = σ} (tObjectLink {l = l} {k = j} i t) (eRef {v = v} {ws = ws} a n d) h = step m l v ws i (put-object-link size A (value l) _ v σ (shown-at A v _ a) j (h .dob) n) (complete t d h)
-  complete {m = m} {σ = σ} (tArray {l = l} {y = y} i q t t₁) (eBox {v = v} {ws = ws} {σ₂ = σ₂} a eEnd n d₁ d) h =
-      step m l v ws i (put-array size A (value l) _ v σ (shown-at A v _ a) y σ₂ n (complete t d₁ (dist-o h n))) (complete t₁ d (e-dist d₁ (dist-o h n)))
-  complete {m = m} {σ = σ} (tHash {l = l} {y = y} i q t t₁) (eBox {v = v} {ws = ws} {σ₂ = σ₂} a eEnd n d₁ d) h =
-      step m l v ws i (put-hash size A (value l) _ v σ (shown-at A v _ a) y σ₂ n (complete t d₁ (dist-o h n))) (complete t₁ d (e-dist d₁ (dist-o h n)))
-  complete {m = m} {σ = σ} (tHashDefault {l = l} {y = y} i q t t₁) (eBox {v = v} {ws = ws} {σ₂ = σ₂} a eEnd n d₁ d) h =
-      step m l v ws i (put-default size A (value l) _ v σ (shown-at A v _ a) y σ₂ n (complete t d₁ (dist-o h n))) (complete t₁ d (e-dist d₁ (dist-o h n)))
+  complete {m = m} {σ = σ} (tArray {l = l} {n = k} {x = x} {y = y} {z = z} i c q t t₁) (eBox {v = v} {ms = ms} {ws = ws} {σ₂ = σ₂} a d₀ n d₁ d) h =
+      let h₁ = dist-o (e-dist d₀ h) n in
+      step-class m l v ws z (ARRAY ∷ integer-bytes k ++ y) x i (put-array size A (value l) _ v σ ms (shown-at A v _ a) (one-class size A c d₀ h) refl y σ₂ n (complete t d₁ h₁)) (complete t₁ d (e-dist d₁ h₁))
+  complete {m = m} {σ = σ} (tHash {l = l} {n = k} {x = x} {y = y} {z = z} i c q t t₁) (eBox {v = v} {ms = ms} {ws = ws} {σ₂ = σ₂} a d₀ n d₁ d) h =
+      let h₁ = dist-o (e-dist d₀ h) n in
+      step-class m l v ws z (HASH ∷ integer-bytes k ++ y) x i (put-hash size A (value l) _ v σ ms (shown-at A v _ a) (one-class size A c d₀ h) refl y σ₂ n (complete t d₁ h₁)) (complete t₁ d (e-dist d₁ h₁))
+  complete {m = m} {σ = σ} (tHashDefault {l = l} {n = k} {x = x} {y = y} {z = z} i c q t t₁) (eBox {v = v} {ms = ms} {ws = ws} {σ₂ = σ₂} a d₀ n d₁ d) h =
+      let h₁ = dist-o (e-dist d₀ h) n in
+      step-class m l v ws z (HASH-DEFAULT ∷ integer-bytes k ++ y) x i (put-default size A (value l) _ v σ ms (shown-at A v _ a) (one-class size A c d₀ h) refl y σ₂ n (complete t d₁ h₁)) (complete t₁ d (e-dist d₁ h₁))
   complete {m = m} {σ = σ} (tObject {l = l} {y = y} i t t₁) (eBox {v = v} {ws = ws} {σ₂ = σ₂} a eEnd n d₁ d) h =
       step m l v ws i (put-object size A (value l) _ v σ (shown-at A v _ a) y σ₂ n (complete t d₁ (dist-o h n))) (complete t₁ d (e-dist d₁ (dist-o h n)))
-  complete {m = m} {σ = σ} (tText {l = l} q i t) (eBox {v = v} {ws = ws} a eEnd n eEnd d) h =
-      step m l v ws i (put-text size A (value l) _ v σ q (shown-at A v _ a) n) (complete t d (dist-o h n))
+  complete {m = m} {σ = σ} (tText {l = l} {k = k} {b = b} {x = x} {z = z} q i c t) (eBox {v = v} {ws = ws} a d₀ n eEnd d) h =
+      step-class m l v ws z (k ∷ byte-string-bytes b) x i (put-text size A (value l) _ v σ q (shown-at A v _ a) (one-class size A c d₀ h) refl n) (complete t d (dist-o (e-dist d₀ h) n))
   complete {m = m} {σ = σ} (tBignum {l = l} i q t) (eBox {v = v} {ws = ws} a eEnd n eEnd d) h =
       step m l v ws i (put-bignum size A (value l) _ v σ (shown-at A v _ a) n) (complete t d (dist-o h n))
-  complete {m = m} {σ = σ} (tStringVars {l = l} {y = y} i t t₁) (eBox {v = v} {ws = ws} {σ₂ = σ₂} a eEnd n d₁ d) h =
-      step m (suc l) v ws i (put-string-vars size A (value (suc l)) _ v σ (shown-at A v _ a) y σ₂ n (level-left size limit l (addO v σ)) (complete t d₁ (dist-o h n))) (complete t₁ d (e-dist d₁ (dist-o h n)))
+  complete {m = m} {σ = σ} (tStringVars {l = l} {n = k} {b = b} {x = x} {y = y} {z = z} i c t t₁) (eBox {v = v} {ms = ms} {ws = ws} {σ₂ = σ₂} a d₀ n d₁ d) h =
+      let h₁ = dist-o (e-dist d₀ h) n in
+      step-class m (suc l) v ws (INSTANCE-VARIABLES ∷ z) (STRING ∷ byte-string-bytes b ++ integer-bytes k ++ y) x i
+      (put-string-vars size A (value (suc l)) _ v σ ms (shown-at A v _ a) (one-class size A c d₀ h) refl y σ₂ n (level-left size limit l (addO v σ)) (complete t d₁ h₁)) (complete t₁ d (e-dist d₁ h₁))
   complete {m = m} {σ = σ} (tUser {l = l} i t₀ t₁) (eBox {v = v} {ws = ws} a d₀ n eEnd d) h =
       step m l v ws i (put-user size A (value l) _ v σ (one-name size A t₀ d₀ h) (shown-at A v _ a) n) (complete t₁ d (dist-o (e-dist d₀ h) n))
   complete {m = m} {σ = σ} (tUserVars {l = l} {y = y} i t₀ t t₁) (eBox {v = v} {ms = ms} {ws = ws} {σ₂ = σ₂} a d₀ n d₁ d) h =
@@ -360,8 +406,6 @@ text-suc tEnd = tEnd
 text-suc tEndPairs = tEndPairs
 text-suc (tName t) = tName (text-suc t)
 text-suc (tNameLink t) = tNameLink (text-suc t)
-text-suc tOneName = tOneName
-text-suc tOneLink = tOneLink
 text-suc (tClass t) = tClass (text-suc t)
 text-suc (tClassLink t) = tClassLink (text-suc t)
 text-suc (tNil i t) = tNil i (text-suc t)
@@ -371,15 +415,15 @@ text-suc (tFixnum i b t) = tFixnum i b (text-suc t)
 text-suc (tSymbol i t) = tSymbol i (text-suc t)
 text-suc (tSymbolLink i t) = tSymbolLink i (text-suc t)
 text-suc (tObjectLink i t) = tObjectLink i (text-suc t)
-text-suc (tArray i q t t₁) = tArray i q (text-suc t) (text-suc t₁)
-text-suc (tHash i q t t₁) = tHash i q (text-suc t) (text-suc t₁)
-text-suc (tHashDefault i q t t₁) = tHashDefault i q (text-suc t) (text-suc t₁)
+text-suc (tArray i c q t t₁) = tArray i c q (text-suc t) (text-suc t₁)
+text-suc (tHash i c q t t₁) = tHash i c q (text-suc t) (text-suc t₁)
+text-suc (tHashDefault i c q t t₁) = tHashDefault i c q (text-suc t) (text-suc t₁)
 text-suc (tObject i t t₁) = tObject i (text-suc t) (text-suc t₁)
-text-suc (tText q i t) = tText q i (text-suc t)
+text-suc (tText q i c t) = tText q i c (text-suc t)
 text-suc (tBignum i q t) = tBignum i q (text-suc t)
-text-suc (tStringVars i t t₁) = tStringVars i (text-suc t) (text-suc t₁)
-text-suc (tUser i t₀ t₁) = tUser i (text-suc t₀) (text-suc t₁)
-text-suc (tUserVars i t₀ t t₁) = tUserVars i (text-suc t₀) (text-suc t) (text-suc t₁)
+text-suc (tStringVars i c t t₁) = tStringVars i c (text-suc t) (text-suc t₁)
+text-suc (tUser i c t) = tUser i c (text-suc t)
+text-suc (tUserVars i c t t₁) = tUserVars i c (text-suc t) (text-suc t₁)
 
 -- more levels do no harm
 pub text-up : {m : Mode} {l : ℕ} {g : F} {x : List ℕ} (k : ℕ) → l ≤ k → Text m l g x → Text m k g x

@@ -92,8 +92,8 @@ same-trans P Q S (R, π) (R′, π′) = (
 -- ---- rows by header and links
 
 abbrev node-header : Node → Header
-node-header (leaf k x) = header-of k x [] 0 false
-node-header (sym b) = header-of 3 0 b 0 false
+node-header (leaf k x) = header-of k x [] 0 false false
+node-header (sym b) = header-of 3 0 b 0 false false
 node-header (box h ms) = h
 
 abbrev node-links : Node → List ℕ
@@ -110,7 +110,7 @@ see-header A r = go (headed A r)
     go (bool-headed x) = refl
     go (fixnum-headed x) = refl
     go (symbol-headed b) = refl
-    go (box-headed k x b n p ms) = refl
+    go (box-headed k x b n p c ms) = refl
 
 see-links : (A : Arena) (r : Row) → links A r ≡ node-links (see A r)
 unfolding see
@@ -121,7 +121,7 @@ see-links A r = go (headed A r)
     go (bool-headed x) = refl
     go (fixnum-headed x) = refl
     go (symbol-headed b) = refl
-    go (box-headed k x b n p ms) = refl
+    go (box-headed k x b n p c ms) = refl
 
 see-key : (A : Arena) (r : Row) → 3 ≤ kind r → Key (see A r)
 unfolding see

@@ -4,24 +4,24 @@ use mathlib.Core.Path.{_≡_, refl, ap}
 use mathlib.Core.Path.{sym as psym, _∙_}
 use mathlib.Core.Bool.{Bool, true, false}
 use mathlib.Core.Option.{Option, none, some}
-use mathlib.Core.List.{List, [], _∷_, _++_, append-nil}
+use mathlib.Core.List.{List, [], _∷_, _++_, append-assoc, append-nil}
 use lib.ListN.{length, length-append}
 use native.Mathlib.Omega.{arith}
 use Rattle.definition.specs.Run.{ok, pure, refuse, look, pick}
 use Rattle.definition.specs.Integer.{integer-bytes}
-use Rattle.definition.specs.Kind.{NIL, TRUE, FALSE, FIXNUM, SYMBOL, SYMBOL-LINK, OBJECT-LINK, INSTANCE-VARIABLES, ARRAY, OBJECT, STRING, USER-DEFINED, BIGNUM}
-use Rattle.definition.specs.Node.{Row, nil, bool, fixnum, symbol, array, hash, object, string, user, float, bignum, absent, present, kind, words}
+use Rattle.definition.specs.Kind.{NIL, TRUE, FALSE, FIXNUM, SYMBOL, SYMBOL-LINK, OBJECT-LINK, INSTANCE-VARIABLES, ARRAY, OBJECT, STRING, USER-DEFINED, FLOAT, BIGNUM, USER-CLASS}
+use Rattle.definition.specs.Node.{Row, nil, bool, fixnum, symbol, array, hash, object, string, user, float, bignum, absent, present, kind, words, optional-node, optional-present}
 use Rattle.definition.specs.Magnitude.{magnitude, bignum-bytes}
 use Rattle.definition.specs.Arena.{Arena, node, range, name-of, firsts}
-use Rattle.definition.specs.Graph.{Header, header-of, header, links, vars-links, vars-count, vars-present, default-link, default-present}
-use Rattle.definition.specs.Dump.{Written, Writer, _>>_, write, number-symbol, number-object, number-in, link-or, byte-string-bytes, write-symbol, write-object-or-link, write-elements, write-pairs, write-name, write-instance-variables, write-variables, write-default, hash-byte, write-row, write-level, write-value, dump}
+use Rattle.definition.specs.Graph.{Header, header-of, header, links, vars-links, vars-count, vars-present}
+use Rattle.definition.specs.Dump.{Written, Writer, _>>_, write, number-symbol, number-object, number-in, link-or, byte-string-bytes, write-symbol, write-object-or-link, write-elements, write-pairs, write-name, write-instance-variables, write-variables, write-default, hash-byte, write-class, write-row, write-level, write-value, dump}
 use Rattle.lists.specs.Lists.{At, NotIn, apart, Below, below-join}
 use Rattle.lists.specs.Ranges.{length-range}
-use Rattle.graph.specs.Forest.{Node, leaf, sym, box, Num, fresh, F, fEnd, fLeaf, fBox, fRef, trees, Mode, values, pairs, value-pairs, after, IsValue, Text, tEnd, tEndPairs, tNil, tFalse, tTrue, tFixnum, tObjectLink, tArray, tHash, tHashDefault, tObject, Texted, text-string, text-float, tText, tBignum, tStringVars, tUser, tUserVars}
+use Rattle.graph.specs.Forest.{Node, leaf, sym, box, Num, fresh, F, fEnd, fLeaf, fBox, fRef, trees, Class, no-class, a-class, Mode, values, pairs, value-pairs, after, IsValue, Text, tEnd, tEndPairs, tNil, tFalse, tTrue, tFixnum, tObjectLink, tArray, tHash, tHashDefault, tObject, text-string, text-float, tText, tBignum, tStringVars, tUser, tUserVars}
 use Rattle.graph.specs.Describe.{E, eEnd, eLeaf, eBox, eRef, eSym, eSymref, e-len}
-use Rattle.graph.specs.View.{see, text-row, see-text, seen, see-at}
+use Rattle.graph.specs.View.{see, seen, see-at}
 use Rattle.well_formed.specs.Nodes.{node-at, at-node, Name}
-use Rattle.well_formed.specs.Right.{Right, RowRight, Names, ListIn, PairsIn, NumberRight, Fixnums, default-below}
+use Rattle.well_formed.specs.Right.{Right, RowRight, Names, ListIn, PairsIn, ClassRight, NumberRight, Fixnums, default-below}
 use Rattle.dump_forest.specs.Writers.{num, put, ok-inj, un-then, pure-inv, Wrote, wrote-nothing, wrote-then, write-inv, un-write, number-some, number-none, Item, new, again, item-bytes, item, item-name, item-one, item-class, item-value, join-default}
 
 module _ (size : ℕ) (t : List Node) where
@@ -39,6 +39,17 @@ module _ (size : ℕ) (t : List Node) where
     pub wrote : Wrote size (s .bytes) (s′ .bytes) (item-bytes as-item)
     pub objects : s .objects ≡ s′ .objects
     pub says : (m : Bool) (o : List ℕ) (r : F) (ws : List ℕ) (σ : Num) → E t r ws (record { objs = o; syms = s′ .symbols }) σ → E t (item m as-item r) (v ∷ ws) (record { objs = o; syms = s .symbols }) σ
+
+  -- a class was written, or none, and then the bytes bs; objects are not touched
+  pub record Classed (w : ℕ) (bs : List ℕ) (s s′ : Written) : Type 0 where
+    pub forest : F
+    pub text : List ℕ
+    pub between : List ℕ
+    pub wrote : Wrote size (s .bytes) between text
+    pub wrote-bytes : Wrote size between (s′ .bytes) bs
+    pub objects : s .objects ≡ s′ .objects
+    pub writes : Class (optional-present w) forest text
+    pub says : (o : List ℕ) → E t forest (optional-node w) (record { objs = o; syms = s .symbols }) (record { objs = o; syms = s′ .symbols })
 
   -- a list of nodes was written
   pub record Described (m : Mode) (l : ℕ) (vs : List ℕ) (s s′ : Written) : Type 0 where
@@ -97,22 +108,20 @@ module _ (size : ℕ) (t : List Node) where
 same-objects : {t : List Node} {g : F} {vs o o′ y : List ℕ} {σ : Num} → o ≡ o′ → E t g vs (record { objs = o′; syms = y }) σ → E t g vs (record { objs = o; syms = y }) σ
 same-objects e d = rw e d
 
-from-num : {t : List Node} {g : F} {vs : List ℕ} {σ σ′ τ : Num} → σ ≡ σ′ → E t g vs σ′ τ → E t g vs σ τ
-from-num e d = rw e d
-
-to-end : {size : ℕ} {b b₁ b₂ z : List ℕ} → b₁ ≡ b₂ → Wrote size b b₁ z → Wrote size b b₂ z
-to-end e w = rw e at w
+-- what follows a class, and what follows that
+regroup : {m : Mode} {l : ℕ} {g : F} (z y x : List ℕ) → Text m l g (z ++ (y ++ x)) → Text m l g (z ++ y ++ x)
+regroup z y x t = rw (append-assoc z y x) t
 
 -- with variables there are two levels
-string-text : (l j k : ℕ) (m : Mode) (b : List ℕ) (r f : F) (y x : List ℕ) → l ≡ suc j → IsValue m → Text (pairs k) l f y → Text (after m) (suc l) r x
-    → Text m (suc l) (fBox (header-of 7 0 b k true) fEnd f r) (INSTANCE-VARIABLES ∷ STRING ∷ byte-string-bytes b ++ integer-bytes k ++ y ++ x)
-string-text zero j k m b r f y x e i t z = absurd (omega arith)
-string-text (suc l) j k m b r f y x e i t z = tStringVars i t z
+string-text : (l j k : ℕ) (m : Mode) (b : List ℕ) (r : F) {c : Bool} {p : F} {u : List ℕ} → Class c p u → (f : F) (y x : List ℕ) → l ≡ suc j → IsValue m → Text (pairs k) l f y → Text (after m) (suc l) r x
+    → Text m (suc l) (fBox (header-of 7 0 b k true c) p f r) (INSTANCE-VARIABLES ∷ u ++ (STRING ∷ byte-string-bytes b ++ integer-bytes k ++ y ++ x))
+string-text zero j k m b r c f y x e i t z = absurd (omega arith)
+string-text (suc l) j k m b r c f y x e i t z = tStringVars i c t z
 
 user-text : (l j k : ℕ) (m : Mode) (b : List ℕ) (r : F) (c : Item) (f : F) (y x : List ℕ) → l ≡ suc j → IsValue m → Text (pairs k) l f y → Text (after m) (suc l) r x
-    → Text m (suc l) (fBox (header-of 8 0 b k true) (item false c fEnd) f r) (INSTANCE-VARIABLES ∷ USER-DEFINED ∷ item-bytes c ++ byte-string-bytes b ++ integer-bytes k ++ y ++ x)
+    → Text m (suc l) (fBox (header-of 8 0 b k true false) (item false c fEnd) f r) (INSTANCE-VARIABLES ∷ USER-DEFINED ∷ item-bytes c ++ byte-string-bytes b ++ integer-bytes k ++ y ++ x)
 user-text zero j k m b r c f y x e i t z = absurd (omega arith)
-user-text (suc l) j k m b r c f y x e i t z = tUserVars i (item-one c l) t z
+user-text (suc l) j k m b r c f y x e i t z = tUserVars i (item-one c) t z
 
 -- members of a list that lies below
 below-head : (n v : ℕ) (vs : List ℕ) → Below n (v ∷ vs) → v < n
@@ -138,6 +147,38 @@ module _ (size : ℕ) (A : Arena) where
   name-sound c (p, n, a) s s′ e =
       let q : node A c ≡ symbol p n = node-at A c (symbol p n) a in
       symbol-sound size (seen A) c (range (A .bytes) p n) s s′ (see-at A c (symbol p n) a) (rw q at e)
+
+  class-sound : (w : ℕ) (bs : List ℕ) → ClassRight A w → (s s′ : Written) → (write-class size A w >> write size bs) s ≡ ok tt s′ → Classed size (seen A) w bs s s′
+  unfolding write-class optional-node optional-present
+  class-sound zero bs h s s′ e =
+      let (s₁, e₁, e₂) = un-then (pure tt) (write size bs) s s′ e in
+      let (p, w) = write-inv size bs s₁ s′ e₂ in
+      let q : s ≡ s₁ = pure-inv s s₁ e₁ in
+      rw (← p, ← q) (record {
+        forest = fEnd;
+        text = [];
+        between = s .bytes;
+        wrote = wrote-nothing size (s .bytes);
+        wrote-bytes = rw (← q) at w;
+        objects = refl;
+        writes = no-class;
+        says = λ o. eEnd;
+      })
+  class-sound (suc c) bs h s s′ e =
+      let (s₁, e₁, e₂) = un-then (write size (USER-CLASS ∷ []) >> write-name size A c) (write size bs) s s′ e in
+      let (w, e₃) = un-write size (USER-CLASS ∷ []) (write-name size A c) s s₁ e₁ in
+      let y = name-sound c (h 0 c refl) (put (USER-CLASS ∷ []) s) s₁ e₃ in
+      let (p, w₁) = write-inv size bs s₁ s′ e₂ in
+      rw (← p) (record {
+        forest = item false (y .as-item) fEnd;
+        text = USER-CLASS ∷ item-bytes (y .as-item);
+        between = s₁ .bytes;
+        wrote = wrote-then size _ _ _ (USER-CLASS ∷ []) (item-bytes (y .as-item)) w (y .wrote);
+        wrote-bytes = w₁;
+        objects = y .objects;
+        writes = a-class (item-one (y .as-item));
+        says = λ o. y .says false o fEnd [] _ eEnd;
+      })
 
   module _ (l : ℕ) (inner : ℕ → Writer) (ih : Sound l inner) where
     elements-sound : (vs : List ℕ) → Below (length (A .nodes)) vs → (s s′ : Written) → write-elements inner vs s ≡ ok tt s′ → Described size (seen A) values l vs s s′
@@ -189,46 +230,50 @@ module _ (size : ℕ) (A : Arena) where
         let (w, e₁) = un-write size (integer-bytes n) (write-pairs (write-name size A) inner (range (A .references) p (n * 2))) s s′ e in
         (w, pairs-sound (range (A .references) p (n * 2)) n (length-range (A .references) p (n * 2) (h .list .inside)) (h .list .below) (h .names) (put (integer-bytes n) s) s′ e₁)
 
-    array-sound : (v p n : ℕ) → At (A .nodes) v (array p n) → ListIn A p n → (s s′ : Written)
-        → write-object-or-link size v (write size (ARRAY ∷ integer-bytes n) >> write-elements inner (range (A .references) p n)) s ≡ ok tt s′ → Head size (seen A) (suc l) v s s′
+    -- a class or none, the bytes k, the members
+    listed-sound : (v : ℕ) (hd : Header) (w : ℕ) (k ms : List ℕ) {s s₁ s′ : Written} → At (seen A) v (box hd (optional-node w ++ ms)) → NotIn v (s .objects)
+        → (c : Classed size (seen A) w k (record { bytes = s .bytes; symbols = s .symbols; objects = s .objects ++ (v ∷ []) }) s₁) (d : Described size (seen A) values l ms s₁ s′)
+        → ((m : Mode) (r : F) (y : List ℕ) → IsValue m → Text (after m) (suc l) r y → Text m (suc l) (fBox hd (c .forest) (d .forest) r) (c .text ++ (k ++ d .text ++ y))) → Head size (seen A) (suc l) v s s′
+    listed-sound v hd w k ms {s} x ni c d f = record {
+      tree = λ r. fBox hd (c .forest) (d .forest) r;
+      text = c .text ++ (k ++ d .text);
+      wrote = wrote-then size _ _ _ _ _ (c .wrote) (wrote-then size _ _ _ _ _ (c .wrote-bytes) (d .wrote));
+      writes = λ m r y i z. regroup (c .text) (k ++ d .text) y (f m r y i z);
+      says = λ r ws σ g. eBox {us = optional-node w} {ms = ms} x (c .says (s .objects)) ni (same-objects (c .objects) (d .says)) g;
+    }
+
+    array-sound : (v p n w : ℕ) → At (A .nodes) v (array p n w) → ListIn A p n → ClassRight A w → (s s′ : Written)
+        → write-object-or-link size v (write-class size A w >> write size (ARRAY ∷ integer-bytes n) >> write-elements inner (range (A .references) p n)) s ≡ ok tt s′ → Head size (seen A) (suc l) v s s′
     unfolding see header links
-    array-sound v p n a h s s′ e =
+    array-sound v p n w a h cr s s′ e =
         let ms = range (A .references) p n in
-        let x = see-at A v (array p n) a in
-        object-sound size (seen A) l v _ (header-of 4 0 [] n false) ms s s′ x e λ ni e₁.
-        let (w, e₂) = un-write size (ARRAY ∷ integer-bytes n) (write-elements inner ms) _ s′ e₁ in
-        let d = elements-sound ms (h .below) _ s′ e₂ in
-        record {
-          tree = λ r. fBox (header-of 4 0 [] n false) fEnd (d .forest) r;
-          text = (ARRAY ∷ integer-bytes n) ++ d .text;
-          wrote = wrote-then size _ _ _ _ _ w (d .wrote);
-          writes = λ m r y i z. tArray i (e-len (d .says) ∙ length-range (A .references) p n (h .inside)) (d .writes) z;
-          says = λ r ws σ f. eBox {us = []} {ms = ms} x eEnd ni (d .says) f;
-        }
+        let x = see-at A v (array p n w) a in
+        object-sound size (seen A) l v _ (header-of 4 0 [] n false (optional-present w)) (optional-node w ++ ms) s s′ x e λ ni e₁.
+        let (s₁, e₂, e₃) = un-then (write-class size A w >> write size (ARRAY ∷ integer-bytes n)) (write-elements inner ms) _ s′ e₁ in
+        let c = class-sound w (ARRAY ∷ integer-bytes n) cr _ s₁ e₂ in
+        let d = elements-sound ms (h .below) s₁ s′ e₃ in
+        listed-sound v _ w _ ms x ni c d (λ m r y i z. tArray i (c .writes) (e-len (d .says) ∙ length-range (A .references) p n (h .inside)) (d .writes) z)
 
-    hash-text : (n d : ℕ) (m : Mode) (r f : F) (y x : List ℕ) → IsValue m → trees f ≡ n * 2 + length (default-link d) → Text values l f y → Text (after m) (suc l) r x
-        → Text m (suc l) (fBox (header-of 5 0 [] n (default-present d)) fEnd f r) ((hash-byte size A d ∷ integer-bytes n) ++ y ++ x)
-    unfolding default-present default-link hash-byte
-    hash-text n zero m r f y x i q t z = let w : trees f ≡ n * 2 = omega arith in tHash i w t z
-    hash-text n (suc d) m r f y x i q t z = tHashDefault i q t z
+    hash-text : (n d : ℕ) (m : Mode) (r : F) {c : Bool} {p : F} {u : List ℕ} → Class c p u → (f : F) (y x : List ℕ) → IsValue m → trees f ≡ n * 2 + length (optional-node d) → Text values l f y → Text (after m) (suc l) r x
+        → Text m (suc l) (fBox (header-of 5 0 [] n (optional-present d) c) p f r) (u ++ ((hash-byte size A d ∷ integer-bytes n) ++ y ++ x))
+    unfolding optional-present optional-node hash-byte
+    hash-text n zero m r c f y x i q t z = let w : trees f ≡ n * 2 = omega arith in tHash i c w t z
+    hash-text n (suc d) m r c f y x i q t z = tHashDefault i c q t z
 
-    hash-sound : (v p n d : ℕ) → At (A .nodes) v (hash p n d) → ListIn A p (n * 2) → d ≤ length (A .nodes) → (s s′ : Written)
-        → write-object-or-link size v (write size (hash-byte size A d ∷ integer-bytes n) >> write-elements inner (range (A .references) p (n * 2)) >> write-default size A inner d) s ≡ ok tt s′ → Head size (seen A) (suc l) v s s′
-    unfolding see header links default-present
-    hash-sound v p n d a h b s s′ e =
+    hash-sound : (v p n d w : ℕ) → At (A .nodes) v (hash p n d w) → ListIn A p (n * 2) → d ≤ length (A .nodes) → ClassRight A w → (s s′ : Written)
+        → write-object-or-link size v (write-class size A w >> write size (hash-byte size A d ∷ integer-bytes n) >> write-elements inner (range (A .references) p (n * 2)) >> write-default size A inner d) s ≡ ok tt s′ → Head size (seen A) (suc l) v s s′
+    unfolding see header links
+    hash-sound v p n d w a h b cr s s′ e =
         let l₀ = range (A .references) p (n * 2) in
-        let x = see-at A v (hash p n d) a in
-        object-sound size (seen A) l v _ (header-of 5 0 [] n (default-present d)) (l₀ ++ default-link d) s s′ x e λ ni e₁.
-        let (s₁, e₂, e₃) = un-then (write size (hash-byte size A d ∷ integer-bytes n) >> write-elements inner l₀) (write-default size A inner d) _ s′ e₁ in
-        let (w, e₄) = un-write size (hash-byte size A d ∷ integer-bytes n) (write-elements inner l₀) _ s₁ e₂ in
-        let f = elements-sound (l₀ ++ default-link d) (below-join _ l₀ (default-link d) (h .below) (default-below A d b)) _ s′ (join-default size A inner l₀ d _ s₁ s′ e₄ e₃) in
-        record {
-          tree = λ r. fBox (header-of 5 0 [] n (default-present d)) fEnd (f .forest) r;
-          text = (hash-byte size A d ∷ integer-bytes n) ++ f .text;
-          wrote = wrote-then size _ _ _ _ _ w (f .wrote);
-          writes = λ m r y i z. hash-text n d m r (f .forest) (f .text) y i (e-len (f .says) ∙ length-append l₀ (default-link d) ∙ ap (λ (k : ℕ). k + length (default-link d)) (length-range (A .references) p (n * 2) (h .inside))) (f .writes) z;
-          says = λ r ws σ g. eBox {us = []} {ms = l₀ ++ default-link d} x eEnd ni (f .says) g;
-        }
+        let k : List ℕ = hash-byte size A d ∷ integer-bytes n in
+        let x = see-at A v (hash p n d w) a in
+        object-sound size (seen A) l v _ (header-of 5 0 [] n (optional-present d) (optional-present w)) (optional-node w ++ (l₀ ++ optional-node d)) s s′ x e λ ni e₁.
+        let (s₁, e₂, e₃) = un-then (write-class size A w >> write size k >> write-elements inner l₀) (write-default size A inner d) _ s′ e₁ in
+        let (s₂, e₄, e₅) = un-then (write-class size A w >> write size k) (write-elements inner l₀) _ s₁ e₂ in
+        let c = class-sound w k cr _ s₂ e₄ in
+        let f = elements-sound (l₀ ++ optional-node d) (below-join _ l₀ (optional-node d) (h .below) (default-below A d b)) s₂ s′ (join-default size A inner l₀ d s₂ s₁ s′ e₅ e₃) in
+        let q = e-len (f .says) ∙ length-append l₀ (optional-node d) ∙ ap (λ (i : ℕ). i + length (optional-node d)) (length-range (A .references) p (n * 2) (h .inside)) in
+        listed-sound v _ w k (l₀ ++ optional-node d) x ni c f (λ m r y i z. hash-text n d m r (c .writes) (f .forest) (f .text) y i q (f .writes) z)
 
     variables-sound : (v p n c : ℕ) → At (A .nodes) v (object p n c) → Name A c → PairsIn A p n → (s s′ : Written)
         → write-object-or-link size v (write size (OBJECT ∷ []) >> write-name size A c >> write-instance-variables size A inner p n) s ≡ ok tt s′ → Head size (seen A) (suc l) v s s′
@@ -236,13 +281,13 @@ module _ (size : ℕ) (A : Arena) where
     variables-sound v p n c a nm h s s′ e =
         let ms = range (A .references) p (n * 2) in
         let x = see-at A v (object p n c) a in
-        object-sound size (seen A) l v _ (header-of 6 0 [] n false) (c ∷ ms) s s′ x e λ ni e₁.
+        object-sound size (seen A) l v _ (header-of 6 0 [] n false false) (c ∷ ms) s s′ x e λ ni e₁.
         let (s₁, e₂, e₃) = un-then (write size (OBJECT ∷ []) >> write-name size A c) (write-instance-variables size A inner p n) _ s′ e₁ in
         let (w, e₄) = un-write size (OBJECT ∷ []) (write-name size A c) _ s₁ e₂ in
         let y = name-sound c nm _ s₁ e₄ in
         let (w₁, d) = vars-sound p n h s₁ s′ e₃ in
         record {
-          tree = λ r. fBox (header-of 6 0 [] n false) fEnd (item false (y .as-item) (d .forest)) r;
+          tree = λ r. fBox (header-of 6 0 [] n false false) fEnd (item false (y .as-item) (d .forest)) r;
           text = (OBJECT ∷ []) ++ (item-bytes (y .as-item) ++ integer-bytes n ++ d .text);
           wrote = wrote-then size _ _ _ _ _ w (wrote-then size _ _ _ _ _ (wrote-then size _ _ _ _ _ (y .wrote) w₁) (d .wrote));
           writes = λ m r z i q. tObject i (item-class (y .as-item) (d .writes)) q;
@@ -250,14 +295,14 @@ module _ (size : ℕ) (A : Arena) where
         }
 
     -- the contents of a user-defined node up to its variables: `u`, its name, its bytes
-    record Class (c : ℕ) (b : List ℕ) (s s′ : Written) : Type 0 where
+    record User (c : ℕ) (b : List ℕ) (s s′ : Written) : Type 0 where
       as-item : Item
       wrote : Wrote size (s .bytes) (s′ .bytes) (USER-DEFINED ∷ item-bytes as-item ++ byte-string-bytes b)
       objects : s .objects ≡ s′ .objects
       says : (m : Bool) (o : List ℕ) (r : F) (ws : List ℕ) (σ : Num) → E (seen A) r ws (record { objs = o; syms = s′ .symbols }) σ → E (seen A) (item m as-item r) (c ∷ ws) (record { objs = o; syms = s .symbols }) σ
 
-    class-sound : (c : ℕ) (b : List ℕ) → Name A c → (s s′ : Written) → (write size (USER-DEFINED ∷ []) >> write-name size A c >> write size (byte-string-bytes b)) s ≡ ok tt s′ → Class c b s s′
-    class-sound c b nm s s′ e =
+    user-head : (c : ℕ) (b : List ℕ) → Name A c → (s s′ : Written) → (write size (USER-DEFINED ∷ []) >> write-name size A c >> write size (byte-string-bytes b)) s ≡ ok tt s′ → User c b s s′
+    user-head c b nm s s′ e =
         let (s₁, e₁, e₂) = un-then (write size (USER-DEFINED ∷ []) >> write-name size A c) (write size (byte-string-bytes b)) s s′ e in
         let (w, e₃) = un-write size (USER-DEFINED ∷ []) (write-name size A c) s s₁ e₁ in
         let y = name-sound c nm (put (USER-DEFINED ∷ []) s) s₁ e₃ in
@@ -278,17 +323,34 @@ module _ (size : ℕ) (A : Arena) where
         let (p, w) = write-inv size z _ s′ e₁ in
         rw (← p) (record { tree = λ r. fBox h fEnd fEnd r; text = z; wrote = w; writes = f; says = λ r ws σ d. eBox {us = []} {ms = []} x eEnd ni eEnd d })
 
-    text-sound : {k i : ℕ} (q : Texted k i) (v p n : ℕ) → At (A .nodes) v (text-row q p n) → (s s′ : Written)
-        → write-object-or-link size v (write size (k ∷ byte-string-bytes (range (A .bytes) p n))) s ≡ ok tt s′ → Head size (seen A) (suc l) v s s′
-    text-sound {k} {i} q v p n a s s′ e =
+    float-sound : (v p n : ℕ) → At (A .nodes) v (float p n) → (s s′ : Written)
+        → write-object-or-link size v (write size (FLOAT ∷ byte-string-bytes (range (A .bytes) p n))) s ≡ ok tt s′ → Head size (seen A) (suc l) v s s′
+    unfolding see header links
+    float-sound v p n a s s′ e =
         let b = range (A .bytes) p n in
-        bare-sound v (header-of i 0 b 0 false) (k ∷ byte-string-bytes b) s s′ (see-at A v (text-row q p n) a ∙ ap some (see-text q A p n b refl)) (λ m r x j t. tText q j t) e
+        bare-sound v (header-of 9 0 b 0 false false) (FLOAT ∷ byte-string-bytes b) s s′ (see-at A v (float p n) a) (λ m r x i t. tText text-float i no-class t) e
+
+    string-sound : (v p n w : ℕ) → At (A .nodes) v (string p n absent w) → ClassRight A w → (s s′ : Written)
+        → write-object-or-link size v (write-class size A w >> write size (STRING ∷ byte-string-bytes (range (A .bytes) p n))) s ≡ ok tt s′ → Head size (seen A) (suc l) v s s′
+    unfolding see header links vars-links vars-count vars-present
+    string-sound v p n w a cr s s′ e =
+        let b = range (A .bytes) p n in
+        let x = see-at A v (string p n absent w) a in
+        object-sound size (seen A) l v _ (header-of 7 0 b 0 false (optional-present w)) (optional-node w ++ []) s s′ x e λ ni e₁.
+        let c = class-sound w (STRING ∷ byte-string-bytes b) cr _ s′ e₁ in
+        record {
+          tree = λ r. fBox (header-of 7 0 b 0 false (optional-present w)) (c .forest) fEnd r;
+          text = c .text ++ (STRING ∷ byte-string-bytes b);
+          wrote = wrote-then size _ _ _ _ _ (c .wrote) (c .wrote-bytes);
+          writes = λ m r y i t. regroup (c .text) (STRING ∷ byte-string-bytes b) y (tText text-string i (c .writes) t);
+          says = λ r ws σ f. eBox {us = optional-node w} {ms = []} x (c .says (s .objects)) ni eEnd (same-objects (c .objects) f);
+        }
 
     bignum-sound : (v low high : ℕ) (m : Bool) → At (A .nodes) v (bignum low high m) → NumberRight (magnitude low high) m → (s s′ : Written)
         → write-object-or-link size v (write size (BIGNUM ∷ bignum-bytes m (magnitude low high))) s ≡ ok tt s′ → Head size (seen A) (suc l) v s s′
     unfolding see header links
     bignum-sound v low high m a h s s′ e =
-        bare-sound v (header-of 10 (magnitude low high) [] 0 m) (BIGNUM ∷ bignum-bytes m (magnitude low high)) s s′ (see-at A v (bignum low high m) a) (λ o r x i t. tBignum i h t) e
+        bare-sound v (header-of 10 (magnitude low high) [] 0 m false) (BIGNUM ∷ bignum-bytes m (magnitude low high)) s s′ (see-at A v (bignum low high m) a) (λ o r x i t. tBignum i h t) e
 
     user-sound : (v p n c : ℕ) → At (A .nodes) v (user p n c absent) → Name A c → (s s′ : Written)
         → write-object-or-link size v (write size (USER-DEFINED ∷ []) >> write-name size A c >> write size (byte-string-bytes (range (A .bytes) p n))) s ≡ ok tt s′ → Head size (seen A) (suc l) v s s′
@@ -296,13 +358,13 @@ module _ (size : ℕ) (A : Arena) where
     user-sound v p n c a nm s s′ e =
         let b = range (A .bytes) p n in
         let x = see-at A v (user p n c absent) a in
-        object-sound size (seen A) l v _ (header-of 8 0 b 0 false) (c ∷ []) s s′ x e λ ni e₁.
-        let y = class-sound c b nm _ s′ e₁ in
+        object-sound size (seen A) l v _ (header-of 8 0 b 0 false false) (c ∷ []) s s′ x e λ ni e₁.
+        let y = user-head c b nm _ s′ e₁ in
         record {
-          tree = λ r. fBox (header-of 8 0 b 0 false) (item false (y .as-item) fEnd) fEnd r;
+          tree = λ r. fBox (header-of 8 0 b 0 false false) (item false (y .as-item) fEnd) fEnd r;
           text = USER-DEFINED ∷ item-bytes (y .as-item) ++ byte-string-bytes b;
           wrote = y .wrote;
-          writes = λ m r z i q. tUser i (item-one (y .as-item) l) q;
+          writes = λ m r z i q. tUser i (item-one (y .as-item)) q;
           says = λ r ws σ f. eBox {us = c ∷ []} {ms = []} x (y .says false (s .objects) fEnd [] _ eEnd) ni eEnd (same-objects (y .objects) f);
         }
 
@@ -323,25 +385,25 @@ module _ (size : ℕ) (A : Arena) where
       level-inv zero s s₁ e = absurd (no-level limit s s₁ e)
       level-inv (suc k) s s₁ e = (k, refl, one-level limit k s s₁ e)
 
-  string-vars-sound : (limit l : ℕ) (inner : ℕ → Writer) → Sound l inner → (v p n q k : ℕ) → At (A .nodes) v (string p n (present q k)) → PairsIn A q k → (s s′ : Written)
-      → write-object-or-link size v (write-variables size A (write-level limit l) inner (write size (STRING ∷ byte-string-bytes (range (A .bytes) p n))) (present q k)) s ≡ ok tt s′ → Head size (seen A) (suc l) v s s′
+  string-vars-sound : (limit l : ℕ) (inner : ℕ → Writer) → Sound l inner → (v p n q k w : ℕ) → At (A .nodes) v (string p n (present q k) w) → PairsIn A q k → ClassRight A w → (s s′ : Written)
+      → write-object-or-link size v (write-variables size A (write-level limit l) inner (write-class size A w >> write size (STRING ∷ byte-string-bytes (range (A .bytes) p n))) (present q k)) s ≡ ok tt s′ → Head size (seen A) (suc l) v s s′
   unfolding see header links vars-links vars-count vars-present
-  string-vars-sound limit l inner ih v p n q k a h s s′ e =
+  string-vars-sound limit l inner ih v p n q k w a h cr s s′ e =
       let b = range (A .bytes) p n in
       let ms = range (A .references) q (k * 2) in
-      let x = see-at A v (string p n (present q k)) a in
-      object-sound size (seen A) l v _ (header-of 7 0 b k true) ms s s′ x e λ ni e₁.
-      let (w, j, z, s₁, e₂, e₃) = un-variables limit l inner (write size (STRING ∷ byte-string-bytes b)) q k _ s′ e₁ in
-      let (u, w₁) = write-inv size (STRING ∷ byte-string-bytes b) _ s₁ e₂ in
-      let (w₂, d) = vars-sound l inner ih q k h s₁ s′ e₃ in
-      let z₁ : List ℕ = INSTANCE-VARIABLES ∷ STRING ∷ byte-string-bytes b in
-      let w₃ = wrote-then size _ _ _ (INSTANCE-VARIABLES ∷ []) (STRING ∷ byte-string-bytes b) w (to-end (ap (λ (t : Written). t .bytes) u) w₁) in
+      let x = see-at A v (string p n (present q k) w) a in
+      object-sound size (seen A) l v _ (header-of 7 0 b k true (optional-present w)) (optional-node w ++ ms) s s′ x e λ ni e₁.
+      let (w₀, j, z, s₁, e₂, e₃) = un-variables limit l inner (write-class size A w >> write size (STRING ∷ byte-string-bytes b)) q k _ s′ e₁ in
+      let c = class-sound w (STRING ∷ byte-string-bytes b) cr _ s₁ e₂ in
+      let (w₁, d) = vars-sound l inner ih q k h s₁ s′ e₃ in
+      let y = STRING ∷ byte-string-bytes b ++ integer-bytes k ++ d .text in
       record {
-        tree = λ r. fBox (header-of 7 0 b k true) fEnd (d .forest) r;
-        text = INSTANCE-VARIABLES ∷ STRING ∷ byte-string-bytes b ++ integer-bytes k ++ d .text;
-        wrote = wrote-then size _ _ _ (z₁ ++ integer-bytes k) (d .text) (wrote-then size _ _ _ z₁ (integer-bytes k) w₃ w₂) (d .wrote);
-        writes = λ m r y i t. string-text l j k m b r (d .forest) (d .text) y z i (d .writes) t;
-        says = λ r ws σ f. eBox {us = []} {ms = ms} x eEnd ni (from-num (ap num u) (d .says)) f;
+        tree = λ r. fBox (header-of 7 0 b k true (optional-present w)) (c .forest) (d .forest) r;
+        text = (INSTANCE-VARIABLES ∷ c .text) ++ y;
+        wrote = wrote-then size _ _ _ (INSTANCE-VARIABLES ∷ c .text) y (wrote-then size _ _ _ (INSTANCE-VARIABLES ∷ []) (c .text) w₀ (c .wrote))
+            (wrote-then size _ _ _ _ _ (wrote-then size _ _ _ _ _ (c .wrote-bytes) w₁) (d .wrote));
+        writes = λ m r o i t. regroup (INSTANCE-VARIABLES ∷ c .text) y o (string-text l j k m b r (c .writes) (d .forest) (d .text) o z i (d .writes) t);
+        says = λ r ws σ f. eBox {us = optional-node w} {ms = ms} x (c .says (s .objects)) ni (same-objects (c .objects) (d .says)) f;
       }
 
   user-vars-sound : (limit l : ℕ) (inner : ℕ → Writer) → Sound l inner → (v p n c q k : ℕ) → At (A .nodes) v (user p n c (present q k)) → Name A c → PairsIn A q k → (s s′ : Written)
@@ -351,15 +413,15 @@ module _ (size : ℕ) (A : Arena) where
       let b = range (A .bytes) p n in
       let ms = range (A .references) q (k * 2) in
       let x = see-at A v (user p n c (present q k)) a in
-      object-sound size (seen A) l v _ (header-of 8 0 b k true) (c ∷ ms) s s′ x e λ ni e₁.
+      object-sound size (seen A) l v _ (header-of 8 0 b k true false) (c ∷ ms) s s′ x e λ ni e₁.
       let (w, j, z, s₁, e₂, e₃) = un-variables limit l inner (write size (USER-DEFINED ∷ []) >> write-name size A c >> write size (byte-string-bytes b)) q k _ s′ e₁ in
-      let y = class-sound l inner ih c b nm _ s₁ e₂ in
+      let y = user-head l inner ih c b nm _ s₁ e₂ in
       let (w₂, d) = vars-sound l inner ih q k h s₁ s′ e₃ in
       let z₀ : List ℕ = USER-DEFINED ∷ item-bytes (y .as-item) ++ byte-string-bytes b in
       let z₁ : List ℕ = INSTANCE-VARIABLES ∷ z₀ in
       let w₃ = wrote-then size _ _ _ (INSTANCE-VARIABLES ∷ []) z₀ w (y .wrote) in
       record {
-        tree = λ r. fBox (header-of 8 0 b k true) (item false (y .as-item) fEnd) (d .forest) r;
+        tree = λ r. fBox (header-of 8 0 b k true false) (item false (y .as-item) fEnd) (d .forest) r;
         text = INSTANCE-VARIABLES ∷ USER-DEFINED ∷ item-bytes (y .as-item) ++ byte-string-bytes b ++ integer-bytes k ++ d .text;
         wrote = wrote-then size _ _ _ (z₁ ++ integer-bytes k) (d .text) (wrote-then size _ _ _ z₁ (integer-bytes k) w₃ w₂) (d .wrote);
         writes = λ m r o i t. user-text l j k m b r (y .as-item) (d .forest) (d .text) o z i (d .writes) t;
@@ -388,14 +450,14 @@ module _ (size : ℕ) (A : Arena) where
     row-sound v (bool false) a h s s′ e = leaf-sound v (FALSE ∷ []) 1 0 s s′ (see-at A v (bool false) a) (λ m r x i t. tFalse i t) e
     row-sound v (fixnum w) a h s s′ e = leaf-sound v (FIXNUM ∷ integer-bytes w) 2 w s s′ (see-at A v (fixnum w) a) (λ m r x i t. tFixnum i (fx v w a) t) e
     row-sound v (symbol p n) a h s s′ e = value-of v s s′ (symbol-sound size (seen A) v (range (A .bytes) p n) s s′ (see-at A v (symbol p n) a) e)
-    row-sound v (array p n) a h s s′ e = array-sound l inner ih v p n a h s s′ e
-    row-sound v (hash p n d) a h s s′ e = hash-sound l inner ih v p n d a (h .0) (h .1) s s′ e
+    row-sound v (array p n w) a h s s′ e = array-sound l inner ih v p n w a (h .0) (h .1) s s′ e
+    row-sound v (hash p n d w) a h s s′ e = hash-sound l inner ih v p n d w a (h .0) (h .1) (h .2) s s′ e
     row-sound v (object p n c) a h s s′ e = variables-sound l inner ih v p n c a (h .0) (h .1) s s′ e
-    row-sound v (string p n absent) a h s s′ e = text-sound l inner ih text-string v p n a s s′ e
-    row-sound v (string p n (present q k)) a h s s′ e = string-vars-sound limit l inner ih v p n q k a (h .1) s s′ e
+    row-sound v (string p n absent w) a h s s′ e = string-sound l inner ih v p n w a (h .2) s s′ e
+    row-sound v (string p n (present q k) w) a h s s′ e = string-vars-sound limit l inner ih v p n q k w a (h .1) (h .2) s s′ e
     row-sound v (user p n c absent) a h s s′ e = user-sound l inner ih v p n c a (h .1) s s′ e
     row-sound v (user p n c (present q k)) a h s s′ e = user-vars-sound limit l inner ih v p n c q k a (h .1) (h .2) s s′ e
-    row-sound v (float p n) a h s s′ e = text-sound l inner ih text-float v p n a s s′ e
+    row-sound v (float p n) a h s s′ e = float-sound l inner ih v p n a s s′ e
     row-sound v (bignum low high m) a h s s′ e = bignum-sound l inner ih v low high m a h s s′ e
 
   module _ (ρ : Right A) (fx : Fixnums A) (limit : ℕ) where

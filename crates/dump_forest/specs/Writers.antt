@@ -10,16 +10,16 @@ use lib.Dec.{leb, eqb}
 use lib.ListN.{length, length-append}
 use native.Mathlib.Omega.{arith}
 use borrow.Author.Tests.{eqb-true, eqb-false, eq-eqb, ne-eqb, leb-true, le-leb}
+use Rattle.definition.specs.Node.{optional-node}
 use Rattle.definition.specs.Run.{Outcome, ok, refused, pure, next, _>>=_, pick}
 use Rattle.definition.specs.Integer.{integer-bytes}
 use Rattle.definition.specs.Kind.{SYMBOL, SYMBOL-LINK}
 use Rattle.definition.specs.Dump.{Written, Writer, _>>_, write, number-in, byte-string-bytes, write-elements, write-default}
 use Rattle.definition.specs.Arena.{Arena}
-use Rattle.definition.specs.Graph.{default-link}
 use Rattle.definition.specs.Slice.{OUTPUT}
 use Rattle.definition.specs.declared.Refusal.the-variants.{NoSpace}
 use Rattle.lists.specs.Lists.{At, NotIn, Distinct, apart}
-use Rattle.graph.specs.Forest.{Num, F, fEnd, fSym, fSymref, Mode, pairs, value-pairs, name, name-pairs, after, IsValue, Text, tName, tNameLink, tOneName, tOneLink, tClass, tClassLink, tSymbol, tSymbolLink}
+use Rattle.graph.specs.Forest.{Num, F, fEnd, fSym, fSymref, OneName, one-new, one-link, Mode, pairs, value-pairs, name-pairs, after, IsValue, Text, tName, tNameLink, tClass, tClassLink, tSymbol, tSymbolLink}
 
 -- what is numbered when s is written
 abbrev pub num : Written → Num
@@ -146,9 +146,9 @@ pub item-name : (i : Item) {l n : ℕ} {x : List ℕ} {r : F} → Text (value-pa
 item-name (new b) t = tName t
 item-name (again k) t = tNameLink t
 
-pub item-one : (i : Item) (l : ℕ) → Text name l (item false i fEnd) (item-bytes i)
-item-one (new b) l = tOneName
-item-one (again k) l = tOneLink
+pub item-one : (i : Item) → OneName (item false i fEnd) (item-bytes i)
+item-one (new b) = one-new
+item-one (again k) = one-link
 
 pub item-class : (i : Item) {l n : ℕ} {x : List ℕ} {r : F} → Text (pairs n) l r x → Text (name-pairs n) l (item false i r) (item-bytes i ++ integer-bytes n ++ x)
 item-class (new b) t = tClass t
@@ -167,22 +167,22 @@ elements-cons inner v vs s s₁ s′ p q = then-ok (inner v) (write-elements inn
 -- a default is one member more
 module _ (size : ℕ) (A : Arena) (inner : ℕ → Writer) where
   pub join-default : (l : List ℕ) (d : ℕ) (s s₁ s′ : Written) → write-elements inner l s ≡ ok tt s₁ → write-default size A inner d s₁ ≡ ok tt s′
-      → write-elements inner (l ++ default-link d) s ≡ ok tt s′
-  unfolding write-elements write-default default-link pure
+      → write-elements inner (l ++ optional-node d) s ≡ ok tt s′
+  unfolding write-elements write-default optional-node pure
   join-default [] zero s s₁ s′ p q = p ∙ q
   join-default [] (suc d) s s₁ s′ p q = elements-cons inner d [] s s′ s′ (let z : s ≡ s₁ = ok-inj s s₁ p in rw z q) refl
   join-default (v ∷ l) d s s₁ s′ p q =
       let (s₂, e₁, e₂) = un-then (inner v) (write-elements inner l) s s₁ p in
-      elements-cons inner v (l ++ default-link d) s s₂ s′ e₁ (join-default l d s₂ s₁ s′ e₂ q)
+      elements-cons inner v (l ++ optional-node d) s s₂ s′ e₁ (join-default l d s₂ s₁ s′ e₂ q)
 
-  pub part-default : (l : List ℕ) (d : ℕ) (s s′ : Written) → write-elements inner (l ++ default-link d) s ≡ ok tt s′
+  pub part-default : (l : List ℕ) (d : ℕ) (s s′ : Written) → write-elements inner (l ++ optional-node d) s ≡ ok tt s′
       → (s₁ : Written) × (write-elements inner l s ≡ ok tt s₁) × (write-default size A inner d s₁ ≡ ok tt s′)
-  unfolding write-elements write-default default-link pure
+  unfolding write-elements write-default optional-node pure
   part-default [] zero s s′ p = (s, refl, p)
   part-default [] (suc d) s s′ p =
       let (s₁, e₁, e₂) = un-then (inner d) (write-elements inner []) s s′ p in
       (s, refl, e₁ ∙ e₂)
   part-default (v ∷ l) d s s′ p =
-      let (s₂, e₁, e₂) = un-then (inner v) (write-elements inner (l ++ default-link d)) s s′ p in
+      let (s₂, e₁, e₂) = un-then (inner v) (write-elements inner (l ++ optional-node d)) s s′ p in
       let (s₁, e₃, e₄) = part-default l d s₂ s′ e₂ in
       (s₁, elements-cons inner v l s s₂ s₁ e₁ e₃, e₄)

@@ -3,8 +3,11 @@
 // A case, from word 2 on: the lengths of the three tables; the four counts; the lengths of scratch and output; the limit; the byte
 // at which the byte table stands; what is expected: the answer's number and two details, the number of bytes written, how many
 // bytes are given, and the byte at which these stand; then the node words and references.
+use console::BYTES;
+use console::NODES;
+use console::NUMBERED;
+use console::REFERENCES;
 use definition::Dumped;
-use definition::Node;
 use dump::dump;
 use replay_cases::bytes_agree;
 use replay_cases::bytes_at;
@@ -44,8 +47,6 @@ const GIVEN: usize = 17;
 const GIVEN_AT: usize = 18;
 
 const TABLES: usize = 19;
-
-const NODES: usize = 1000 * Node::WIDTH;
 
 fn dumped_agrees(data: &[u8], r: Dumped, scratch: &[u32], output: &[u8]) -> bool {
     let answer = r.answer;
@@ -91,9 +92,9 @@ fn fitted_agrees(
 
 pub fn agree(data: &[u8]) -> bool {
     let mut nodes = [0u32; NODES];
-    let mut references = [0u32; 4000];
-    let mut scratch = [0u32; 4000];
-    let mut output = [0u8; 16384];
+    let mut references = [0u32; REFERENCES];
+    let mut scratch = [0u32; NUMBERED];
+    let mut output = [0u8; BYTES];
     let n = words_at(&data[..], SIZES, &nodes);
     let r = words_at(&data[..], SIZES + 1, &references);
     let s = words_at(&data[..], SCRATCH, &scratch);

@@ -10,60 +10,54 @@ use lib.ListN.{length, getD, take, drop}
 use borrow.Author.Tests.{eq-eqb, ne-eqb}
 use Rattle.definition.specs.Run.{pure, pick}
 use Rattle.definition.specs.Integer.{integer-bytes}
-use Rattle.definition.specs.Kind.{ARRAY, HASH, HASH-DEFAULT, OBJECT, STRING, USER-DEFINED, FLOAT, BIGNUM}
-use Rattle.definition.specs.Node.{width, symbol, array, hash, object, string, user, float, bignum, kind, vars, LIST, COUNT}
+use Rattle.definition.specs.Kind.{INSTANCE-VARIABLES, ARRAY, HASH, HASH-DEFAULT, OBJECT, STRING, USER-DEFINED, FLOAT, BIGNUM}
+use Rattle.definition.specs.Node.{width, array, hash, object, string, user, float, bignum, kind, vars, LIST, COUNT}
 use Rattle.definition.specs.Magnitude.{magnitude, bignum-bytes}
 use Rattle.definition.specs.Arena.{Arena, node, range}
-use Rattle.definition.specs.Dump.{Writer, _>>_, write, write-elements, write-default, write-name, byte-string-bytes, write-instance-variables, write-variables, write-object-or-link, write-row, hash-byte}
-use Rattle.lists.specs.Lists.{at-lt}
+use Rattle.definition.specs.Dump.{Writer, _>>_, write, write-elements, write-default, write-class, byte-string-bytes, write-instance-variables, write-variables, write-object-or-link, write-row, hash-byte}
 use Rattle.lists.specs.Rows.{kind-of, kind-low, row-4, row-5, row-6, row-7, row-8, row-9, row-10}
-use Rattle.well_formed.specs.Nodes.{node-at, Name}
+use Rattle.well_formed.specs.Nodes.{Name}
 use Rattle.well_formed.specs.Right.{BytesIn, PairsIn, VarsRight}
-use Rattle.writer.specs.Held.{Noded, Lent, IsSymbol}
-use Rattle.writer.specs.Laws.{assoc, unit-right, write-join}
-use Rattle.writer.proofs.Names.{right-row, string-bytes}
-use Rattle.object_writer.specs.Values.{IsObject, begun, opened, texted}
+use Rattle.writer.specs.Held.{Noded, Lent, IsSymbol, named}
+use Rattle.writer.specs.Laws.{assoc, unit-left, unit-right}
+use Rattle.writer.proofs.Names.{right-row, string-bytes, is-symbol}
+use Rattle.object_writer.specs.Values.{IsObject, begun, opened, classed, texted}
 use Rattle.dumper.specs.Members.{listed, default-of, members-of, MembersIn}
-use Rattle.object_writer.proofs.Openings.{begun-join}
 
 -- ---- what a row says
-
-pub is-symbol : {A : Arena} (c : ℕ) → Name A c → IsSymbol A c
-unfolding kind
-is-symbol {A} c (s, l, e) = record { below = at-lt (A .nodes) c (symbol s l) e; kind-three = ap kind (node-at A c (symbol s l) e) }
 
 module _ {A : Arena} {no : List ℕ} (N : Noded A no) (v : ℕ) (below : v < length (A .nodes)) where
   pub is-object : (k : ℕ) → getD no (v * width) 0 ≡ k → 3 < k → k ≤ 10 → IsObject A v
   is-object k e h l =
-      let q : kind (node A v) ≡ getD no (v * width) 0 = ap kind (N .row-at v below) ∙ kind-of _ _ _ _ _ _ _ (omega arith) in
+      let q : kind (node A v) ≡ getD no (v * width) 0 = ap kind (N .row-at v below) ∙ kind-of _ _ _ _ _ _ _ _ (omega arith) in
       record { below = below; kind-above = omega arith }
 
   abbrev w : ℕ → ℕ
   w i = getD no (v * width + i) 0
 
   pub low-kind : (getD no (v * width) 0 ≡ 4 → ⊥) → (getD no (v * width) 0 ≡ 5 → ⊥) → (getD no (v * width) 0 ≡ 6 → ⊥) → (getD no (v * width) 0 ≡ 7 → ⊥) → (getD no (v * width) 0 ≡ 8 → ⊥) → (getD no (v * width) 0 ≡ 9 → ⊥) → (getD no (v * width) 0 ≡ 10 → ⊥) → kind (node A v) ≤ 3
-  low-kind a b c d f g h = rw (N .row-at v below) (kind-low (getD no (v * width) 0) (w 1) (w 2) (w 3) (w 4) (w 5) (w 6) a b c d f g h)
+  low-kind a b c d f g h = rw (N .row-at v below) (kind-low (getD no (v * width) 0) (w 1) (w 2) (w 3) (w 4) (w 5) (w 6) (w 7) a b c d f g h)
 
-  pub array-row : getD no (v * width) 0 ≡ 4 → node A v ≡ array (w 3) (w 4)
-  array-row e = N .row-at v below ∙ row-4 _ _ _ _ _ _ _ e
+  pub array-row : getD no (v * width) 0 ≡ 4 → node A v ≡ array (w 3) (w 4) (w 7)
+  array-row e = N .row-at v below ∙ row-4 _ _ _ _ _ _ _ _ e
 
-  pub hash-row : getD no (v * width) 0 ≡ 5 → node A v ≡ hash (w 3) (w 4) (w 6)
-  hash-row e = N .row-at v below ∙ row-5 _ _ _ _ _ _ _ e
+  pub hash-row : getD no (v * width) 0 ≡ 5 → node A v ≡ hash (w 3) (w 4) (w 6) (w 7)
+  hash-row e = N .row-at v below ∙ row-5 _ _ _ _ _ _ _ _ e
 
   pub object-row : getD no (v * width) 0 ≡ 6 → node A v ≡ object (w 3) (w 4) (w 5)
-  object-row e = N .row-at v below ∙ row-6 _ _ _ _ _ _ _ e
+  object-row e = N .row-at v below ∙ row-6 _ _ _ _ _ _ _ _ e
 
-  pub string-row : getD no (v * width) 0 ≡ 7 → node A v ≡ string (w 1) (w 2) (vars (w 6) (w 3) (w 4))
-  string-row e = N .row-at v below ∙ row-7 _ _ _ _ _ _ _ e
+  pub string-row : getD no (v * width) 0 ≡ 7 → node A v ≡ string (w 1) (w 2) (vars (w 6) (w 3) (w 4)) (w 7)
+  string-row e = N .row-at v below ∙ row-7 _ _ _ _ _ _ _ _ e
 
   pub user-row : getD no (v * width) 0 ≡ 8 → node A v ≡ user (w 1) (w 2) (w 5) (vars (w 6) (w 3) (w 4))
-  user-row e = N .row-at v below ∙ row-8 _ _ _ _ _ _ _ e
+  user-row e = N .row-at v below ∙ row-8 _ _ _ _ _ _ _ _ e
 
   pub float-row : getD no (v * width) 0 ≡ 9 → node A v ≡ float (w 1) (w 2)
-  float-row e = N .row-at v below ∙ row-9 _ _ _ _ _ _ _ e
+  float-row e = N .row-at v below ∙ row-9 _ _ _ _ _ _ _ _ e
 
   pub bignum-row : getD no (v * width) 0 ≡ 10 → node A v ≡ bignum (w 1) (w 2) (eqb (w 4) 1)
-  bignum-row e = N .row-at v below ∙ row-10 _ _ _ _ _ _ _ e
+  bignum-row e = N .row-at v below ∙ row-10 _ _ _ _ _ _ _ _ e
 
 pub default-byte : {X Y : Type 0} (room : ℕ) (A : Arena) (d k : ℕ) → (X → d ≡ 0) → (Y → d ≡ 0 → ⊥) → (X × (k ≡ HASH)) ⊎ (Y × (k ≡ HASH-DEFAULT)) → k ≡ hash-byte room A d
 unfolding hash-byte
@@ -97,24 +91,30 @@ module _ (room : ℕ) (A : Arena) (inner : ℕ → Writer) (k s n f : ℕ) where
 -- ---- beginnings
 
 module _ (room : ℕ) (A : Arena) (level : Writer) (inner : ℕ → Writer) (v : ℕ) where
-  pub array-open : (k s n f : ℕ) → node A v ≡ array s n → k ≡ 4 → write-row room A level inner v (node A v) ≡ opened room v (ARRAY ∷ integer-bytes n) (members-of room A inner k s n f)
-  unfolding write-row
-  array-open k s n f e q = ap (write-row room A level inner v) e ∙ ap (opened room v (ARRAY ∷ integer-bytes n)) (sym (members-array room A inner k s n f q))
+  -- the class w, the byte b and the count, and then the members
+  listed-open : (w b n : ℕ) (members : Writer) → write-object-or-link room v (write-class room A w >> write room (b ∷ integer-bytes n) >> members) ≡ classed room A v w (b ∷ integer-bytes n) members
+  listed-open w b n members = ap (write-object-or-link room v) (assoc (write-class room A w) (write room (b ∷ integer-bytes n)) members)
 
-  pub hash-open : (b k s n f : ℕ) → node A v ≡ hash s n f → b ≡ hash-byte room A f → k ≡ 5 → write-row room A level inner v (node A v) ≡ opened room v (b ∷ integer-bytes n) (members-of room A inner k s n f)
+  pub array-open : (k s n f w : ℕ) → node A v ≡ array s n w → k ≡ 4 → write-row room A level inner v (node A v) ≡ classed room A v w (ARRAY ∷ integer-bytes n) (members-of room A inner k s n f)
   unfolding write-row
-  hash-open b k s n f e p q =
+  array-open k s n f w e q =
       ap (write-row room A level inner v) e
-      ∙ ap (write-object-or-link room v) (assoc (write room (hash-byte room A f ∷ integer-bytes n)) (write-elements inner (range (A .references) s (n * 2))) (write-default room A inner f))
-      ∙ (λ i. opened room v (sym p i ∷ integer-bytes n) (write-elements inner (range (A .references) s (n * 2)) >> write-default room A inner f))
-      ∙ ap (opened room v (b ∷ integer-bytes n)) (sym (members-hash room A inner k s n f q))
+      ∙ listed-open w ARRAY n (write-elements inner (range (A .references) s n))
+      ∙ ap (classed room A v w (ARRAY ∷ integer-bytes n)) (sym (members-array room A inner k s n f q))
 
-  pub object-open : (s n c name : ℕ) → node A v ≡ object s n c → name ≡ c → write-row room A level inner v (node A v) ≡ opened room v (OBJECT ∷ []) (write-name room A name >> write-instance-variables room A inner s n)
+  pub hash-open : (b k s n f w : ℕ) → node A v ≡ hash s n f w → b ≡ hash-byte room A f → k ≡ 5 → write-row room A level inner v (node A v) ≡ classed room A v w (b ∷ integer-bytes n) (members-of room A inner k s n f)
+  unfolding write-row
+  hash-open b k s n f w e p q =
+      ap (write-row room A level inner v) e
+      ∙ ap (write-object-or-link room v) (assoc (write-class room A w >> write room (hash-byte room A f ∷ integer-bytes n)) (write-elements inner (range (A .references) s (n * 2))) (write-default room A inner f))
+      ∙ listed-open w (hash-byte room A f) n _
+      ∙ (λ i. classed room A v w (sym p i ∷ integer-bytes n) (write-elements inner (range (A .references) s (n * 2)) >> write-default room A inner f))
+      ∙ ap (classed room A v w (b ∷ integer-bytes n)) (sym (members-hash room A inner k s n f q))
+
+  pub object-open : (s n c name : ℕ) → node A v ≡ object s n c → name ≡ c → write-row room A level inner v (node A v) ≡ write-object-or-link room v (named room A OBJECT name >> write-instance-variables room A inner s n)
   unfolding write-row
   object-open s n c name e p =
-      ap (write-row room A level inner v) e
-      ∙ ap (write-object-or-link room v) (assoc (write room (OBJECT ∷ [])) (write-name room A c) (write-instance-variables room A inner s n))
-      ∙ λ i. opened room v (OBJECT ∷ []) (write-name room A (sym p i) >> write-instance-variables room A inner s n)
+      ap (write-row room A level inner v) e ∙ λ i. write-object-or-link room v (named room A OBJECT (sym p i) >> write-instance-variables room A inner s n)
 
   pub bignum-open : (low high : ℕ) (m : Bool) → node A v ≡ bignum low high m → write-row room A level inner v (node A v) ≡ opened room v (BIGNUM ∷ bignum-bytes m (magnitude low high)) (pure tt)
   unfolding write-row
@@ -134,33 +134,33 @@ module _ (room : ℕ) (A : Arena) (level : Writer) (inner : ℕ → Writer) (v :
   after-some zero p n e = absurd (e refl)
   after-some (suc f) p n e = refl
 
-  variables-after : (f p n : ℕ) (body : Writer) → write-variables room A level inner body (vars f p n) ≡ begun room level f body (after f p n)
+  variables-after : (f p n : ℕ) (body : Writer) → write-variables room A level inner body (vars f p n) ≡ begun room level f (body >> after f p n)
   unfolding write-variables vars begun after
   variables-after zero p n body = sym (unit-right body)
-  variables-after (suc f) p n body = refl
+  variables-after (suc f) p n body = assoc (write room (INSTANCE-VARIABLES ∷ []) >> level) body (write-instance-variables room A inner p n)
 
   module _ {no by : List ℕ} (L : Lent A no by) (s l : ℕ) (inside : BytesIn A s l) where
-    -- byte k and the bytes, and what comes after them
-    text-open : (f p n k : ℕ) → write-object-or-link room v (write-variables room A level inner (write room (k ∷ byte-string-bytes (range (A .bytes) s l))) (vars f p n)) ≡ texted room v level f k (integer-bytes l ++ take l (drop s by)) (after f p n)
-    text-open f p n k =
-        ap (λ (b : List ℕ). write-object-or-link room v (write-variables room A level inner (write room (k ∷ b)) (vars f p n))) (string-bytes s l L inside)
-        ∙ ap (write-object-or-link room v) (variables-after f p n _ ∙ ap (λ (m : Writer). begun room level f m (after f p n)) (write-join room (k ∷ []) _) ∙ begun-join room level f _ _ _)
+    -- the class, byte k and the bytes, and what comes after them
+    text-open : (f p n w k : ℕ) → write-object-or-link room v (write-variables room A level inner (write-class room A w >> write room (k ∷ byte-string-bytes (range (A .bytes) s l))) (vars f p n)) ≡ texted room A v level f w (k ∷ (integer-bytes l ++ take l (drop s by))) (after f p n)
+    text-open f p n w k =
+        ap (λ (b : List ℕ). write-object-or-link room v (write-variables room A level inner (write-class room A w >> write room (k ∷ b)) (vars f p n))) (string-bytes s l L inside)
+        ∙ ap (write-object-or-link room v) (variables-after f p n _ ∙ ap (begun room level f) (assoc (write-class room A w) _ (after f p n)))
 
-    pub string-open : (f p n : ℕ) → node A v ≡ string s l (vars f p n) → write-row room A level inner v (node A v) ≡ texted room v level f STRING (integer-bytes l ++ take l (drop s by)) (after f p n)
+    pub string-open : (f p n w : ℕ) → node A v ≡ string s l (vars f p n) w → write-row room A level inner v (node A v) ≡ texted room A v level f w (STRING ∷ (integer-bytes l ++ take l (drop s by))) (after f p n)
     unfolding write-row
-    string-open f p n e = ap (write-row room A level inner v) e ∙ text-open f p n STRING
+    string-open f p n w e = ap (write-row room A level inner v) e ∙ text-open f p n w STRING
 
-    pub float-open : node A v ≡ float s l → write-row room A level inner v (node A v) ≡ texted room v level 0 FLOAT (integer-bytes l ++ take l (drop s by)) (pure tt)
-    unfolding write-row write-variables vars after
-    float-open e = ap (write-row room A level inner v) e ∙ text-open 0 0 0 FLOAT
+    pub float-open : node A v ≡ float s l → write-row room A level inner v (node A v) ≡ texted room A v level 0 0 (FLOAT ∷ (integer-bytes l ++ take l (drop s by))) (pure tt)
+    unfolding write-row write-variables write-class vars after
+    float-open e = ap (write-row room A level inner v) e ∙ ap (write-object-or-link room v) (sym (unit-left _)) ∙ text-open 0 0 0 0 FLOAT
 
-    pub user-open : (f p n c name : ℕ) → name ≡ c → node A v ≡ user s l c (vars f p n) → write-row room A level inner v (node A v) ≡ write-object-or-link room v (begun room level f (write room (USER-DEFINED ∷ [])) (write-name room A name >> (write room (integer-bytes l ++ take l (drop s by)) >> after f p n)))
+    pub user-open : (f p n c name : ℕ) → name ≡ c → node A v ≡ user s l c (vars f p n) → write-row room A level inner v (node A v) ≡ write-object-or-link room v (begun room level f (named room A USER-DEFINED name >> (write room (integer-bytes l ++ take l (drop s by)) >> after f p n)))
     unfolding write-row
     user-open f p n c name q e =
         ap (write-row room A level inner v) e
-        ∙ ap (λ (b : List ℕ). write-object-or-link room v (write-variables room A level inner (write room (USER-DEFINED ∷ []) >> write-name room A c >> write room b) (vars f p n))) (string-bytes s l L inside)
-        ∙ ap (λ (x : ℕ). write-object-or-link room v (write-variables room A level inner (write room (USER-DEFINED ∷ []) >> write-name room A x >> write room (integer-bytes l ++ take l (drop s by))) (vars f p n))) (sym q)
-        ∙ ap (write-object-or-link room v) (variables-after f p n _ ∙ begun-join room level f _ _ _ ∙ begun-join room level f _ _ _)
+        ∙ ap (λ (b : List ℕ). write-object-or-link room v (write-variables room A level inner (named room A USER-DEFINED c >> write room b) (vars f p n))) (string-bytes s l L inside)
+        ∙ ap (λ (x : ℕ). write-object-or-link room v (write-variables room A level inner (named room A USER-DEFINED x >> write room (integer-bytes l ++ take l (drop s by))) (vars f p n))) (sym q)
+        ∙ ap (write-object-or-link room v) (variables-after f p n _ ∙ ap (begun room level f) (assoc (named room A USER-DEFINED name) _ (after f p n)))
 
 -- a list that is there
 pub vars-present : {A : Arena} (f p n : ℕ) → (f ≡ 0 → ⊥) → VarsRight A (vars f p n) → PairsIn A p n
@@ -184,8 +184,8 @@ in-pairs t v a b P = rw (ne-eqb (getD t (v * width) 0) 4 a, ne-eqb (getD t (v * 
 module _ {A : Arena} {no by : List ℕ} (L : Lent A no by) (v : ℕ) (below : v < length (A .nodes)) where
   pub in-array : getD no (v * width) 0 ≡ 4 → MembersIn A no v
   unfolding listed default-of pick
-  in-array e = let right = right-row L v below _ (array-row (L .noded) v below e) in rw e (right, omega arith)
+  in-array e = let right = right-row L v below _ (array-row (L .noded) v below e) in rw e (right .0, omega arith)
 
   pub in-hash : getD no (v * width) 0 ≡ 5 → MembersIn A no v
   unfolding listed default-of pick
-  in-hash e = let right = right-row L v below _ (hash-row (L .noded) v below e) in rw e right
+  in-hash e = let right = right-row L v below _ (hash-row (L .noded) v below e) in rw e (right .0, right .1)

@@ -16,10 +16,10 @@ use Rattle.well_formed.specs.Nodes.{node-at}
 use Rattle.well_formed.specs.Right.{PairsIn}
 use Rattle.writer.specs.Held.{Buffers, Listed, IsSymbol, Leads, Meets}
 use Rattle.writer.specs.Laws.{assoc, unit-right, lead-as, lead-after, lead-first, lead-goes, lead-stop}
+use Rattle.writer.proofs.Names.{is-symbol}
 use Rattle.writer.proofs.Scalars.{symbol-same}
 use Rattle.writer.proofs.Members.{listed-at, value-deep, value-row}
 use Rattle.object_writer.specs.Laws.{deep}
-use Rattle.dumper.proofs.Heads.{is-symbol}
 
 first-of : (l : List ℕ) → 0 < length l → At (firsts l) 0 (getD l 0 0)
 unfolding firsts

@@ -7,10 +7,11 @@ use definition::LIMIT;
 use definition::Node;
 use definition::Slice;
 use definition::ValueKind;
+use object_writer::number_object;
 use object_writer::open_bignum;
+use object_writer::open_classed;
 use object_writer::open_list;
 use object_writer::open_marked;
-use object_writer::open_object;
 use object_writer::open_text;
 use object_writer::whole;
 use writer::DEEP;
@@ -18,6 +19,7 @@ use writer::DONE;
 use writer::WHOLE;
 use writer::write_byte_string;
 use writer::write_fixnum;
+use writer::write_named;
 use writer::write_scalar;
 use writer::write_symbol;
 ghost use mathlib.Core.Path.{_≡_};
@@ -87,16 +89,17 @@ fn open_named(
     ensures { λ r. ⌜ ((A : Arena) (room limit : ℕ) → Lent A (now (nodes .entry)) (now (bytes .entry)) → Listed A (now (references .entry)) → v < length (A .nodes) → Heads A room limit (write-row room A (write-level limit levels) (write-value room A limit levels) v (node A v)) (members-of room A (write-value room A limit levels) 6 (getD (now (nodes .entry)) (v * width + LIST) 0) (getD (now (nodes .entry)) (v * width + COUNT) 0) (getD (now (nodes .entry)) (v * width + DEFAULT) 0)) (buffers (now (scratch .entry)) (now (output .entry))) (now (c .entry)) r (buffers (now (scratch .exit)) (now (output .exit))) (now (c .exit))) ⌝ }
     ensures { λ r. ⌜ ((A : Arena) → Lent A (now (nodes .entry)) (now (bytes .entry)) → v < length (A .nodes) → r ≡ 0 → MembersIn A (now (nodes .entry)) v) ⌝ }
 {
-    let w = open_object(scratch, output, c, v, ValueKind::OBJECT);
+    let w = number_object(scratch, output, c, v);
     if w != DONE {
         return w;
     }
-    let s = write_symbol(
+    let s = write_named(
         &nodes[..],
         &bytes[..],
         scratch,
         output,
         c,
+        ValueKind::OBJECT,
         size(nodes[v * Node::WIDTH + Node::NAME]),
     );
     if s != DONE {
@@ -140,6 +143,7 @@ fn open_string(
         v,
         ValueKind::STRING,
         f,
+        nodes[v * Node::WIDTH + Node::CLASS],
         levels,
     );
     if w != DONE {
@@ -177,16 +181,17 @@ fn open_user_defined(
     ensures { λ r. ⌜ ((A : Arena) → Lent A (now (nodes .entry)) (now (bytes .entry)) → v < length (A .nodes) → r ≡ 0 → MembersIn A (now (nodes .entry)) v) ⌝ }
 {
     let f = nodes[v * Node::WIDTH + Node::VARIABLES];
-    let w = open_marked(scratch, output, c, v, ValueKind::USER_DEFINED, f, levels);
+    let w = open_marked(scratch, output, c, v, f, levels);
     if w != DONE {
         return w;
     }
-    let x = write_symbol(
+    let x = write_named(
         &nodes[..],
         &bytes[..],
         scratch,
         output,
         c,
+        ValueKind::USER_DEFINED,
         size(nodes[v * Node::WIDTH + Node::NAME]),
     );
     if x != DONE {
@@ -234,28 +239,36 @@ pub fn open_value(
     ensures { λ r. ⌜ ((A : Arena) → Lent A (now (nodes .entry)) (now (bytes .entry)) → v < length (A .nodes) → r ≡ 0 → MembersIn A (now (nodes .entry)) v) ⌝ }
 {
     match nodes[v * Node::WIDTH] {
-        Node::ARRAY => open_list(
-            scratch,
-            output,
-            c,
-            v,
-            ValueKind::ARRAY,
-            nodes[v * Node::WIDTH + Node::COUNT],
-        ),
+        Node::ARRAY => {
+            let n = nodes[v * Node::WIDTH + Node::COUNT];
+            let class = nodes[v * Node::WIDTH + Node::CLASS];
+            if class == 0 {
+                return open_list(scratch, output, c, v, ValueKind::ARRAY, n);
+            }
+            open_classed(
+                &nodes[..],
+                &bytes[..],
+                scratch,
+                output,
+                c,
+                v,
+                ValueKind::ARRAY,
+                n,
+                class,
+            )
+        }
         Node::HASH => {
             let k = if nodes[v * Node::WIDTH + Node::DEFAULT] == 0 {
                 ValueKind::HASH
             } else {
                 ValueKind::HASH_DEFAULT
             };
-            open_list(
-                scratch,
-                output,
-                c,
-                v,
-                k,
-                nodes[v * Node::WIDTH + Node::COUNT],
-            )
+            let n = nodes[v * Node::WIDTH + Node::COUNT];
+            let class = nodes[v * Node::WIDTH + Node::CLASS];
+            if class == 0 {
+                return open_list(scratch, output, c, v, k, n);
+            }
+            open_classed(&nodes[..], &bytes[..], scratch, output, c, v, k, n, class)
         }
         Node::OBJECT => open_named(
             &nodes[..],
@@ -295,6 +308,7 @@ pub fn open_value(
             c,
             v,
             ValueKind::FLOAT,
+            0,
             0,
             levels,
         )),

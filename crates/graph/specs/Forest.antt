@@ -8,13 +8,13 @@ use lib.Dec.{eqb}
 use lib.ListN.{length}
 use Rattle.definition.specs.Run.{pick}
 use Rattle.definition.specs.Integer.{integer-bytes}
-use Rattle.definition.specs.Kind.{NIL, TRUE, FALSE, FIXNUM, SYMBOL, SYMBOL-LINK, OBJECT-LINK, INSTANCE-VARIABLES, ARRAY, HASH, HASH-DEFAULT, OBJECT, STRING, USER-DEFINED, FLOAT, BIGNUM}
+use Rattle.definition.specs.Kind.{NIL, TRUE, FALSE, FIXNUM, SYMBOL, SYMBOL-LINK, OBJECT-LINK, INSTANCE-VARIABLES, ARRAY, HASH, HASH-DEFAULT, OBJECT, STRING, USER-DEFINED, FLOAT, BIGNUM, USER-CLASS}
 use Rattle.definition.specs.Magnitude.{bignum-bytes}
 use Rattle.definition.specs.Dump.{byte-string-bytes}
 use Rattle.definition.specs.Graph.{Header, header-of}
 use Rattle.well_formed.specs.Right.{NumberRight}
 
--- a node of a graph. leaf: kind 0 to 2 and the value; sym: a name; box: kinds 4 to 10, the members being the name, the elements or pairs, and the default, in this order
+-- a node of a graph. leaf: kind 0 to 2 and the value; sym: a name; box: kinds 4 to 10, the members being the name or the class, the elements or pairs, and the default, in this order
 pub data Node : Type 0 where
   leaf : ℕ → ℕ → Node
   sym : List ℕ → Node
@@ -34,7 +34,7 @@ addS v σ = record { objs = σ .objs; syms = σ .syms ++ (v ∷ []) }
 abbrev pub fresh : Num
 fresh = record { objs = []; syms = [] }
 
--- a forest: each constructor is a first tree and the trees after it. fBox h p f: p is what is read before the node is added (the name of `u`), f the rest of its members; a name's mark is false, a symbol value's true; fIv f p: variables p put on the value f, as no dump writes them
+-- a forest: each constructor is a first tree and the trees after it. fBox h p f: p is what is read before the node is added (the name of `u`, a class), f the rest of its members; a name's mark is false, a symbol value's true; fIv f p: variables p put on the value f, as no dump writes them
 pub data F : Type 0 where
   fEnd : F
   fLeaf : ℕ → ℕ → F → F
@@ -121,12 +121,20 @@ node-sym (box h ms) = 0
 
 -- ---- the bytes of a forest
 
--- what is to come: values; n pairs; a value and then n pairs; one name; a name, then n pairs (with the number n written between)
+-- one name, and a class or none: the forest and its bytes
+pub data OneName : F → List ℕ → Type 0 where
+  one-new : {b : List ℕ} → OneName (fSym false b fEnd) (SYMBOL ∷ byte-string-bytes b)
+  one-link : {k : ℕ} → OneName (fSymref false k fEnd) (SYMBOL-LINK ∷ integer-bytes k)
+
+pub data Class : Bool → F → List ℕ → Type 0 where
+  no-class : Class false fEnd []
+  a-class : {p : F} {z : List ℕ} → OneName p z → Class true p (USER-CLASS ∷ z)
+
+-- what is to come: values; n pairs; a value and then n pairs; a name, then n pairs (with the number n written between)
 pub data Mode : Type 0 where
   values : Mode
   pairs : ℕ → Mode
   value-pairs : ℕ → Mode
-  name : Mode
   name-pairs : ℕ → Mode
 
 -- after a value
@@ -134,7 +142,6 @@ abbrev pub after : Mode → Mode
 after values = values
 after (pairs n) = pairs n
 after (value-pairs n) = pairs n
-after name = name
 after (name-pairs n) = name-pairs n
 
 -- may a value come?
@@ -142,15 +149,14 @@ abbrev pub IsValue : Mode → Type 0
 IsValue values = Unit {0}
 IsValue (pairs n) = ⊥
 IsValue (value-pairs n) = Unit {0}
-IsValue name = ⊥
 IsValue (name-pairs n) = ⊥
 
--- a value that is a byte string and nothing more, a string without variables or a Float: its kind byte and its kind
-pub data Texted : ℕ → ℕ → Type 0 where
-  text-string : Texted STRING 7
-  text-float : Texted FLOAT 9
+-- a value that is a byte string and nothing more, a string without variables or a Float: its kind byte, its kind, and has it a class?
+pub data Texted : ℕ → ℕ → Bool → Type 0 where
+  text-string : {c : Bool} → Texted STRING 7 c
+  text-float : Texted FLOAT 9 false
 
-pub high-text : {k n : ℕ} → Texted k n → 7 ≤ n
+pub high-text : {k n : ℕ} {c : Bool} → Texted k n c → 7 ≤ n
 high-text text-string = omega arith
 high-text text-float = omega arith
 
@@ -160,8 +166,6 @@ pub data Text : Mode → ℕ → F → List ℕ → Type 0 where
   tEndPairs : {l : ℕ} → Text (pairs 0) l fEnd []
   tName : {l n : ℕ} {b x : List ℕ} {r : F} → Text (value-pairs n) l r x → Text (pairs (suc n)) l (fSym false b r) (SYMBOL ∷ byte-string-bytes b ++ x)
   tNameLink : {l n k : ℕ} {x : List ℕ} {r : F} → Text (value-pairs n) l r x → Text (pairs (suc n)) l (fSymref false k r) (SYMBOL-LINK ∷ integer-bytes k ++ x)
-  tOneName : {l : ℕ} {b : List ℕ} → Text name l (fSym false b fEnd) (SYMBOL ∷ byte-string-bytes b)
-  tOneLink : {l k : ℕ} → Text name l (fSymref false k fEnd) (SYMBOL-LINK ∷ integer-bytes k)
   tClass : {l n : ℕ} {b x : List ℕ} {r : F} → Text (pairs n) l r x → Text (name-pairs n) l (fSym false b r) (SYMBOL ∷ byte-string-bytes b ++ integer-bytes n ++ x)
   tClassLink : {l n k : ℕ} {x : List ℕ} {r : F} → Text (pairs n) l r x → Text (name-pairs n) l (fSymref false k r) (SYMBOL-LINK ∷ integer-bytes k ++ integer-bytes n ++ x)
   tNil : {m : Mode} {l : ℕ} {x : List ℕ} {r : F} → IsValue m → Text (after m) (suc l) r x → Text m (suc l) (fLeaf 0 0 r) (NIL ∷ x)
@@ -171,21 +175,21 @@ pub data Text : Mode → ℕ → F → List ℕ → Type 0 where
   tSymbol : {m : Mode} {l : ℕ} {b x : List ℕ} {r : F} → IsValue m → Text (after m) (suc l) r x → Text m (suc l) (fSym true b r) (SYMBOL ∷ byte-string-bytes b ++ x)
   tSymbolLink : {m : Mode} {l k : ℕ} {x : List ℕ} {r : F} → IsValue m → Text (after m) (suc l) r x → Text m (suc l) (fSymref true k r) (SYMBOL-LINK ∷ integer-bytes k ++ x)
   tObjectLink : {m : Mode} {l k : ℕ} {x : List ℕ} {r : F} → IsValue m → Text (after m) (suc l) r x → Text m (suc l) (fRef k r) (OBJECT-LINK ∷ integer-bytes k ++ x)
-  tArray : {m : Mode} {l n : ℕ} {x y : List ℕ} {f r : F} → IsValue m → trees f ≡ n → Text values l f y → Text (after m) (suc l) r x
-      → Text m (suc l) (fBox (header-of 4 0 [] n false) fEnd f r) (ARRAY ∷ integer-bytes n ++ y ++ x)
-  tHash : {m : Mode} {l n : ℕ} {x y : List ℕ} {f r : F} → IsValue m → trees f ≡ n * 2 → Text values l f y → Text (after m) (suc l) r x
-      → Text m (suc l) (fBox (header-of 5 0 [] n false) fEnd f r) (HASH ∷ integer-bytes n ++ y ++ x)
-  tHashDefault : {m : Mode} {l n : ℕ} {x y : List ℕ} {f r : F} → IsValue m → trees f ≡ n * 2 + 1 → Text values l f y → Text (after m) (suc l) r x
-      → Text m (suc l) (fBox (header-of 5 0 [] n true) fEnd f r) (HASH-DEFAULT ∷ integer-bytes n ++ y ++ x)
+  tArray : {m : Mode} {l n : ℕ} {c : Bool} {x y z : List ℕ} {p f r : F} → IsValue m → Class c p z → trees f ≡ n → Text values l f y → Text (after m) (suc l) r x
+      → Text m (suc l) (fBox (header-of 4 0 [] n false c) p f r) (z ++ (ARRAY ∷ integer-bytes n ++ y ++ x))
+  tHash : {m : Mode} {l n : ℕ} {c : Bool} {x y z : List ℕ} {p f r : F} → IsValue m → Class c p z → trees f ≡ n * 2 → Text values l f y → Text (after m) (suc l) r x
+      → Text m (suc l) (fBox (header-of 5 0 [] n false c) p f r) (z ++ (HASH ∷ integer-bytes n ++ y ++ x))
+  tHashDefault : {m : Mode} {l n : ℕ} {c : Bool} {x y z : List ℕ} {p f r : F} → IsValue m → Class c p z → trees f ≡ n * 2 + 1 → Text values l f y → Text (after m) (suc l) r x
+      → Text m (suc l) (fBox (header-of 5 0 [] n true c) p f r) (z ++ (HASH-DEFAULT ∷ integer-bytes n ++ y ++ x))
   tObject : {m : Mode} {l n : ℕ} {x y : List ℕ} {f r : F} → IsValue m → Text (name-pairs n) l f y → Text (after m) (suc l) r x
-      → Text m (suc l) (fBox (header-of 6 0 [] n false) fEnd f r) (OBJECT ∷ y ++ x)
-  tText : {m : Mode} {l k n : ℕ} {b x : List ℕ} {r : F} → Texted k n → IsValue m → Text (after m) (suc l) r x
-      → Text m (suc l) (fBox (header-of n 0 b 0 false) fEnd fEnd r) (k ∷ byte-string-bytes b ++ x)
+      → Text m (suc l) (fBox (header-of 6 0 [] n false false) fEnd f r) (OBJECT ∷ y ++ x)
+  tText : {m : Mode} {l k n : ℕ} {c : Bool} {b x z : List ℕ} {p r : F} → Texted k n c → IsValue m → Class c p z → Text (after m) (suc l) r x
+      → Text m (suc l) (fBox (header-of n 0 b 0 false c) p fEnd r) (z ++ (k ∷ byte-string-bytes b ++ x))
   tBignum : {m : Mode} {l n : ℕ} {minus : Bool} {x : List ℕ} {r : F} → IsValue m → NumberRight n minus → Text (after m) (suc l) r x
-      → Text m (suc l) (fBox (header-of 10 n [] 0 minus) fEnd fEnd r) (BIGNUM ∷ bignum-bytes minus n ++ x)
-  tStringVars : {m : Mode} {l n : ℕ} {b x y : List ℕ} {f r : F} → IsValue m → Text (pairs n) (suc l) f y → Text (after m) (suc (suc l)) r x
-      → Text m (suc (suc l)) (fBox (header-of 7 0 b n true) fEnd f r) (INSTANCE-VARIABLES ∷ STRING ∷ byte-string-bytes b ++ integer-bytes n ++ y ++ x)
-  tUser : {m : Mode} {l : ℕ} {b x z : List ℕ} {p r : F} → IsValue m → Text name l p z → Text (after m) (suc l) r x
-      → Text m (suc l) (fBox (header-of 8 0 b 0 false) p fEnd r) (USER-DEFINED ∷ z ++ byte-string-bytes b ++ x)
-  tUserVars : {m : Mode} {l n : ℕ} {b x y z : List ℕ} {p f r : F} → IsValue m → Text name l p z → Text (pairs n) (suc l) f y → Text (after m) (suc (suc l)) r x
-      → Text m (suc (suc l)) (fBox (header-of 8 0 b n true) p f r) (INSTANCE-VARIABLES ∷ USER-DEFINED ∷ z ++ byte-string-bytes b ++ integer-bytes n ++ y ++ x)
+      → Text m (suc l) (fBox (header-of 10 n [] 0 minus false) fEnd fEnd r) (BIGNUM ∷ bignum-bytes minus n ++ x)
+  tStringVars : {m : Mode} {l n : ℕ} {c : Bool} {b x y z : List ℕ} {p f r : F} → IsValue m → Class c p z → Text (pairs n) (suc l) f y → Text (after m) (suc (suc l)) r x
+      → Text m (suc (suc l)) (fBox (header-of 7 0 b n true c) p f r) (INSTANCE-VARIABLES ∷ z ++ (STRING ∷ byte-string-bytes b ++ integer-bytes n ++ y ++ x))
+  tUser : {m : Mode} {l : ℕ} {b x z : List ℕ} {p r : F} → IsValue m → OneName p z → Text (after m) (suc l) r x
+      → Text m (suc l) (fBox (header-of 8 0 b 0 false false) p fEnd r) (USER-DEFINED ∷ z ++ byte-string-bytes b ++ x)
+  tUserVars : {m : Mode} {l n : ℕ} {b x y z : List ℕ} {p f r : F} → IsValue m → OneName p z → Text (pairs n) (suc l) f y → Text (after m) (suc (suc l)) r x
+      → Text m (suc (suc l)) (fBox (header-of 8 0 b n true false) p f r) (INSTANCE-VARIABLES ∷ USER-DEFINED ∷ z ++ byte-string-bytes b ++ integer-bytes n ++ y ++ x)

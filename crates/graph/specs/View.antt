@@ -2,13 +2,13 @@
 use Prim.Native.Nat.{ℕ, zero, suc, _<_}
 use mathlib.Core.Path.{_≡_, refl}
 use mathlib.Core.Bool.{Bool, true, false}
-use mathlib.Core.List.{List, [], map}
+use mathlib.Core.List.{List, [], map, append-nil}
 use lib.ListN.{length}
-use Rattle.definition.specs.Node.{Row, nil, bool, fixnum, symbol, array, hash, object, string, user, float, bignum, absent, kind}
+use Rattle.definition.specs.Node.{Row, nil, bool, fixnum, symbol, array, hash, object, string, user, float, bignum, absent, kind, optional-node, optional-present}
 use Rattle.definition.specs.Arena.{Arena, node, range}
 use Rattle.definition.specs.State.{State}
 use Rattle.definition.specs.Graph.{Header, header-of, header, links, vars-links, vars-count, vars-present}
-use Rattle.lists.specs.Lists.{At, at-lt, map-at, map-at-inv}
+use Rattle.lists.specs.Lists.{apart, At, at-lt, map-at, map-at-inv}
 use Rattle.well_formed.specs.Nodes.{node-at}
 use Rattle.graph.specs.Forest.{Node, leaf, sym, box, Texted, text-string, text-float}
 use Rattle.graph.specs.Build.{St}
@@ -35,21 +35,21 @@ header-kind A (bool false) = refl
 header-kind A (bool true) = refl
 header-kind A (fixnum w) = refl
 header-kind A (symbol s l) = refl
-header-kind A (array s n) = refl
-header-kind A (hash s n d) = refl
+header-kind A (array s n w) = refl
+header-kind A (hash s n d w) = refl
 header-kind A (object s n c) = refl
-header-kind A (string s l v) = refl
+header-kind A (string s l v w) = refl
 header-kind A (user s l c v) = refl
 header-kind A (float s l) = refl
 header-kind A (bignum low high m) = refl
 
 -- the headers and links that rows have: a leaf's value and a symbol's bytes stand alone
 pub data Headed : Header → List ℕ → Type 0 where
-  nil-headed : (x : ℕ) → Headed (header-of 0 x [] 0 false) []
-  bool-headed : (x : ℕ) → Headed (header-of 1 x [] 0 false) []
-  fixnum-headed : (x : ℕ) → Headed (header-of 2 x [] 0 false) []
-  symbol-headed : (b : List ℕ) → Headed (header-of 3 0 b 0 false) []
-  box-headed : (k x : ℕ) (b : List ℕ) (n : ℕ) (p : Bool) (ms : List ℕ) → Headed (header-of (suc (suc (suc (suc k)))) x b n p) ms
+  nil-headed : (x : ℕ) → Headed (header-of 0 x [] 0 false false) []
+  bool-headed : (x : ℕ) → Headed (header-of 1 x [] 0 false false) []
+  fixnum-headed : (x : ℕ) → Headed (header-of 2 x [] 0 false false) []
+  symbol-headed : (b : List ℕ) → Headed (header-of 3 0 b 0 false false) []
+  box-headed : (k x : ℕ) (b : List ℕ) (n : ℕ) (p c : Bool) (ms : List ℕ) → Headed (header-of (suc (suc (suc (suc k)))) x b n p c) ms
 
 pub headed : (A : Arena) (r : Row) → Headed (header A r) (links A r)
 unfolding header links
@@ -58,24 +58,30 @@ headed A (bool false) = bool-headed 0
 headed A (bool true) = bool-headed 1
 headed A (fixnum w) = fixnum-headed w
 headed A (symbol s l) = symbol-headed (range (A .bytes) s l)
-headed A (array s n) = box-headed 0 _ _ _ _ _
-headed A (hash s n d) = box-headed 1 _ _ _ _ _
-headed A (object s n c) = box-headed 2 _ _ _ _ _
-headed A (string s l v) = box-headed 3 _ _ _ _ _
-headed A (user s l c v) = box-headed 4 _ _ _ _ _
-headed A (float s l) = box-headed 5 _ _ _ _ _
-headed A (bignum low high m) = box-headed 6 _ _ _ _ _
+headed A (array s n w) = box-headed 0 _ _ _ _ _ _
+headed A (hash s n d w) = box-headed 1 _ _ _ _ _ _
+headed A (object s n c) = box-headed 2 _ _ _ _ _ _
+headed A (string s l v w) = box-headed 3 _ _ _ _ _ _
+headed A (user s l c v) = box-headed 4 _ _ _ _ _ _
+headed A (float s l) = box-headed 5 _ _ _ _ _ _
+headed A (bignum low high m) = box-headed 6 _ _ _ _ _ _
 
--- the row of a byte string and nothing more, by where its bytes start and how many they are
-abbrev pub text-row : {k n : ℕ} → Texted k n → ℕ → ℕ → Row
-text-row text-string s l = string s l absent
-text-row text-float s l = float s l
+-- the row of a byte string and nothing more, by where its bytes start, how many they are, and a string's class
+abbrev pub text-row : {k n : ℕ} {c : Bool} → Texted k n c → ℕ → ℕ → ℕ → Row
+text-row text-string s l w = string s l absent w
+text-row text-float s l w = float s l
 
--- it is seen as a box without members
-pub see-text : {k n : ℕ} (q : Texted k n) (A : Arena) (s l : ℕ) (b : List ℕ) → range (A .bytes) s l ≡ b → see A (text-row q s l) ≡ box (header-of n 0 b 0 false) []
-unfolding see header links vars-count vars-present vars-links
-see-text text-string A s l b e = rw e
-see-text text-float A s l b e = rw e
+-- no class is the word 0
+pub no-class-word : (w : ℕ) → optional-present w ≡ false → w ≡ 0
+unfolding optional-present
+no-class-word zero e = refl
+no-class-word (suc c) e = apart (cc)
+
+-- it is seen as a box whose only member is its class
+pub see-text : {k n : ℕ} {c : Bool} (q : Texted k n c) (A : Arena) (s l w : ℕ) (b : List ℕ) → optional-present w ≡ c → range (A .bytes) s l ≡ b → see A (text-row q s l w) ≡ box (header-of n 0 b 0 false c) (optional-node w)
+unfolding see header links vars-count vars-present vars-links optional-node
+see-text text-string A s l w b o e = rw (o, e, append-nil (optional-node w)) refl
+see-text text-float A s l w b o e = rw (no-class-word w o, e) refl
 
 unfoldable pub seen : Arena → List Node
 seen A = map (see A) (A .nodes)

@@ -1,5 +1,5 @@
 -- A value by its kind byte.
-use Prim.Native.Nat.{ℕ, suc, _+_, _-_, _≤_, _<_}
+use Prim.Native.Nat.{ℕ, suc, _+_, _-_, _<_}
 use native.Mathlib.Omega.{arith}
 use mathlib.Core.Path.{_≡_, sym, ap, subst}
 use mathlib.Core.List.{List}
@@ -9,8 +9,8 @@ use Rattle.definition.specs.Load.{Head, head, value-of, read-value}
 use Rattle.definition.specs.declared.Refusal.the-variants.{TooDeep}
 use Rattle.load_state.specs.Holds.{Lent, Goes, Leads, at-of}
 use Rattle.reader.specs.Answers.{coded, at-level}
-use Rattle.load_state.specs.Laws.{goes-first, lead-first, lead-stop, lead-as, refuses}
-use Rattle.input_reader.proofs.Input.{byte-goes, byte-missing}
+use Rattle.load_state.specs.Laws.{goes-first, lead-as, refuses}
+use Rattle.input_reader.proofs.Input.{byte-goes}
 use Rattle.load_state.specs.Places.{AT}
 
 -- ---- a value after its kind byte
@@ -23,13 +23,6 @@ module _ {input : List ℕ} {room : Room} {T : Lent} {c : List ℕ} (limit level
       let a : levels ≡ suc (levels - 1) = omega arith in
       let rest = read-value input room limit (levels - 1) in
       subst (λ x. Goes input room (read-value input room limit x) T c (value-of input room rest (getD input (at-of c) 0) (head (getD input (at-of c) 0))) T (set c AT (at-of c + 1))) (sym a) (goes-first (λ k. value-of input room rest k (head k)) (byte-goes l))
-
-  pub kind-missing : {T' : Lent} {c' : List ℕ} {m' : Reader ℕ} → (levels ≡ 0 → ⊥) → length input ≤ at-of c → Leads input room limit (read-value input room limit levels) m' T c (coded 4 0) T' c'
-  unfolding read-value
-  kind-missing {T'} {c'} {m'} n l =
-      let a : levels ≡ suc (levels - 1) = omega arith in
-      subst (λ x. Leads input room limit (read-value input room limit x) m' T c (coded 4 0) T' c') (sym a)
-      (lead-stop {T' = T} {c' = c} (omega arith) (lead-first {a = 0} (λ k. value-of input room (read-value input room limit (levels - 1)) k (head k)) (byte-missing l)))
 
   pub level-missing : {T' : Lent} {c' : List ℕ} {m' : Reader ℕ} → levels ≡ 0 → Leads input room limit (read-value input room limit levels) m' T c (coded 11 0) T' c'
   unfolding read-value

@@ -157,11 +157,11 @@ module _ {input : List ℕ} {room : Room} {T : Lent} {c : List ℕ} (b n m : ℕ
 -- ---- the node's words
 
 module _ (b m : ℕ) where
-  pub plus-words : sign (eqb b MINUS) m ≡ false → words (bignum-row (eqb b MINUS) m) ≡ 10 ∷ m % WORD ∷ m / WORD ∷ 0 ∷ 0 ∷ 0 ∷ 0 ∷ []
+  pub plus-words : sign (eqb b MINUS) m ≡ false → words (bignum-row (eqb b MINUS) m) ≡ 10 ∷ m % WORD ∷ m / WORD ∷ 0 ∷ 0 ∷ 0 ∷ 0 ∷ 0 ∷ []
   unfolding bignum-row words
   plus-words e = rw e refl
 
-  pub minus-words : sign (eqb b MINUS) m ≡ true → words (bignum-row (eqb b MINUS) m) ≡ 10 ∷ m % WORD ∷ m / WORD ∷ 0 ∷ 1 ∷ 0 ∷ 0 ∷ []
+  pub minus-words : sign (eqb b MINUS) m ≡ true → words (bignum-row (eqb b MINUS) m) ≡ 10 ∷ m % WORD ∷ m / WORD ∷ 0 ∷ 1 ∷ 0 ∷ 0 ∷ 0 ∷ []
   unfolding bignum-row words
   minus-words e = rw e refl
 

@@ -1,2 +1,3 @@
 -- What these functions are proved against.
 pub mod Parts
+pub mod Classes

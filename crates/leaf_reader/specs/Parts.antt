@@ -3,7 +3,7 @@ use Prim.Native.Nat.{ℕ}
 use mathlib.Core.Path.{_≡_}
 use mathlib.Core.List.{List}
 use Rattle.definition.specs.Run.{_>>=_}
-use Rattle.definition.specs.Kind.{INSTANCE-VARIABLES, ARRAY, HASH, HASH-DEFAULT, OBJECT}
+use Rattle.definition.specs.Kind.{INSTANCE-VARIABLES, ARRAY, HASH, HASH-DEFAULT, OBJECT, USER-CLASS}
 use Rattle.definition.specs.Node.{array, hash, object}
 use Rattle.definition.specs.State.{Room, Reader}
 use Rattle.definition.specs.Load.{read-unit-count, read-magnitude}
@@ -15,6 +15,7 @@ pub record Leaf (k : ℕ) : Type 0 where
   pub default : k ≡ HASH-DEFAULT → ⊥
   pub object : k ≡ OBJECT → ⊥
   pub variables : k ≡ INSTANCE-VARIABLES → ⊥
+  pub class : k ≡ USER-CLASS → ⊥
 
 -- the rest of a Bignum whose sign byte was b
 abbrev pub read-number : List ℕ → Room → ℕ → Reader ℕ

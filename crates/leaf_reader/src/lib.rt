@@ -1,4 +1,4 @@
-// Values without members.
+// Values without members, and the class before a value.
 //
 // What is lent and the counts `c` hold a state of the definition before a call. Below REFUSED the number answered is the
 // value that the definition's reader gives there, and a state is held again; from REFUSED on it is the reader's refusal.
@@ -19,6 +19,7 @@ use reader::INVALID_KIND;
 use reader::MISSING_OBJECT;
 use reader::REFUSED;
 use reader::SHORT_INPUT;
+use reader::not_wrappable;
 use reader::sign_byte;
 use reader::wide;
 use symbol_reader::entry_at;
@@ -33,15 +34,16 @@ ghost use mathlib.Core.List.{List, [], _∷_};
 ghost use Prim.Native.Nat.{ℕ, _+_, _*_, _/_, _%_, _<_, _≤_};
 ghost use mathlib.Core.Logic.{_⊎_};
 ghost use lib.Dec.{eqb};
-ghost use lib.ListN.{length};
+ghost use lib.ListN.{length, getD};
 ghost use Rattle.definition.specs.Integer.{low-bytes};
 ghost use Rattle.definition.specs.Magnitude.{sign, sign-byte, bignum-row};
-ghost use Rattle.definition.specs.Kind.{STRING, PLUS, MINUS};
+ghost use Rattle.definition.specs.Kind.{STRING, USER-CLASS, PLUS, MINUS};
 ghost use Rattle.definition.specs.Node.{Row, words};
 ghost use Rattle.definition.specs.State.{Room, Reader};
-ghost use Rattle.definition.specs.Load.{read-fixnum, read-object-link, read-text, read-user-defined, read-sign, read-magnitude, read-bignum, add-bignum, value-of, head, add-object-node};
+ghost use Rattle.definition.specs.Load.{read-fixnum, read-object-link, read-text, read-user-defined, read-sign, read-magnitude, read-bignum, add-bignum, add-object-node};
 ghost use Rattle.load_state.specs.Holds.{Symbols, Lent, lent, by-buckets, Held, Somewhere, Goes, Leads, Meets, Plain, at-of, nodes-of};
 ghost use Rattle.leaf_reader.specs.Parts.{Leaf, read-number, WORD};
+ghost use Rattle.leaf_reader.specs.Classes.{wrappable, named-class, read-class, valued, Follows};
 ghost use Rattle.reader.specs.Answers.{REFUSED};
 
 // A magnitude is two words of its node, each below this.
@@ -67,10 +69,10 @@ fn read_fixnum(input: &[u8], nodes: &mut [u32], c: &mut [usize; COUNTS]) -> u64
     if REFUSED <= n {
         return n;
     }
-    add_node(nodes, c, Node::FIXNUM, n as u32, 0, 0, 0)
+    add_node(nodes, c, Node::FIXNUM, n as u32, 0, 0, 0, 0)
 }
 
-// A byte string and its node: a string's, a float's, or a user-defined's with its name.
+// A byte string and its node: a string's with its class, a float's, or a user-defined's with its name.
 fn read_text(
     input: &[u8],
     nodes: &mut [u32],
@@ -79,9 +81,10 @@ fn read_text(
     c: &mut [usize; COUNTS],
     kind: u32,
     name: u32,
+    class: u32,
 ) -> u64
     requires { ⌜ ((re : List ℕ) × (sy : Symbols) × Held (now input) (lent (now nodes) re (now bytes) sy (now objects)) (now c)) ⌝ }
-    ensures { λ r. ⌜ ((room : Room) (limit : ℕ) (row : ℕ → ℕ → Row) (re : List ℕ) (sy : Symbols) → ((start n : ℕ) → words (row start n) ≡ kind ∷ start ∷ n ∷ 0 ∷ 0 ∷ name ∷ 0 ∷ []) → ((start n : ℕ) → Plain (row start n)) → Meets (now (input .entry)) room limit (read-text (now (input .entry)) room row) (lent (now (nodes .entry)) re (now (bytes .entry)) sy (now (objects .entry))) (now (c .entry)) r (lent (now (nodes .exit)) re (now (bytes .exit)) sy (now (objects .exit))) (now (c .exit))) ⌝ }
+    ensures { λ r. ⌜ ((room : Room) (limit : ℕ) (row : ℕ → ℕ → Row) (re : List ℕ) (sy : Symbols) → ((start n : ℕ) → words (row start n) ≡ kind ∷ start ∷ n ∷ 0 ∷ 0 ∷ name ∷ 0 ∷ class ∷ []) → ((start n : ℕ) → Plain (row start n)) → Meets (now (input .entry)) room limit (read-text (now (input .entry)) room row) (lent (now (nodes .entry)) re (now (bytes .entry)) sy (now (objects .entry))) (now (c .entry)) r (lent (now (nodes .exit)) re (now (bytes .exit)) sy (now (objects .exit))) (now (c .exit))) ⌝ }
     ensures { λ r. ⌜ (r < REFUSED → r < nodes-of (now (c .exit))) ⌝ }
 {
     let n = read_byte_string(&input[..], c);
@@ -92,7 +95,17 @@ fn read_text(
     if REFUSED <= start {
         return start;
     }
-    add_object_node(nodes, objects, c, kind, start as u32, n as u32, 0, name)
+    add_object_node(
+        nodes,
+        objects,
+        c,
+        kind,
+        start as u32,
+        n as u32,
+        0,
+        name,
+        class,
+    )
 }
 
 // A Bignum's sign byte.
@@ -130,7 +143,7 @@ fn read_units(input: &[u8], c: &mut [usize; COUNTS]) -> u64
 
 // A magnitude's sign as its node has it, by the sign byte: zero is plus.
 fn sign_word(b: u64, m: u64) -> u32
-    ensures { λ r. ⌜ words (bignum-row (eqb b MINUS) m) ≡ 10 ∷ m % WORD ∷ m / WORD ∷ 0 ∷ r ∷ 0 ∷ 0 ∷ [] ⌝ }
+    ensures { λ r. ⌜ words (bignum-row (eqb b MINUS) m) ≡ 10 ∷ m % WORD ∷ m / WORD ∷ 0 ∷ r ∷ 0 ∷ 0 ∷ 0 ∷ [] ⌝ }
 {
     if b != Bignum::MINUS as u64 {
         return 0;
@@ -193,6 +206,7 @@ fn read_magnitude(
         (m / WORD) as u32,
         sign_word(b, m),
         0,
+        0,
     )
 }
 
@@ -239,6 +253,7 @@ fn read_user_defined(
         c,
         Node::USER_DEFINED,
         name as u32,
+        0,
     )
 }
 
@@ -253,7 +268,8 @@ fn text_kind(k: u8) -> u32
     }
 }
 
-// A value that has no members, after its kind byte k; another kind byte is refused.
+// A value that has no members, after its kind byte k and with this class, which only a string may have; another kind byte is
+// refused.
 pub fn read_leaf(
     input: &[u8],
     nodes: &mut [u32],
@@ -263,21 +279,22 @@ pub fn read_leaf(
     buckets: &mut [u32],
     c: &mut [usize; COUNTS],
     k: u8,
+    class: u32,
 ) -> u64
     requires { ⌜ ((re : List ℕ) × Held (now input) (lent (now nodes) re (now bytes) (by-buckets (now symbols) (now buckets)) (now objects)) (now c)) ⌝ }
-    ensures { λ r. ⌜ ((room : Room) (limit : ℕ) (inner : Reader ℕ) (re : List ℕ) → Leaf k → Meets (now (input .entry)) room limit (value-of (now (input .entry)) room inner k (head k)) (lent (now (nodes .entry)) re (now (bytes .entry)) (by-buckets (now (symbols .entry)) (now (buckets .entry))) (now (objects .entry))) (now (c .entry)) r (lent (now (nodes .exit)) re (now (bytes .exit)) (by-buckets (now (symbols .exit)) (now (buckets .exit))) (now (objects .exit))) (now (c .exit))) ⌝ }
+    ensures { λ r. ⌜ ((room : Room) (limit : ℕ) (inner : Reader ℕ) (re : List ℕ) → Leaf k → (class ≡ 0) ⊎ (k ≡ STRING) → Meets (now (input .entry)) room limit (valued (now (input .entry)) room inner k class) (lent (now (nodes .entry)) re (now (bytes .entry)) (by-buckets (now (symbols .entry)) (now (buckets .entry))) (now (objects .entry))) (now (c .entry)) r (lent (now (nodes .exit)) re (now (bytes .exit)) (by-buckets (now (symbols .exit)) (now (buckets .exit))) (now (objects .exit))) (now (c .exit))) ⌝ }
     ensures { λ r. ⌜ (r < REFUSED → r < nodes-of (now (c .exit))) ⌝ }
 {
     match k {
         ValueKind::FIXNUM => read_fixnum(&input[..], nodes, c),
         ValueKind::SYMBOL_LINK => read_symbol_link(&input[..], symbols, c),
         ValueKind::STRING | ValueKind::FLOAT => {
-            read_text(&input[..], nodes, bytes, objects, c, text_kind(k), 0)
+            read_text(&input[..], nodes, bytes, objects, c, text_kind(k), 0, class)
         }
         ValueKind::SYMBOL => read_symbol(&input[..], nodes, bytes, symbols, buckets, c),
-        ValueKind::NIL => add_node(nodes, c, Node::NIL, 0, 0, 0, 0),
-        ValueKind::TRUE => add_node(nodes, c, Node::BOOL, 1, 0, 0, 0),
-        ValueKind::FALSE => add_node(nodes, c, Node::BOOL, 0, 0, 0, 0),
+        ValueKind::NIL => add_node(nodes, c, Node::NIL, 0, 0, 0, 0, 0),
+        ValueKind::TRUE => add_node(nodes, c, Node::BOOL, 1, 0, 0, 0, 0),
+        ValueKind::FALSE => add_node(nodes, c, Node::BOOL, 0, 0, 0, 0, 0),
         ValueKind::OBJECT_LINK => read_object_link(&input[..], objects, c),
         ValueKind::USER_DEFINED => {
             read_user_defined(&input[..], nodes, bytes, symbols, objects, buckets, c)
@@ -285,4 +302,68 @@ pub fn read_leaf(
         ValueKind::BIGNUM => read_bignum(&input[..], nodes, objects, c),
         _ => INVALID_KIND + k as u64,
     }
+}
+
+// ---- a class
+
+// Can a value of this kind byte have a class?
+fn is_wrappable(k: u8) -> bool
+    ensures { λ r. ⌜ r ≡ wrappable k ⌝ }
+{
+    (k == ValueKind::STRING)
+        | (k == ValueKind::ARRAY)
+        | (k == ValueKind::HASH)
+        | (k == ValueKind::HASH_DEFAULT)
+}
+
+// The name after `C`, which stands at the offset: the class as a node holds it. The kind byte after it is looked at and left.
+fn read_class_name(
+    input: &[u8],
+    nodes: &mut [u32],
+    bytes: &mut [u8],
+    symbols: &mut [u32],
+    buckets: &mut [u32],
+    c: &mut [usize; COUNTS],
+) -> u64
+    requires { ⌜ (at-of (now c) < length (now input)) × ((re : List ℕ) × (ob : List ℕ) × Held (now input) (lent (now nodes) re (now bytes) (by-buckets (now symbols) (now buckets)) ob) (now c)) ⌝ }
+    ensures { λ r. ⌜ ((room : Room) (limit : ℕ) (re ob : List ℕ) → Meets (now (input .entry)) room limit (named-class (now (input .entry)) room) (lent (now (nodes .entry)) re (now (bytes .entry)) (by-buckets (now (symbols .entry)) (now (buckets .entry))) ob) (now (c .entry)) r (lent (now (nodes .exit)) re (now (bytes .exit)) (by-buckets (now (symbols .exit)) (now (buckets .exit))) ob) (now (c .exit))) ⌝ }
+    ensures { λ r. ⌜ (r < REFUSED → Follows r (getD (now (input .entry)) (at-of (now (c .exit))) 0)) ⌝ }
+{
+    c[AT] = c[AT] + 1;
+    let name = read_symbol_like(&input[..], nodes, bytes, symbols, buckets, c);
+    if REFUSED <= name {
+        return name;
+    }
+    let at = c[AT];
+    if input.len() <= at {
+        return SHORT_INPUT;
+    }
+    let k = input[at];
+    if !is_wrappable(k) {
+        return not_wrappable(k);
+    }
+    name + 1
+}
+
+// The class of the value that comes next, as a node holds it: 0 where no `C` comes.
+pub fn read_class(
+    input: &[u8],
+    nodes: &mut [u32],
+    bytes: &mut [u8],
+    symbols: &mut [u32],
+    buckets: &mut [u32],
+    c: &mut [usize; COUNTS],
+) -> u64
+    requires { ⌜ ((re : List ℕ) × (ob : List ℕ) × Held (now input) (lent (now nodes) re (now bytes) (by-buckets (now symbols) (now buckets)) ob) (now c)) ⌝ }
+    ensures { λ r. ⌜ ((room : Room) (limit : ℕ) (re ob : List ℕ) → Meets (now (input .entry)) room limit (read-class (now (input .entry)) room) (lent (now (nodes .entry)) re (now (bytes .entry)) (by-buckets (now (symbols .entry)) (now (buckets .entry))) ob) (now (c .entry)) r (lent (now (nodes .exit)) re (now (bytes .exit)) (by-buckets (now (symbols .exit)) (now (buckets .exit))) ob) (now (c .exit))) ⌝ }
+    ensures { λ r. ⌜ (r < REFUSED → Follows r (getD (now (input .entry)) (at-of (now (c .exit))) 0)) ⌝ }
+{
+    let at = c[AT];
+    if input.len() <= at {
+        return 0;
+    }
+    if input[at] != ValueKind::USER_CLASS {
+        return 0;
+    }
+    read_class_name(&input[..], nodes, bytes, symbols, buckets, c)
 }

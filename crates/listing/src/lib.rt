@@ -51,7 +51,7 @@ fn byte_of(table: &[u8], i: usize) -> u64 {
     }
 }
 
-// Node i: its number and its seven words.
+// Node i: its number and its words.
 fn put_node(out: &mut [u8], at: usize, nodes: &[u32], i: usize) -> usize {
     let mut p = put_number(out, at, i as u64);
     for j in 0..Node::WIDTH {

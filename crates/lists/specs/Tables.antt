@@ -9,7 +9,7 @@ use lib.Seq.{drop-drop, getD-take, getD-drop}
 use native.Mathlib.Omega.{arith}
 use borrow.Author.Tests.{le-leb}
 use Rattle.definition.specs.Run.{pick}
-use Rattle.definition.specs.Node.{nil, width, row, row-of, rows, START, LENGTH, LIST, COUNT, NAME, DEFAULT}
+use Rattle.definition.specs.Node.{nil, width, row, row-of, rows, START, LENGTH, LIST, COUNT, NAME, DEFAULT, CLASS}
 use Rattle.definition.specs.Arena.{Arena, Tables, arena, node-right, faulty, counts-fit, fault-if, fault}
 use Rattle.definition.specs.Build.{words-at}
 use Rattle.definition.specs.declared.Counts.{Counts}
@@ -33,10 +33,10 @@ rows-at zero t i h = absurd (omega arith)
 rows-at (suc n) t zero h = refl
 rows-at (suc n) t (suc i) h = rows-at n (drop width t) i (omega arith) ∙ ap row (words-next t i)
 
--- the row that its seven words say
-pub words-said : (t : List ℕ) (i : ℕ) → row (take width (drop (i * width) t)) ≡ row-of (getD t (i * width) 0) (getD t (i * width + START) 0) (getD t (i * width + LENGTH) 0) (getD t (i * width + LIST) 0) (getD t (i * width + COUNT) 0) (getD t (i * width + NAME) 0) (getD t (i * width + DEFAULT) 0)
+-- the row that its words say
+pub words-said : (t : List ℕ) (i : ℕ) → row (take width (drop (i * width) t)) ≡ row-of (getD t (i * width) 0) (getD t (i * width + START) 0) (getD t (i * width + LENGTH) 0) (getD t (i * width + LIST) 0) (getD t (i * width + COUNT) 0) (getD t (i * width + NAME) 0) (getD t (i * width + DEFAULT) 0) (getD t (i * width + CLASS) 0)
 unfolding row
-words-said t i = λ j. row-of (first j) (at START (omega arith) j) (at LENGTH (omega arith) j) (at LIST (omega arith) j) (at COUNT (omega arith) j) (at NAME (omega arith) j) (at DEFAULT (omega arith) j)
+words-said t i = λ j. row-of (first j) (at START (omega arith) j) (at LENGTH (omega arith) j) (at LIST (omega arith) j) (at COUNT (omega arith) j) (at NAME (omega arith) j) (at DEFAULT (omega arith) j) (at CLASS (omega arith) j)
   where
     at : (x : ℕ) → x < width → getD (take width (drop (i * width) t)) x 0 ≡ getD t (i * width + x) 0
     at x l = getD-take width (drop (i * width) t) x 0 l ∙ getD-drop (i * width) t x 0
@@ -44,7 +44,7 @@ words-said t i = λ j. row-of (first j) (at START (omega arith) j) (at LENGTH (o
     first : getD (take width (drop (i * width) t)) 0 0 ≡ getD t (i * width) 0
     first = at 0 (omega arith) ∙ ap (λ (x : ℕ). getD t x 0) (omega arith)
 
-pub words-row : (n : ℕ) (t : List ℕ) (i : ℕ) → i < n → getD (rows n t) i nil ≡ row-of (getD t (i * width) 0) (getD t (i * width + START) 0) (getD t (i * width + LENGTH) 0) (getD t (i * width + LIST) 0) (getD t (i * width + COUNT) 0) (getD t (i * width + NAME) 0) (getD t (i * width + DEFAULT) 0)
+pub words-row : (n : ℕ) (t : List ℕ) (i : ℕ) → i < n → getD (rows n t) i nil ≡ row-of (getD t (i * width) 0) (getD t (i * width + START) 0) (getD t (i * width + LENGTH) 0) (getD t (i * width + LIST) 0) (getD t (i * width + COUNT) 0) (getD t (i * width + NAME) 0) (getD t (i * width + DEFAULT) 0) (getD t (i * width + CLASS) 0)
 words-row n t i h = rows-at n t i h ∙ words-said t i
 
 -- ---- the test of nodes

@@ -1,4 +1,4 @@
--- Words that are compared, a word's low bytes, and a row's seven words.
+-- Words that are compared, a word's low bytes, and a row's eight words.
 use Prim.Native.Nat.{ℕ, zero, suc, _+_, _*_, _/_, _%_, _^_, _≤_, _<_}
 use mathlib.Core.Path.{_≡_, refl, ap}
 use mathlib.Core.Path.{sym as psym, _∙_}
@@ -95,11 +95,11 @@ length-words (bool true) = refl
 length-words (bool false) = refl
 length-words (fixnum w) = refl
 length-words (symbol s l) = refl
-length-words (array s n) = refl
-length-words (hash s n d) = refl
+length-words (array s n w) = refl
+length-words (hash s n d w) = refl
 length-words (object s n c) = refl
-length-words (string s l absent) = refl
-length-words (string s l (present p n)) = refl
+length-words (string s l absent w) = refl
+length-words (string s l (present p n) w) = refl
 length-words (user s l c absent) = refl
 length-words (user s l c (present p n)) = refl
 length-words (float s l) = refl

@@ -75,10 +75,10 @@ right-buckets : (n m : ℕ) → bad-buckets n m ≡ false → (n ≤ m) × (m �
 unfolding bad-buckets
 right-buckets n m e = let (a, b) = or-none (ltb m n) (too-long m) e in (ltb-false m n a, short m b)
 
-module _ (input : List ℕ) (T : Lists) (B : List ℕ) (k : ℕ) (t : Bool) (F : Fine input T t) (l : k ≤ 1) (d : Bucketed T B k t) {no B₁ : List ℕ} (e : no ≡ sets (T .nodes) 0 (0 ∷ 0 ∷ 0 ∷ 0 ∷ 0 ∷ 0 ∷ 0 ∷ [])) (z : B₁ ≡ zeroed B) where
+module _ (input : List ℕ) (T : Lists) (B : List ℕ) (k : ℕ) (t : Bool) (F : Fine input T t) (l : k ≤ 1) (d : Bucketed T B k t) {no B₁ : List ℕ} (e : no ≡ sets (T .nodes) 0 (0 ∷ 0 ∷ 0 ∷ 0 ∷ 0 ∷ 0 ∷ 0 ∷ 0 ∷ [])) (z : B₁ ≡ zeroed B) where
   first-node : Begins (length (T .nodes)) (flat (nil ∷ [])) no
   unfolding flat words
-  first-node = rw e (push (0 ∷ 0 ∷ 0 ∷ 0 ∷ 0 ∷ 0 ∷ 0 ∷ []) (none (T .nodes) refl) (omega (arith, F .whole, F .one)))
+  first-node = rw e (push (0 ∷ 0 ∷ 0 ∷ 0 ∷ 0 ∷ 0 ∷ 0 ∷ 0 ∷ []) (none (T .nodes) refl) (omega (arith, F .whole, F .one)))
 
   same-size : length B₁ ≡ length B
   unfolding zeroed
@@ -153,7 +153,7 @@ module _ (input : List ℕ) (T : Lists) (B : List ℕ) (limit k : ℕ) (t : Bool
     λ f. ap (λ (i : ℕ). hashed-if i input T B limit) (sym z ∙ e ∙ hash-wrong f),
   )
 
-  module _ (w : ℕ) (e : w ≡ bad) (z : w ≡ 0) (F : Fine input T t) (l : k ≤ 1) (d : Bucketed T B k t) {no₁ B₁ : List ℕ} (first : no₁ ≡ sets (T .nodes) 0 (0 ∷ 0 ∷ 0 ∷ 0 ∷ 0 ∷ 0 ∷ 0 ∷ [])) (zeros : B₁ ≡ zeroed B) {no re by sy B₂ ob c : List ℕ} {h : ℕ} (m : Meets input (room-of T) limit (whole input (room-of T) limit) (lent no₁ (T .references) (T .bytes) (by-buckets (T .symbols) B₁) (T .objects)) (first-counts k (length (T .nodes) / width)) h (lent no re by (by-buckets sy B₂) ob) c) where
+  module _ (w : ℕ) (e : w ≡ bad) (z : w ≡ 0) (F : Fine input T t) (l : k ≤ 1) (d : Bucketed T B k t) {no₁ B₁ : List ℕ} (first : no₁ ≡ sets (T .nodes) 0 (0 ∷ 0 ∷ 0 ∷ 0 ∷ 0 ∷ 0 ∷ 0 ∷ 0 ∷ [])) (zeros : B₁ ≡ zeroed B) {no re by sy B₂ ob c : List ℕ} {h : ℕ} (m : Meets input (room-of T) limit (whole input (room-of T) limit) (lent no₁ (T .references) (T .bytes) (by-buckets (T .symbols) B₁) (T .objects)) (first-counts k (length (T .nodes) / width)) h (lent no re by (by-buckets sy B₂) ob) c) where
     pub loaded : {no' re' by' sy' ob' B' : List ℕ} {x : ℕ} → x ≡ compared-from-one c - 1 → h < REFUSED → no' ≡ cleared (nodes-of c * width) no → re' ≡ cleared (references-of c) re → by' ≡ cleared (bytes-of c) by → sy' ≡ zeroed (T .symbols) → ob' ≡ zeroed (T .objects) → B' ≡ zeroed B → length B₂ ≡ length B
         → Answers (counted-as (loaded-as Accepted (nodes-of c) (references-of c) (bytes-of c) h (at-of c) (eqb (form-of c) 0)) (bytes-of c) x (looked-of c)) (lists no' re' by' sy' ob') B'
     unfolding load load-done measured-done hashed-done words-looked hash-at pure A.padded room-of

@@ -125,7 +125,7 @@ fn load_whole(
     c[NODES] = 1;
     c[COMPARED_FROM_ONE] = counted;
     c[ROOM] = nodes.len() / Node::WIDTH;
-    put_node(nodes, 0, Node::NIL, 0, 0, 0, 0, 0, 0);
+    put_node(nodes, 0, Node::NIL, 0, 0, 0, 0, 0, 0, 0);
     zero_words(buckets, 0);
     let h = read_root(
         &input[..],

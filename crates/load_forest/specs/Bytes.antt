@@ -23,7 +23,7 @@ use Rattle.lists.specs.Words.{little-below}
 use Rattle.lists.specs.Ranges.{range-at, length-range-in}
 use Rattle.graph.specs.Forest.{Texted, text-string, text-float}
 use Rattle.graph.specs.View.{text-row}
-use Rattle.load_forest.specs.Trace.{Mode, Part, Plain, plain-nil, plain-true, plain-false, plain-fixnum, Trace, reading, plain, known, new, symbol-link, object-link, list, hash-default, object-pairs, text-bytes, user-bytes, bignum-node, stored, variables, no-elements, element, no-pairs, pair}
+use Rattle.load_forest.specs.Trace.{Mode, Part, Plain, plain-nil, plain-true, plain-false, plain-fixnum, Trace, reading, plain, known, new, symbol-link, object-link, unclassed, classed, list, hash-default, object-pairs, text-bytes, user-bytes, bignum-node, stored, variables, no-elements, element, no-pairs, pair}
 use Rattle.load_forest.specs.Readers.{load-traced, read-byte-then, read-bytes-then, tell-then}
 use Rattle.states.specs.States.{read-to, sought, with-node, with-symbol, with-object-node, with-bytes, with-word, with-row, with-room}
 use Rattle.states.specs.Rows.{list-length, Listed, is-array, is-hash, Varied, varied-string, varied-user}
@@ -119,16 +119,16 @@ plain-small h r plain-false w e = apart (cc)
 plain-small {input = input} h r (plain-fixnum v s t x) w e = let z : v ≡ w = cc in rw (← z) (integer-below input h s t v x)
 
 listed-no-fixnum : {p : ℕ} (r : Row) → Listed p r → (w : ℕ) → r ≡ fixnum w → ⊥
-listed-no-fixnum r (is-array n) w e = apart (cc)
-listed-no-fixnum r (is-hash n) w e = apart (cc)
+listed-no-fixnum r (is-array n c) w e = apart (cc)
+listed-no-fixnum r (is-hash n c) w e = apart (cc)
 
 varied-no-fixnum : {p n : ℕ} (r r′ : Row) → Varied p n r r′ → (w : ℕ) → r′ ≡ fixnum w → ⊥
 varied-no-fixnum r r′ varied-string w e = apart (cc)
 varied-no-fixnum r r′ varied-user w e = apart (cc)
 
-text-no-fixnum : {k n : ℕ} (q : Texted k n) (a l w : ℕ) → text-row q a l ≡ fixnum w → ⊥
-text-no-fixnum text-string a l w e = apart (cc)
-text-no-fixnum text-float a l w e = apart (cc)
+text-no-fixnum : {k n : ℕ} {d : Bool} (q : Texted k n d) (a l c w : ℕ) → text-row q a l c ≡ fixnum w → ⊥
+text-no-fixnum text-string a l c w e = apart (cc)
+text-no-fixnum text-float a l c w e = apart (cc)
 
 small-opened : (r : Row) (s : State) → ((w : ℕ) → r ≡ fixnum w → ⊥) → Small s → Small (with-object-node r s)
 small-opened r s h x = small-same (with-node r s) (with-object-node r s) refl refl (small-node r s (λ w e. absurd (h w e)) x)
@@ -142,15 +142,17 @@ small {input = input} {s = s} {t = t} (new b e o n p l₁ l₂ l₃) h y =
     small-same (with-node r (with-bytes b s)) t refl refl (small-node r (with-bytes b s) (λ w e. apart (cc)) (small-bytes b s (part-bytes input b h p) y))
 small (symbol-link i v e o a) h y = y
 small (object-link i v e a) h y = y
-small {s = s} (list {t = t} r q e l₁ l₂ l₃ x) h y =
-    let s₁ = with-object-node nil s in
-    small-row (length (s .nodes)) r t (listed-no-fixnum r q) (small x h (small-same s₁ (with-room (list-length r) s₁) refl refl (small-opened nil s (λ w e. apart (cc)) y)))
-small {s = s} (hash-default {u = u} n e l₁ l₂ l₃ x z) h y =
-    let s₁ = with-object-node nil s in
-    small-row (length (s .nodes)) _ u (λ w e. apart (cc)) (small z h (small x h (small-same s₁ (with-room (n * 2) s₁) refl refl (small-opened nil s (λ w e. apart (cc)) y))))
+small (unclassed e) h y = y
+small (classed {t = t} k a e x b) h y = small-same t (read-to k a t) refl refl (small x h y)
+small (list {o = o} {t = t} r q c l₁ l₂ l₃ x) h y =
+    let s₁ = with-object-node nil o in
+    small-row (length (o .nodes)) r t (listed-no-fixnum r q) (small x h (small-same s₁ (with-room (list-length r) s₁) refl refl (small-opened nil o (λ w e. apart (cc)) (small c h y))))
+small (hash-default {o = o} {u = u} n w c l₁ l₂ l₃ x z) h y =
+    let s₁ = with-object-node nil o in
+    small-row (length (o .nodes)) _ u (λ w e. apart (cc)) (small z h (small x h (small-same s₁ (with-room (n * 2) s₁) refl refl (small-opened nil o (λ w e. apart (cc)) (small c h y)))))
 small {s = s} (object-pairs {t = t} {u = u} n k a e l₁ l₂ x b l₃ z) h y =
     small-row (length (s .nodes)) _ u (λ w e. apart (cc)) (small z h (small-same t (with-room (n * 2) (read-to k a t)) refl refl (small x h (small-opened nil s (λ w e. apart (cc)) y))))
-small {input = input} {s = s} (text-bytes q b e p l₁ l₂ l₃) h y = small-opened _ (with-bytes b s) (text-no-fixnum q _ _) (small-bytes b s (part-bytes input b h p) y)
+small {input = input} (text-bytes {o = o} q w b e c p l₁ l₂ l₃) h y = small-opened _ (with-bytes b o) (text-no-fixnum q _ _ w) (small-bytes b o (part-bytes input b h p) (small c h y))
 small {input = input} (user-bytes {t = t} b k a e x d p l₁ l₂ l₃) h y =
     small-opened _ (with-bytes b (read-to k a t)) (λ w e. apart (cc)) (small-bytes b (read-to k a t) (part-bytes input b h p) (small-same t (read-to k a t) refl refl (small x h y)))
 small {s = s} (bignum-node low high n m e q i l₁ l₂) h y = small-opened _ s (λ w e. apart (cc)) y

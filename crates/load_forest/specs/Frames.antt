@@ -14,7 +14,7 @@ use Rattle.lists.specs.Lists.{At}
 use Rattle.lists.specs.Ranges.{range-none}
 use Rattle.graph.specs.Forest.{Texted}
 use Rattle.graph.specs.View.{text-row}
-use Rattle.load_forest.specs.Trace.{Mode, value, text, name, elements, pairs, One, as-value, as-name, Plain, plain-nil, plain-true, plain-false, plain-fixnum, Inner, inner-text, inner-value, Trace, reading, plain, known, new, symbol-link, object-link, list, hash-default, object-pairs, text-bytes, user-bytes, bignum-node, stored, variables, no-elements, element, no-pairs, pair}
+use Rattle.load_forest.specs.Trace.{Mode, value, text, name, opening, elements, pairs, One, as-value, as-name, Plain, plain-nil, plain-true, plain-false, plain-fixnum, Inner, inner-text, inner-value, Trace, reading, plain, known, new, symbol-link, object-link, unclassed, classed, list, hash-default, object-pairs, text-bytes, user-bytes, bignum-node, stored, variables, no-elements, element, no-pairs, pair}
 use Rattle.states.specs.Rows.{list-length, Listed, Varied}
 use Rattle.states.specs.States.{read-to, sought, ranged-stored, frame-stored, Inside, Ranged, Free, Above, Frame, with-node, with-symbol, with-object-node, with-bytes, with-word, with-row, ranged-node, ranged-row, ranged-words, ranged-word, inside-nil, inside-bool, inside-fixnum, frame-refl, frame-trans, frame-below, frame-read-to, frame-sought, frame-symbol, frame-words, frame-word, frame-node, frame-object-node, frame-row, free-new, free-part, range-written, with-room, inside-text, inside-bignum, inside-user, inside-listed, inside-hash, inside-object, inside-varied, opened-ranged, above-nil, above-text, above-bignum, above-user, above-listed, above-hash, above-object, above-varied, with-new-symbol, ranged-new-symbol, above-bool, above-fixnum, frame-new-symbol, frame-opened}
 
@@ -23,6 +23,7 @@ abbrev pub from : Mode → ℕ → ℕ
 from value n = n
 from text n = n
 from name n = n
+from (opening w q) n = n
 from (elements m i) n = i
 from (pairs m i) n = i
 
@@ -31,6 +32,7 @@ abbrev pub slots : Mode → ℕ
 slots value = 0
 slots text = 0
 slots name = 0
+slots (opening w q) = 0
 slots (elements n i) = n
 slots (pairs n i) = n * 2
 
@@ -45,6 +47,7 @@ abbrev pub Words : Mode → State → List ℕ → Type 0
 Words value t vs = Unit {0}
 Words text t vs = Unit {0}
 Words name t vs = Unit {0}
+Words (opening w q) t vs = Unit {0}
 Words (elements n i) t vs = range (t .references) i n ≡ vs
 Words (pairs n i) t vs = range (t .references) i (n * 2) ≡ vs
 
@@ -60,6 +63,9 @@ ready-value s h = record { ranged = h; fits = omega arith; free = λ i r e. inl 
 
 pub ready-name : (s : State) → Ranged s → Ready name s
 ready-name s h = record { ranged = h; fits = omega arith; free = λ i r e. inl (h i r e .list-inside) }
+
+pub ready-opening : (w : ℕ) (q : List ℕ) (s : State) → Ranged s → Ready (opening w q) s
+ready-opening w q s h = record { ranged = h; fits = omega arith; free = λ i r e. inl (h i r e .list-inside) }
 
 -- a byte string is read as a value is
 pub ready-text : {s : State} → Ready value s → Ready text s
@@ -134,6 +140,10 @@ left-new m o s b vs x = record {
 left-same : {l : ℕ} (m : Mode) → One l m → (s : State) (vs : List ℕ) → Ready m s → Left m s vs s
 left-same m o s vs x = record { ranged = x .ranged; frame = frame-refl _ s; words = one-words o s vs }
 
+-- a class, and then from o to t
+after-class : (s o t : State) (w : ℕ) (q us : List ℕ) → Left (opening w q) s us o → Frame (length (o .references)) o t → Frame (length (s .references)) s t
+after-class s o t w q us x f = frame-trans (x .frame) (frame-below _ (x .frame .references-grow) f)
+
 -- a node opened as nil, and words reserved
 opened-frame : (n : ℕ) (s : State) → Frame (length (s .references)) s (with-room n (with-object-node nil s))
 opened-frame n s = frame-trans (frame-opened _ s) (frame-words _ (replicate n 0) (with-object-node nil s))
@@ -141,29 +151,29 @@ opened-frame n s = frame-trans (frame-opened _ s) (frame-words _ (replicate n 0)
 pub ready-opened : (n : ℕ) (s : State) → Ranged s → Ready (elements n (length (s .references))) (with-room n (with-object-node nil s))
 ready-opened n s h = ready-elements n (with-object-node nil s) (opened-ranged s h)
 
-left-list : (s t : State) (r : Row) (ms vs : List ℕ) (h : ℕ) → Listed (length (s .references)) r → Ready value s
+left-list : (s t : State) (r : Row) (ms vs : List ℕ) (h : ℕ) → Listed (length (s .references)) r → Ranged s
     → Left (elements (list-length r) (length (s .references))) (with-room (list-length r) (with-object-node nil s)) ms t → Left value s vs (with-row h r t)
 left-list s t r ms vs h l x y =
     let f : Frame (length (s .references)) s t = frame-trans (opened-frame (list-length r) s) (y .frame) in
-    let fits = ready-opened (list-length r) s (x .ranged) .fits in
+    let fits = ready-opened (list-length r) s x .fits in
     record {
       ranged = ranged-row h r t (inside-listed t r l (omega (arith, fits, y .frame .references-grow))) (y .ranged);
       frame = frame-trans f (frame-row (length (s .references)) h r t (above-listed _ r (omega arith) l));
       words = tt;
     }
 
-left-hash-default : (s t u : State) (n d : ℕ) (ms ds vs : List ℕ) (h : ℕ) → Ready value s
+left-hash-default : (s t u : State) (n d w : ℕ) (ms ds vs : List ℕ) (h : ℕ) → Ranged s
     → Left (elements (n * 2) (length (s .references))) (with-room (n * 2) (with-object-node nil s)) ms t → Left value t ds u
-    → Left value s vs (with-row h (hash (length (s .references)) n (d + 1)) u)
-left-hash-default s t u n d ms ds vs h x y z =
+    → Left value s vs (with-row h (hash (length (s .references)) n (d + 1) w) u)
+left-hash-default s t u n d w ms ds vs h x y z =
     let p = length (s .references) in
-    let fits = ready-opened (n * 2) s (x .ranged) .fits in
+    let fits = ready-opened (n * 2) s x .fits in
     let g : p + n * 2 ≤ length (t .references) = omega (arith, fits, y .frame .references-grow) in
     let f : Frame p s u = frame-trans (frame-trans (opened-frame (n * 2) s) (y .frame)) (frame-below p (omega arith) (z .frame)) in
-    let r = hash p n (d + 1) in
+    let r = hash p n (d + 1) w in
     record {
-      ranged = ranged-row h r u (inside-hash u p n (d + 1) (omega (arith, z .frame .references-grow))) (z .ranged);
-      frame = frame-trans f (frame-row p h r u (above-hash p p n (d + 1) (omega arith)));
+      ranged = ranged-row h r u (inside-hash u p n (d + 1) w (omega (arith, z .frame .references-grow))) (z .ranged);
+      frame = frame-trans f (frame-row p h r u (above-hash p p n (d + 1) w (omega arith)));
       words = tt;
     }
 
@@ -187,10 +197,10 @@ left-object s t u n c ns ms vs h x y z =
       words = tt;
     }
 
-left-text : {k n : ℕ} (q : Texted k n) (s : State) (b vs : List ℕ) → Ready text s → Left text s vs (with-object-node (text-row q (length (s .bytes)) (length b)) (with-bytes b s))
-left-text q s b vs x = record {
-  ranged = ranged-stored _ b s (inside-text q (with-bytes b s) (length (s .bytes)) (length b) (omega (arith, length-append (s .bytes) b))) (x .ranged);
-  frame = frame-stored _ _ b s (above-text q _ (length (s .bytes)) (length b));
+left-text : {k n : ℕ} {c : Bool} (q : Texted k n c) (w : ℕ) (s : State) (b vs : List ℕ) → Ranged s → Left text s vs (with-object-node (text-row q (length (s .bytes)) (length b) w) (with-bytes b s))
+left-text q w s b vs x = record {
+  ranged = ranged-stored _ b s (inside-text q (with-bytes b s) (length (s .bytes)) (length b) w (omega (arith, length-append (s .bytes) b))) x;
+  frame = frame-stored _ _ b s (above-text q _ (length (s .bytes)) (length b) w);
   words = tt;
 }
 
@@ -285,14 +295,24 @@ left {m = m} {s = s} {vs = vs} (known b v o a l) h = left-known m o s b v vs h
 left {m = m} {s = s} {vs = vs} (new b e o n p l₁ l₂ l₃) h = left-new m o s b vs h
 left {m = m} {s = s} {vs = vs} (symbol-link i v e o a) h = left-same m o s vs h
 left {l = l} {s = s} {vs = vs} (object-link i v e a) h = left-same {l = l} value as-value s vs h
-left {s = s} {vs = vs} (list {t = t} {ms = ms} r q e l₁ l₂ l₃ x) h = left-list s t r ms vs (length (s .nodes)) q h (left x (ready-opened (list-length r) s (h .ranged)))
-left {s = s} {vs = vs} (hash-default {t = t} {u = u} {ms = ms} {d = d} n e l₁ l₂ l₃ x y) h =
-    let z = left x (ready-opened (n * 2) s (h .ranged)) in
-    left-hash-default s t u n d ms (d ∷ []) vs (length (s .nodes)) h z (left y (ready-value t (z .ranged)))
+left {s = s} (unclassed e) h = record { ranged = h .ranged; frame = frame-refl _ s; words = tt }
+left {s = s} (classed {t = t} {c = c} k a e x b) h = let z = left-then s t (c ∷ []) k a (left x (ready-name s (h .ranged))) in record { ranged = z .ranged; frame = z .frame; words = tt }
+left {s = s} {t = t} {vs = vs} (list {o = o} {t = u} {ms = ms} r q c l₁ l₂ l₃ x) h =
+    let y = left c (ready-opening _ _ s (h .ranged)) in
+    let z = left-list o u r ms vs (length (o .nodes)) q (y .ranged) (left x (ready-opened (list-length r) o (y .ranged))) in
+    record { ranged = z .ranged; frame = after-class s o t _ _ _ y (z .frame); words = tt }
+left {s = s} {t = t} {vs = vs} (hash-default {o = o} {t = u} {u = u₂} {ms = ms} {d = d} n w c l₁ l₂ l₃ x y) h =
+    let b = left c (ready-opening _ _ s (h .ranged)) in
+    let a = left x (ready-opened (n * 2) o (b .ranged)) in
+    let z = left-hash-default o u u₂ n d w ms (d ∷ []) vs (length (o .nodes)) (b .ranged) a (left y (ready-value u (a .ranged))) in
+    record { ranged = z .ranged; frame = after-class s o t _ _ _ b (z .frame); words = tt }
 left {s = s} {vs = vs} (object-pairs {t = t} {u = u} {ms = ms} {c = c} n k a e l₁ l₂ x b l₃ y) h =
     let z = left x (ready-name (with-object-node nil s) (opened-ranged s (h .ranged))) in
     left-object s (read-to k a t) u n c (c ∷ []) ms vs (length (s .nodes)) h (left-then _ t (c ∷ []) k a z) (left y (ready-pairs n (read-to k a t) (z .ranged)))
-left {s = s} {vs = vs} (text-bytes q b e p l₁ l₂ l₃) h = left-text q s b vs h
+left {s = s} {t = t} {vs = vs} (text-bytes {o = o} q w b e c p l₁ l₂ l₃) h =
+    let y = left c (ready-opening _ _ s (h .ranged)) in
+    let z = left-text q w o b vs (y .ranged) in
+    record { ranged = z .ranged; frame = after-class s o t _ _ _ y (z .frame); words = tt }
 left {s = s} {vs = vs} (user-bytes {t = t} {c = c} b k a e x d p l₁ l₂ l₃) h = left-user s (read-to k a t) c b (c ∷ []) vs (left-then s t (c ∷ []) k a (left x (ready-name s (h .ranged))))
 left {s = s} {vs = vs} (bignum-node low high n m e q i l₁ l₂) h = left-bignum s low high m vs h
 left (stored x) h = let z = left x (ready-text h) in record { ranged = z .ranged; frame = z .frame; words = tt }

@@ -19,7 +19,7 @@ use Rattle.lists.specs.Lists.{At, at-snoc, getD-at, apart}
 use Rattle.graph.specs.Sums.{total, total-snoc, total-set}
 use Rattle.graph.specs.Forest.{sym}
 use Rattle.graph.specs.View.{arena-of, state-seen}
-use Rattle.load_forest.specs.Trace.{Mode, Trace, reading, plain, known, new, symbol-link, object-link, list, hash-default, object-pairs, text-bytes, user-bytes, bignum-node, stored, variables, no-elements, element, no-pairs, pair}
+use Rattle.load_forest.specs.Trace.{Mode, Trace, reading, plain, known, new, symbol-link, object-link, unclassed, classed, list, hash-default, object-pairs, text-bytes, user-bytes, bignum-node, stored, variables, no-elements, element, no-pairs, pair}
 use Rattle.load_forest.specs.Readers.{load-traced}
 use Rattle.load_forest.specs.Kept.{kept, nil-fixed}
 use Rattle.load_forest.specs.Space.{is-symbol, range-most}
@@ -146,13 +146,15 @@ measures {s = s} (known b h o a l) m = measures-known s m b h a
 measures {s = s} (new b e o n p l₁ l₂ l₃) m = measures-new s m b
 measures (symbol-link i h e o a) m = m
 measures (object-link i h e a) m = m
-measures {s = s} (list {t = t} r q e l₁ l₂ l₃ x) m =
-    measures-row t (measures x (measures-node s m nil)) (length (s .nodes)) r nil (kept x .stands _ nil nil-fixed (at-snoc (s .nodes) nil)) nil-no-symbol
-measures {s = s} (hash-default {u = u} n e l₁ l₂ l₃ x y) m =
-    measures-row u (measures y (measures x (measures-node s m nil))) (length (s .nodes)) _ nil (kept y .stands _ nil nil-fixed (kept x .stands _ nil nil-fixed (at-snoc (s .nodes) nil))) nil-no-symbol
+measures (unclassed e) m = m
+measures (classed k a e x b) m = measures x m
+measures (list {o = o} {t = t} r q c l₁ l₂ l₃ x) m =
+    measures-row t (measures x (measures-node o (measures c m) nil)) (length (o .nodes)) r nil (kept x .stands _ nil nil-fixed (at-snoc (o .nodes) nil)) nil-no-symbol
+measures (hash-default {o = o} {u = u} n w c l₁ l₂ l₃ x y) m =
+    measures-row u (measures y (measures x (measures-node o (measures c m) nil))) (length (o .nodes)) _ nil (kept y .stands _ nil nil-fixed (kept x .stands _ nil nil-fixed (at-snoc (o .nodes) nil))) nil-no-symbol
 measures {s = s} (object-pairs {u = u} n k a e l₁ l₂ x b l₃ y) m =
     measures-row u (measures y (measures x (measures-node s m nil))) (length (s .nodes)) _ nil (kept y .stands _ nil nil-fixed (kept x .stands _ nil nil-fixed (at-snoc (s .nodes) nil))) nil-no-symbol
-measures {s = s} (text-bytes q b e p l₁ l₂ l₃) m = measures-node (with-bytes b s) (measures-bytes s m b) _
+measures (text-bytes {o = o} q w b e c p l₁ l₂ l₃) m = measures-node (with-bytes b o) (measures-bytes o (measures c m) b) _
 measures (user-bytes {t = t} b k a e x d p l₁ l₂ l₃) m = measures-node (with-bytes b t) (measures-bytes t (measures x m) b) _
 measures {s = s} (bignum-node low high n minus e q h l₁ l₂) m = measures-node s m _
 measures (stored x) m = measures x m

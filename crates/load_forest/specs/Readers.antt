@@ -3,6 +3,7 @@ use Prim.Native.Nat.{ℕ, zero, suc, _+_, _-_, _*_, _≤_, _<_}
 use mathlib.Core.Path.{_≡_, refl, ap, subst}
 use mathlib.Core.Path.{sym as psym, _∙_}
 use mathlib.Core.Bool.{Bool, true, false, _&&_, _||_}
+use mathlib.Core.Logic.{_⊎_, inl, inr}
 use mathlib.Core.Option.{Option, none, some}
 use mathlib.Core.List.{List, [], _∷_, _++_}
 use lib.Dec.{eqb, leb}
@@ -11,25 +12,26 @@ use lib.Seq.{drop-cons, drop-drop}
 use native.Mathlib.Omega.{arith}
 use borrow.Author.Tests.{ltb-true, leb-true, eqb-true}
 use Rattle.definition.specs.declared.Refusal.{Refusal}
-use Rattle.definition.specs.declared.Refusal.the-variants.{WrongSign}
+use Rattle.definition.specs.declared.Refusal.the-variants.{WrongSign, NotWrappable}
 use Rattle.definition.specs.Run.{Outcome, ok, refused, pure, refuse, next, _>>=_, look, pick}
 use Rattle.definition.specs.Integer.{Form, value as form-value, data-bytes, form, little, wrong-sign, integer-bytes}
 use Rattle.definition.specs.Magnitude.{fits, sign, fewest-units, sign-byte, unit-bytes, bignum-bytes, bignum-row}
-use Rattle.definition.specs.Kind.{NIL, TRUE, FALSE, FIXNUM, SYMBOL, SYMBOL-LINK, OBJECT-LINK, INSTANCE-VARIABLES, ARRAY, HASH, HASH-DEFAULT, OBJECT, STRING, USER-DEFINED, FLOAT, BIGNUM, MINUS}
-use Rattle.definition.specs.Node.{Row, nil, bool, fixnum, symbol, array, hash, object, string, user, float, bignum, absent, present, equal, kind, words, row-of, vars}
+use Rattle.definition.specs.Kind.{NIL, TRUE, FALSE, FIXNUM, SYMBOL, SYMBOL-LINK, OBJECT-LINK, INSTANCE-VARIABLES, ARRAY, HASH, HASH-DEFAULT, OBJECT, STRING, USER-DEFINED, FLOAT, BIGNUM, USER-CLASS, MINUS}
+use Rattle.definition.specs.Node.{Row, nil, bool, fixnum, symbol, array, hash, object, string, user, float, bignum, absent, present, equal, kind, words, row-of, vars, optional-node, optional-present}
 use Rattle.definition.specs.Arena.{range, find-symbol}
 use Rattle.definition.specs.State.{State, Room, Reader, at-set, noted}
 use Rattle.definition.specs.Load.{begin}
 use Rattle.definition.specs.Dump.{byte-string-bytes}
 use Rattle.definition.specs.Load as L
-use Rattle.lists.specs.Lists.{At, apart, at-getD}
+use Rattle.lists.specs.Lists.{At, apart, at-getD, getD-at, at-set-same, len-snoc}
 use Rattle.lists.specs.Ranges.{length-range-in}
 use Rattle.lists.specs.Runs.{no-ok, un as taken}
 use Rattle.lists.specs.Words.{equal-true, length-low}
 use Rattle.lists.specs.Magnitudes.{of-words}
 use Rattle.graph.specs.Forest.{Texted, text-string, text-float}
 use Rattle.graph.specs.View.{text-row}
-use Rattle.load_forest.specs.Trace.{Spelt, Read, spelt-join, Mode, value, text, name, elements, pairs, One, as-value, as-name, Part, Plain, plain-nil, plain-true, plain-false, plain-fixnum, Inner, inner-text, inner-value, Trace, reading, plain, known, new, symbol-link, object-link, list, hash-default, object-pairs, text-bytes, user-bytes, bignum-node, stored, variables, no-elements, element, no-pairs, pair, forwards}
+use Rattle.load_forest.specs.Trace.{Spelt, Read, spelt-join, Mode, value, text, name, opening, elements, pairs, One, as-value, as-name, Part, Plain, plain-nil, plain-true, plain-false, plain-fixnum, Inner, inner-text, inner-value, Trace, reading, plain, known, new, symbol-link, object-link, unclassed, classed, list, hash-default, object-pairs, text-bytes, user-bytes, bignum-node, stored, variables, no-elements, element, no-pairs, pair, forwards}
+use Rattle.load_forest.specs.Kept.{Fixed, array-fixed, hash-fixed, kept}
 use Rattle.states.specs.Rows.{list-length, is-array, is-hash, Varied, varied-string, varied-user, ranges, varied-some}
 use Rattle.states.specs.States.{read-to, sought, with-node, with-object, with-symbol, with-object-node, with-bytes, with-word, with-row, with-room}
 use Rattle.states.specs.Symbols.{found, missed}
@@ -286,6 +288,7 @@ Kinded k L.String = k ≡ STRING
 Kinded k L.UserDefined = k ≡ USER-DEFINED
 Kinded k L.Float = k ≡ FLOAT
 Kinded k L.Bignum = k ≡ BIGNUM
+Kinded k L.UserClass = k ≡ USER-CLASS
 Kinded k L.Unknown = Unit {0}
 
 kind-else : (k b : ℕ) (x y : L.Head) → (k ≡ b → Kinded k x) → Kinded k y → Kinded k (pick (eqb k b) x y)
@@ -314,7 +317,8 @@ kinded k =
     (kind-else k STRING _ _ (λ e. e)
     (kind-else k USER-DEFINED _ _ (λ e. e)
     (kind-else k FLOAT _ _ (λ e. e)
-    (kind-else k BIGNUM _ _ (λ e. e) tt)))))))))))))))
+    (kind-else k BIGNUM _ _ (λ e. e)
+    (kind-else k USER-CLASS _ _ (λ e. e) tt))))))))))))))))
 
 same-kind : {p : List ℕ} {k b : ℕ} → k ≡ b → p ≡ k ∷ [] → p ≡ b ∷ []
 same-kind q e = e ∙ ap (λ (x : ℕ). x ∷ []) q
@@ -398,10 +402,14 @@ module _ (input : List ℕ) (room : Room) where
 
   -- ---- members
 
-  -- a value is read; directly as a byte string or user-defined, where the kind byte is one that `I` goes before
+  -- node v takes no variables
+  abbrev Unvaried : State → ℕ → Type 0
+  Unvaried t v = (r : Row) × Fixed r × At (t .nodes) v r
+
+  -- a value is read; directly as a byte string or user-defined, or as what takes no variables, where the kind byte is one that `I` goes before
   pub record Traced (l : ℕ) (f : Reader ℕ) : Type 0 where
     pub any : (s t : State) (v : ℕ) → f s ≡ ok v t → Trace input room l value [] s (v ∷ []) t
-    pub direct : (s t : State) (v : ℕ) → f s ≡ ok v t → L.takes-variables (getD input (s .at) 0) ≡ true → Trace input room l text [] s (v ∷ []) t
+    pub direct : (s t : State) (v : ℕ) → f s ≡ ok v t → L.takes-variables (getD input (s .at) 0) ≡ true → Trace input room l text [] s (v ∷ []) t ⊎ Unvaried t v
 
   none-read : {s t : State} {x : Unit {0}} → pure tt s ≡ ok x t → s ≡ t
   unfolding pure
@@ -459,39 +467,66 @@ module _ (input : List ℕ) (room : Room) where
       read-then input integer-bytes (L.read-integer input) s _ v t e (integer-read input s) λ w k n a x y.
       reading k n a (node-traced _ (fixnum w) (subst (λ (q : List ℕ). Plain input q (fixnum w)) (psym (kind-more _ f)) (plain-fixnum w s (read-to k n s) x)) (read-to k n s) t v y)
 
+  -- from the state s₀ after the bytes p to s a class w was read and then the kind byte k; more may be read after them
+  abbrev Opens : ℕ → ℕ → List ℕ → State → ℕ → State → Type 0
+  Opens l k p s₀ w s = (j : ℕ) (n : Bool) (y : List ℕ) → Spelt input s j n y → Trace input room l (opening w (k ∷ y)) p s₀ (optional-node w) (read-to j n s)
+
+  opens : {l k : ℕ} {p : List ℕ} → p ≡ k ∷ [] → (s : State) → Opens l k p s 0 s
+  unfolding optional-node
+  opens g s j n y a = reading j n a (unclassed (kind-more y g))
+
+  class-opens : {l k : ℕ} {p : List ℕ} {s t : State} {c : ℕ} → p ≡ USER-CLASS ∷ [] → Trace input room l name [] s (c ∷ []) t → t .at < length input → getD input (t .at) 0 ≡ k
+      → Opens l k p s (suc c) (at-set (t .at + 1) t)
+  unfolding optional-node
+  class-opens {t = t} g x h e j n y a = classed j n g x (subst (λ (k : ℕ). Spelt input t j n (k ∷ y)) e (spelt-join (byte-spelt input t h) a))
+
+  -- what is opened and filled takes no variables
+  abbrev Filled : ℕ → List ℕ → State → ℕ → State → Type 0
+  Filled l p s v t = Trace input room l value p s (v ∷ []) t × Unvaried t v
+
+  filled-end : {l : ℕ} {p : List ℕ} {s t : State} {v : ℕ} (h : ℕ) (r : Row) (u : State) → Fixed r → h < length (u .nodes) → Trace input room l value p s (h ∷ []) (with-row h r u) → L.fill h r u ≡ ok v t → Filled l p s v t
+  filled-end {t = t} {v = v} h r u f j x e =
+      let g = filled h r u t v e in
+      (ended x g, (r, f, rw (← (ok-state g), ← (ok-result g)) (at-set-same (u .nodes) h r j)))
+
   -- an array has one word for each element
   ones : (n : ℕ) → n * 1 ≡ n
   ones n = omega arith
 
   module _ {l : ℕ} (f : Reader ℕ) (h : Traced l f) where
-    array-traced : After (suc l) value ARRAY (L.read-array input room f)
+    -- members follow the opened node
+    below-members : {n i : ℕ} {t : State} {ms : List ℕ} (s : State) → Trace input room l (elements n i) [] (with-room n (with-object-node nil s)) ms t → length (s .nodes) < length (t .nodes)
+    below-members s x = omega (arith, kept x .grows, len-snoc (s .nodes) nil)
+
+    array-traced : {p : List ℕ} {s₀ s : State} (w : ℕ) → Opens l ARRAY p s₀ w s → (t : State) (v : ℕ) → L.read-array input room f w s ≡ ok v t → Filled (suc l) p s₀ v t
     unfolding L.read-array _>>=_ list-length ranges
-    array-traced p g s t v e =
+    array-traced {s = s} w g t v e =
         add-object-node-then room nil s _ v t e λ l₁ l₂ e₁.
         counted-then input room 1 _ (with-object-node nil s) v t e₁ λ n k a y r e₂.
         un e₂ λ x u e₃ e₄.
         let e₅ : L.read-elements f n (length (s .references)) (with-room n (read-to k a (with-object-node nil s))) ≡ ok x u = rw (ones n) at e₃ in
         let (ms, z) = elements-traced f h n (length (s .references)) _ u x e₅ in
-        reading k a (spelt-before y) (ended (list {ms = ms} (array (length (s .references)) n) (is-array n) (kind-more _ g) l₁ l₂ (omega arith) z) (filled _ _ u t v e₄))
+        filled-end _ _ u array-fixed (below-members (read-to k a s) z) (list {ms = ms} (array (length (s .references)) n w) (is-array n w) (g k a _ (spelt-before y)) l₁ l₂ (omega arith) z) e₄
 
-    hash-traced : After (suc l) value HASH (L.read-hash false input room f)
+    hash-traced : {p : List ℕ} {s₀ s : State} (w : ℕ) → Opens l HASH p s₀ w s → (t : State) (v : ℕ) → L.read-hash false input room f w s ≡ ok v t → Filled (suc l) p s₀ v t
     unfolding L.read-hash L.read-default _>>=_ list-length ranges
-    hash-traced p g s t v e =
+    hash-traced {s = s} w g t v e =
         add-object-node-then room nil s _ v t e λ l₁ l₂ e₁.
         counted-then input room 2 _ (with-object-node nil s) v t e₁ λ n k a y r e₂.
         un e₂ λ x u e₃ e₄.
         let (ms, z) = elements-traced f h (n * 2) (length (s .references)) _ u x e₃ in
-        reading k a (spelt-before y) (ended (list {ms = ms} (hash (length (s .references)) n 0) (is-hash n) (kind-more _ g) l₁ l₂ r z) (filled _ _ u t v e₄))
+        filled-end _ _ u hash-fixed (below-members (read-to k a s) z) (list {ms = ms} (hash (length (s .references)) n 0 w) (is-hash n w) (g k a _ (spelt-before y)) l₁ l₂ r z) e₄
 
-    hash-default-traced : After (suc l) value HASH-DEFAULT (L.read-hash true input room f)
+    hash-default-traced : {p : List ℕ} {s₀ s : State} (w : ℕ) → Opens l HASH-DEFAULT p s₀ w s → (t : State) (v : ℕ) → L.read-hash true input room f w s ≡ ok v t → Filled (suc l) p s₀ v t
     unfolding L.read-hash L.read-default _>>=_
-    hash-default-traced p g s t v e =
+    hash-default-traced {s = s} w g t v e =
         add-object-node-then room nil s _ v t e λ l₁ l₂ e₁.
         counted-then input room 2 _ (with-object-node nil s) v t e₁ λ n k a y r e₂.
         un e₂ λ x u e₃ e₄.
-        un e₄ λ d w e₅ e₆.
+        un e₄ λ d u₂ e₅ e₆.
         let (ms, z) = elements-traced f h (n * 2) (length (s .references)) _ u x e₃ in
-        reading k a (spelt-before y) (ended (hash-default {ms = ms} n (kind-more _ g) l₁ l₂ r z (h .any u w d e₅)) (filled _ _ w t v e₆))
+        let q = h .any u u₂ d e₅ in
+        filled-end _ _ u₂ hash-fixed (omega (arith, below-members (read-to k a s) z, kept q .grows)) (hash-default {ms = ms} n w (g k a _ (spelt-before y)) l₁ l₂ r z q) e₆
 
     object-traced : After (suc l) value OBJECT (L.read-object input room f)
     unfolding L.read-object _>>=_
@@ -512,8 +547,9 @@ module _ (input : List ℕ) (room : Room) where
       add-object-node-then room _ (with-bytes b (read-to k n s)) pure v t (last _ _ _ e₂) λ l₂ l₃ e₃.
       g b k n a p l₁ l₂ l₃ e₃
 
-  text-traced : {l k n : ℕ} (q : Texted k n) → After (suc l) text k (L.read-text input room (text-row q))
-  text-traced q p g s t v e = text-then (text-row q) s t v e λ b k n a x l₁ l₂ l₃ e₁. reading k n a (ended (text-bytes q b (kind-more _ g) x l₁ l₂ l₃) e₁)
+  text-traced : {l k n : ℕ} {c : Bool} {p : List ℕ} {s₀ s : State} (q : Texted k n c) (w : ℕ) → optional-present w ≡ c → Opens l k p s₀ w s → (t : State) (v : ℕ)
+      → L.read-text input room (λ start n. text-row q start n w) s ≡ ok v t → Trace input room (suc l) text p s₀ (v ∷ []) t
+  text-traced {s = s} q w o g t v e = text-then (λ start n. text-row q start n w) s t v e λ b k n a x l₁ l₂ l₃ e₁. ended (text-bytes q w b o (g k n _ a) x l₁ l₂ l₃) e₁
 
   user-traced : {l : ℕ} → After (suc l) text USER-DEFINED (L.read-user-defined input room)
   unfolding L.read-user-defined _>>=_
@@ -548,14 +584,14 @@ module _ (input : List ℕ) (room : Room) where
   -- only a string or a user-defined node takes variables
   set-variables-then : (h p n : ℕ) (r : Row) (u t : State) (v : ℕ) → L.set-variables h p n r u ≡ ok v t → (r′ : Row) × Varied p n r r′ × (ok h (with-row h r′ u) ≡ ok v t)
   unfolding L.set-variables L.fill kind words row-of vars pick refuse
-  set-variables-then h p n (string a l x) u t v e = (string a l (present p n), varied-string, e)
+  set-variables-then h p n (string a l x w) u t v e = (string a l (present p n) w, varied-string, e)
   set-variables-then h p n (user a l c x) u t v e = (user a l c (present p n), varied-user, e)
   set-variables-then h p n nil u t v e = apart (cc)
   set-variables-then h p n (bool b) u t v e = apart (cc)
   set-variables-then h p n (fixnum w) u t v e = apart (cc)
   set-variables-then h p n (symbol a l) u t v e = apart (cc)
-  set-variables-then h p n (array a m) u t v e = apart (cc)
-  set-variables-then h p n (hash a m d) u t v e = apart (cc)
+  set-variables-then h p n (array a m w) u t v e = apart (cc)
+  set-variables-then h p n (hash a m d w) u t v e = apart (cc)
   set-variables-then h p n (object a m c) u t v e = apart (cc)
   set-variables-then h p n (float a l) u t v e = apart (cc)
   set-variables-then h p n (bignum low high m) u t v e = apart (cc)
@@ -566,28 +602,66 @@ module _ (input : List ℕ) (room : Room) where
   varied-at p n r′ (r ∷ l) (suc h) x = varied-at p n r′ l h x
 
   -- `I` notes what stands after it; a value is read from inside the input
-  inner-traced : {l : ℕ} (f : Reader ℕ) → Traced l f → (s u : State) (h : ℕ) (d : Bool) → L.takes-variables (getD input (s .at) 0) ≡ d → f (noted d s) ≡ ok h u → (m : Mode) × Inner u m × Trace input room l m [] s (h ∷ []) u
-  inner-traced f g s u h true q e = (text, inner-text, g .direct s u h e q)
+  inner-traced : {l : ℕ} (f : Reader ℕ) → Traced l f → (s u : State) (h : ℕ) (d : Bool) → L.takes-variables (getD input (s .at) 0) ≡ d → f (noted d s) ≡ ok h u → ((m : Mode) × Inner u m × Trace input room l m [] s (h ∷ []) u) ⊎ Unvaried u h
+  inner-traced {l} f g s u h true q e = go (g .direct s u h e q)
+    where
+      go : Trace input room l text [] s (h ∷ []) u ⊎ Unvaried u h → ((m : Mode) × Inner u m × Trace input room l m [] s (h ∷ []) u) ⊎ Unvaried u h
+      go (inl x) = inl (text, inner-text, x)
+      go (inr x) = inr x
   inner-traced {l} f g s u h false q e =
       let x = g .any (noted false s) u h e in
       let nothing : Spelt input s (s .at) false [] = record { on = omega arith; inside = λ j. j; off = λ o. refl; text = λ o. apart (cc) } in
-      (value, inner-value (forwards x .off refl), reading (s .at) false nothing x)
+      inl (value, inner-value (forwards x .off refl), reading (s .at) false nothing x)
 
   variables-traced : {l : ℕ} (f : Reader ℕ) → Traced l f → After (suc l) value INSTANCE-VARIABLES (L.read-variables input room f)
   unfolding L.read-variables L.note _>>=_ look next
-  variables-traced f g p q s t v e =
+  variables-traced {l} f g p q s t v e =
       un e λ h u e₁ e₂.
-      let (m, i, x) = inner-traced f g s u h (L.takes-variables (getD input (s .at) 0)) refl e₁ in
       instance-variables-then f g _ u v t e₂ λ n k a ms w y r z e₃.
       let (r′, c, e₄) = set-variables-then h (length (u .references)) n (getD (w .nodes) h nil) w t v e₃ in
-      ended (variables {ms = ms} n k a q i x y r z (varied-at _ _ r′ (w .nodes) h c) c) e₄
+      ended (by h u n k a ms w r′ y r z c (inner-traced f g s u h (L.takes-variables (getD input (s .at) 0)) refl e₁)) e₄
+    where
+      by : (h : ℕ) (u : State) (n k : ℕ) (a : Bool) (ms : List ℕ) (w : State) (r′ : Row) → Spelt input u k a (integer-bytes n) → n * 2 ≤ room .references - length (u .references)
+          → Trace input room l (pairs n (length (u .references))) [] (with-room (n * 2) (read-to k a u)) ms w → Varied (length (u .references)) n (getD (w .nodes) h nil) r′
+          → ((m : Mode) × Inner u m × Trace input room l m [] s (h ∷ []) u) ⊎ Unvaried u h → Trace input room (suc l) value p s (h ∷ []) (with-row h r′ w)
+      by h u n k a ms w r′ y r z c (inl (m, i, x)) = variables {ms = ms} n k a q i x y r z (varied-at _ _ r′ (w .nodes) h c) c
+      by h u n k a ms w r′ y r z c (inr (r₁, o, x)) =
+          absurd (o _ _ r′ (subst (λ (r : Row). Varied (length (u .references)) n r r′) (getD-at (w .nodes) h nil r₁ (kept z .stands h r₁ o x)) c))
 
   no-value : {A : Type 0} (r : Refusal) (s t : State) (v : ℕ) → refuse r s ≡ ok v t → A
   unfolding refuse
   no-value r s t v e = apart (cc)
 
+  -- a byte string or user-defined, or what takes no variables
+  abbrev Direct : ℕ → List ℕ → State → ℕ → State → Type 0
+  Direct l p s v t = Trace input room l text p s (v ∷ []) t ⊎ Filled l p s v t
+
+  direct-any : {l : ℕ} {p : List ℕ} {s t : State} {v : ℕ} → Direct l p s v t → Trace input room l value p s (v ∷ []) t
+  direct-any (inl x) = stored x
+  direct-any (inr x) = x .0
+
+  module _ {l : ℕ} (f : Reader ℕ) (h : Traced l f) where
+    wrapped-traced : {p : List ℕ} {s₀ s : State} (k c : ℕ) → ((b : ℕ) → k ≡ b → Opens l b p s₀ (suc c) s) → (t : State) (v : ℕ) → L.read-wrapped input room f k (suc c) s ≡ ok v t → Direct (suc l) p s₀ v t
+    unfolding L.read-wrapped L.read-string optional-present pick
+    wrapped-traced {p} {s₀} {s} k c g t v e = go (eqb k STRING) (eqb k ARRAY) (eqb k HASH) (eqb k HASH-DEFAULT) refl refl refl refl e
+      where
+        go : (x₁ x₂ x₃ x₄ : Bool) → eqb k STRING ≡ x₁ → eqb k ARRAY ≡ x₂ → eqb k HASH ≡ x₃ → eqb k HASH-DEFAULT ≡ x₄
+            → pick x₁ (L.read-string input room (suc c)) (pick x₂ (L.read-array input room f (suc c)) (pick x₃ (L.read-hash false input room f (suc c)) (pick x₄ (L.read-hash true input room f (suc c)) (refuse (NotWrappable k))))) s ≡ ok v t → Direct (suc l) p s₀ v t
+        go true x₂ x₃ x₄ q₁ q₂ q₃ q₄ e = inl (text-traced text-string (suc c) refl (g STRING (eqb-true k STRING q₁)) t v e)
+        go false true x₃ x₄ q₁ q₂ q₃ q₄ e = inr (array-traced f h (suc c) (g ARRAY (eqb-true k ARRAY q₂)) t v e)
+        go false false true x₄ q₁ q₂ q₃ q₄ e = inr (hash-traced f h (suc c) (g HASH (eqb-true k HASH q₃)) t v e)
+        go false false false true q₁ q₂ q₃ q₄ e = inr (hash-default-traced f h (suc c) (g HASH-DEFAULT (eqb-true k HASH-DEFAULT q₄)) t v e)
+        go false false false false q₁ q₂ q₃ q₄ e = no-value _ s t v e
+
+    class-traced : (p : List ℕ) → p ≡ USER-CLASS ∷ [] → (s t : State) (v : ℕ) → L.read-user-class input room f s ≡ ok v t → Direct (suc l) p s v t
+    unfolding L.read-user-class _>>=_
+    class-traced p g s t v e =
+        un e λ c u e₁ e₂.
+        read-byte-then input u _ v t e₂ λ j e₃.
+        wrapped-traced _ c (λ b z. class-opens g (name-traced s u c e₁) j z) t v e₃
+
   value-of-traced : {l : ℕ} (f : Reader ℕ) → Traced l f → (k : ℕ) (d : L.Head) → Kinded k d → After (suc l) value k (L.value-of input room f k d)
-  unfolding L.value-of L.read-string L.read-float
+  unfolding L.value-of L.read-string L.read-float optional-present
   value-of-traced f h k L.Nil q p g s t v e = node-traced p nil (rw (g, q) plain-nil) s t v e
   value-of-traced f h k L.True q p g s t v e = node-traced p (bool true) (rw (g, q) plain-true) s t v e
   value-of-traced f h k L.False q p g s t v e = node-traced p (bool false) (rw (g, q) plain-false) s t v e
@@ -596,25 +670,28 @@ module _ (input : List ℕ) (room : Room) where
   value-of-traced {l} f h k L.SymbolLink q p g s t v e = symbol-link-traced (suc l) value as-value p (same-kind q g) s t v e
   value-of-traced f h k L.ObjectLink q p g s t v e = object-link-traced p (same-kind q g) s t v e
   value-of-traced f h k L.InstanceVariables q p g s t v e = variables-traced f h p (same-kind q g) s t v e
-  value-of-traced f h k L.Array q p g s t v e = array-traced f h p (same-kind q g) s t v e
-  value-of-traced f h k L.Hash q p g s t v e = hash-traced f h p (same-kind q g) s t v e
-  value-of-traced f h k L.HashDefault q p g s t v e = hash-default-traced f h p (same-kind q g) s t v e
+  value-of-traced f h k L.Array q p g s t v e = array-traced f h 0 (opens (same-kind q g) s) t v e .0
+  value-of-traced f h k L.Hash q p g s t v e = hash-traced f h 0 (opens (same-kind q g) s) t v e .0
+  value-of-traced f h k L.HashDefault q p g s t v e = hash-default-traced f h 0 (opens (same-kind q g) s) t v e .0
   value-of-traced f h k L.Object q p g s t v e = object-traced f h p (same-kind q g) s t v e
-  value-of-traced f h k L.String q p g s t v e = stored (text-traced text-string p (same-kind q g) s t v e)
+  value-of-traced f h k L.String q p g s t v e = stored (text-traced text-string 0 refl (opens (same-kind q g) s) t v e)
   value-of-traced f h k L.UserDefined q p g s t v e = stored (user-traced p (same-kind q g) s t v e)
-  value-of-traced f h k L.Float q p g s t v e = stored (text-traced text-float p (same-kind q g) s t v e)
+  value-of-traced f h k L.Float q p g s t v e = stored (text-traced text-float 0 refl (opens (same-kind q g) s) t v e)
   value-of-traced f h k L.Bignum q p g s t v e = bignum-traced p (same-kind q g) s t v e
+  value-of-traced f h k L.UserClass q p g s t v e = direct-any (class-traced f h p (same-kind q g) s t v e)
   value-of-traced f h k L.Unknown q p g s t v e = no-value _ s t v e
 
   -- the kind bytes that `I` goes before
-  direct-traced : {l : ℕ} (f : Reader ℕ) (k : ℕ) → L.takes-variables k ≡ true → After (suc l) text k (L.value-of input room f k (L.head k))
-  unfolding L.takes-variables L.value-of L.head L.read-string pick
-  direct-traced {l} f k q p g s t v e = go (eqb k STRING) (eqb k USER-DEFINED) refl refl q
+  direct-traced : {l : ℕ} (f : Reader ℕ) → Traced l f → (k : ℕ) → L.takes-variables k ≡ true → (p : List ℕ) → p ≡ k ∷ [] → (s t : State) (v : ℕ) → L.value-of input room f k (L.head k) s ≡ ok v t
+      → Direct (suc l) p s v t
+  unfolding L.takes-variables L.value-of L.head L.read-string optional-present pick
+  direct-traced {l} f h k q p g s t v e = go (eqb k STRING) (eqb k USER-DEFINED) (eqb k USER-CLASS) refl refl refl q
     where
-      go : (x y : Bool) → eqb k STRING ≡ x → eqb k USER-DEFINED ≡ y → (x || y) ≡ true → Trace input room (suc l) text p s (v ∷ []) t
-      go true y i j w = let z = eqb-true k STRING i in text-traced text-string p (same-kind z g) s t v (rw z at e)
-      go false true i j w = let z = eqb-true k USER-DEFINED j in user-traced p (same-kind z g) s t v (rw z at e)
-      go false false i j w = apart (cc)
+      go : (x y z : Bool) → eqb k STRING ≡ x → eqb k USER-DEFINED ≡ y → eqb k USER-CLASS ≡ z → (x || y || z) ≡ true → Direct (suc l) p s v t
+      go true y z i j m w = let r = eqb-true k STRING i in inl (text-traced text-string 0 refl (opens (same-kind r g) s) t v (rw r at e))
+      go false true z i j m w = let r = eqb-true k USER-DEFINED j in inl (user-traced p (same-kind r g) s t v (rw r at e))
+      go false false true i j m w = let r = eqb-true k USER-CLASS m in class-traced f h p (same-kind r g) s t v (rw r at e)
+      go false false false i j m w = apart (cc)
 
   pub value-traced : (limit levels : ℕ) → Traced levels (L.read-value input room limit levels)
   unfolding L.read-value _>>=_
@@ -626,9 +703,13 @@ module _ (input : List ℕ) (room : Room) where
         (value-of-traced (L.read-value input room limit levels) (value-traced limit levels) (getD input (s .at) 0) _ (kinded (getD input (s .at) 0)) _ refl (at-set (s .at + 1) s) t v e₁);
     direct = λ s t v e q.
         read-byte-then input s _ v t e λ j e₁.
-        reading (s .at + 1) (s .notes .form) (byte-spelt input s j)
-        (direct-traced (L.read-value input room limit levels) (getD input (s .at) 0) q _ refl (at-set (s .at + 1) s) t v e₁);
+        after s t v j (direct-traced (L.read-value input room limit levels) (value-traced limit levels) (getD input (s .at) 0) q _ refl (at-set (s .at + 1) s) t v e₁);
   }
+    where
+      after : (s t : State) (v : ℕ) → s .at < length input → Direct (suc levels) (getD input (s .at) 0 ∷ []) (at-set (s .at + 1) s) v t
+          → Trace input room (suc levels) text [] s (v ∷ []) t ⊎ Unvaried t v
+      after s t v j (inl x) = inl (reading (s .at + 1) (s .notes .form) (byte-spelt input s j) x)
+      after s t v j (inr x) = inr (x .1)
 
   header-read : (s : State) (x : Unit {0}) (u : State) → L.read-header input s ≡ ok x u → Read input (λ _. 0x04 ∷ 0x08 ∷ []) x s u
   unfolding L.read-header L.note _>>=_

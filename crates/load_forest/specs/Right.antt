@@ -5,16 +5,16 @@ use mathlib.Core.Path.{_∙_}
 use mathlib.Core.Bool.{Bool, true, false}
 use mathlib.Core.Logic.{_⊎_, inl, inr, _≢_}
 use mathlib.Core.Option.{some}
-use mathlib.Core.List.{List, [], _∷_, append-nil}
+use mathlib.Core.List.{List, [], _∷_, _++_, append-nil}
 use lib.ListN.{length, replicate, length-set, length-append}
 use native.Mathlib.Omega.{arith}
 use Rattle.definition.specs.Run.{ok, pick}
 use Rattle.definition.specs.Magnitude.{magnitude}
-use Rattle.definition.specs.Node.{Row, nil, fixnum, symbol, hash, object, user, bignum, absent, kind}
+use Rattle.definition.specs.Node.{Row, nil, fixnum, symbol, hash, object, user, bignum, absent, kind, words, optional-node}
 use Rattle.definition.specs.Arena.{Arena, range, firsts, row-right}
 use Rattle.definition.specs.State.{State, Room, noted}
 use Rattle.definition.specs.Load.{begin, load}
-use Rattle.definition.specs.Graph.{links, vars-links, default-link}
+use Rattle.definition.specs.Graph.{links, vars-links}
 use Rattle.lists.specs.Lists.{At, at-lt, at-app, at-snoc, at-snoc-inv, at-set-same, at-set-other, at-set-inv, len-snoc, apart, Below, below-up, below-snoc, below-first, below-join, no-at, below-one}
 use Rattle.lists.specs.Ranges.{range-more}
 use Rattle.graph.specs.Forest.{sym, Texted, text-string, text-float}
@@ -22,14 +22,14 @@ use Rattle.graph.specs.View.{text-row, arena-of, state-seen}
 use Rattle.well_formed.specs.Nodes.{Name}
 use Rattle.well_formed.specs.Right as W
 use Rattle.well_formed.specs.Right.{NumberRight, name-below}
-use Rattle.load_forest.specs.Trace.{Mode, value, text, name, elements, pairs, One, as-value, as-name, Plain, plain-nil, plain-true, plain-false, plain-fixnum, Trace, reading, plain, known, new, symbol-link, object-link, list, hash-default, object-pairs, text-bytes, user-bytes, bignum-node, stored, variables, no-elements, element, no-pairs, pair}
+use Rattle.load_forest.specs.Trace.{Mode, value, text, name, opening, elements, pairs, One, as-value, as-name, Plain, plain-nil, plain-true, plain-false, plain-fixnum, list-class, Trace, reading, plain, known, new, symbol-link, object-link, unclassed, classed, list, hash-default, object-pairs, text-bytes, user-bytes, bignum-node, stored, variables, no-elements, element, no-pairs, pair}
 use Rattle.load_forest.specs.Readers.{load-traced}
-use Rattle.load_forest.specs.Frames.{Ready, left, ready-reading, ready-text, ready-inner, ready-value, ready-name, ready-pairs, ready-opened, ready-next, ready-after-name, ready-after-value}
+use Rattle.load_forest.specs.Frames.{Ready, left, ready-reading, ready-text, ready-inner, ready-value, ready-name, ready-opening, ready-pairs, ready-opened, ready-next, ready-after-name, ready-after-value}
 use Rattle.load_forest.specs.Kept.{Kept, kept, nil-fixed, symbol-fixed}
-use Rattle.states.specs.Rows.{bytes-start, bytes-length, list-start, list-length, row-words, Listed, is-array, is-hash, Varied, varied-string, varied-user, ranges}
-use Rattle.states.specs.States.{keeps-refl, keeps-trans, Inside, Ranged, Free, read-to, sought, with-node, with-object, with-symbol, with-object-node, with-bytes, with-words, with-word, with-row, with-new-symbol, inside-up, seen-at-inv, frame-range, free-part, inside-nil, inside-bignum, words-but, with-room, opened-ranged, begin-ranged}
+use Rattle.states.specs.Rows.{bytes-start, bytes-length, list-start, list-length, vars-start, vars-length, row-words, Listed, is-array, is-hash, Varied, varied-string, varied-user, ranges}
+use Rattle.states.specs.States.{keeps-refl, keeps-trans, keeps-object-node, Inside, Ranged, Free, read-to, sought, with-node, with-object, with-symbol, with-object-node, with-bytes, with-words, with-word, with-row, with-new-symbol, inside-up, seen-at-inv, frame-range, free-part, inside-nil, inside-bignum, words-but, with-room, opened-ranged, begin-ranged}
 use Rattle.states.specs.Symbols.{symbol-of}
-use Rattle.states.specs.Right.{row-names, Numbered, RightIn, Onward, right-yes, row-onward, names-first, names-by-kind, own-names}
+use Rattle.states.specs.Right.{row-names, Numbered, RightIn, Onward, right-yes, row-onward, names-first, names-join, names-left, pair-names, own-names}
 
 -- node c is a symbol
 abbrev pub IsName : State → ℕ → Type 0
@@ -45,6 +45,13 @@ pub record Right (s : State) : Type 0 where
 
 pub name-kept : {s t : State} (c : ℕ) → Kept s t → IsName s c → IsName t c
 name-kept c κ (a, l, e) = (a, l, κ .stands c (symbol a l) symbol-fixed e)
+
+-- a class, where there is one, is a symbol
+abbrev ClassRight : State → ℕ → Type 0
+ClassRight s w = W.ClassRight (arena-of s 0) w
+
+class-kept : {s t : State} (w : ℕ) → Kept s t → ClassRight s w → ClassRight t w
+class-kept w κ h k c a = name-kept c κ (h k c a)
 
 -- ---- a row is right in a later state, where its words are the same
 
@@ -154,6 +161,7 @@ abbrev names-of : Mode → List ℕ → List ℕ
 names-of value vs = []
 names-of text vs = []
 names-of name vs = vs
+names-of (opening w q) vs = vs
 names-of (elements n i) vs = []
 names-of (pairs n i) vs = firsts vs
 
@@ -187,53 +195,70 @@ bare s r i l n m = record {
 }
 
 plain-right : {input p : List ℕ} (s : State) (r : Row) → Plain input p r → Inside s r → RowRight s r
-unfolding links row-names names-by-kind own-names kind pick
+unfolding links row-names pair-names own-names kind words optional-node pick
 plain-right s r plain-nil i = bare s nil i refl refl (λ low high m e. apart (cc))
 plain-right s r plain-true i = bare s _ i refl refl (λ low high m e. apart (cc))
 plain-right s r plain-false i = bare s _ i refl refl (λ low high m e. apart (cc))
 plain-right s r (plain-fixnum w u t e) i = bare s (fixnum w) i refl refl (λ low high m e. apart (cc))
 
 nil-right : (s : State) → RowRight s nil
-unfolding links row-names names-by-kind own-names kind pick
+unfolding links row-names pair-names own-names kind words optional-node pick
 nil-right s = bare s nil (inside-nil s) refl refl (λ low high m e. apart (cc))
 
 symbol-right : (s : State) (a l : ℕ) → Inside s (symbol a l) → RowRight s (symbol a l)
-unfolding links row-names names-by-kind own-names kind pick
+unfolding links row-names pair-names own-names kind words optional-node pick
 symbol-right s a l i = bare s (symbol a l) i refl refl (λ low high m e. apart (cc))
 
-text-right : {k n : ℕ} (q : Texted k n) (s : State) (a l : ℕ) → Inside s (text-row q a l) → RowRight s (text-row q a l)
-unfolding links row-names vars-links firsts names-by-kind own-names kind pick
-text-right text-string s a l i = bare s _ i refl refl (λ low high m e. apart (cc))
-text-right text-float s a l i = bare s _ i refl refl (λ low high m e. apart (cc))
+-- links and names that begin with a class
+class-links : (s : State) (w : ℕ) (ms : List ℕ) → ClassRight s w → Below (length (s .nodes)) ms → Below (length (s .nodes)) (optional-node w ++ ms)
+class-links s w ms c b = below-join _ (optional-node w) ms (W.class-below (arena-of s 0) w c) b
+
+class-names : (s : State) (w : ℕ) → ClassRight s w → (k d : ℕ) → At (optional-node w ++ []) k d → IsName s d
+class-names s w c = names-join (arena-of s 0) (optional-node w) [] c (λ k d a. no-at k d a)
+
+text-right : {k n : ℕ} {d : Bool} (q : Texted k n d) (s : State) (a l w : ℕ) → ClassRight s w → Inside s (text-row q a l w) → RowRight s (text-row q a l w)
+unfolding links row-names vars-links firsts range list-length vars-length ranges pair-names own-names kind words optional-node pick
+text-right text-string s a l w c i = record { inside = i; below = class-links s w [] c (λ k v a. no-at k v a); names = class-names s w c; number = λ low high m e. apart (cc) }
+text-right text-float s a l w c i = bare s _ i refl refl (λ low high m e. apart (cc))
 
 bignum-right : (s : State) (low high : ℕ) (m : Bool) → NumberRight (magnitude low high) m → RowRight s (bignum low high m)
-unfolding links row-names names-by-kind own-names kind pick
+unfolding links row-names pair-names own-names kind words optional-node pick
 bignum-right s low high m h = bare s _ (inside-bignum low high m s) refl refl (λ a b c e. subst (W.RowRight (arena-of s 0)) e h)
 
 user-right : (s : State) (a l c : ℕ) → Inside s (user a l c absent) → IsName s c → RowRight s (user a l c absent)
-unfolding links row-names vars-links firsts names-by-kind own-names kind pick
+unfolding links row-names vars-links firsts range list-length vars-length ranges pair-names own-names kind words optional-node pick
 user-right s a l c i n = record { inside = i; below = below-one _ c (name-below (arena-of s 0) c n); names = names-first (arena-of s 0) c [] n (λ k d a. no-at k d a); number = λ low high m e. apart (cc) }
 
-listed-right : {p : ℕ} (s : State) (r : Row) (ms : List ℕ) → Listed p r → Inside s r → range (s .references) p (list-length r) ≡ ms → Below (length (s .nodes)) ms → RowRight s r
-unfolding links row-names list-length default-link ranges names-by-kind own-names kind pick
-listed-right {p = p} s r ms (is-array n) i e b = record { inside = i; below = λ k v a. b k v (rw e at a); names = λ k v a. no-at k v a; number = λ low high m q. apart (cc) }
-listed-right {p = p} s r ms (is-hash n) i e b = record {
+listed-right : {p : ℕ} (s : State) (r : Row) (ms : List ℕ) (q : Listed p r) → ClassRight s (list-class q) → Inside s r → range (s .references) p (list-length r) ≡ ms → Below (length (s .nodes)) ms → RowRight s r
+unfolding links row-names list-length ranges pair-names own-names kind words optional-node pick
+listed-right {p = p} s r ms (is-array n w) c i e b = record {
   inside = i;
-  below = λ k v a. b k v (subst (λ (x : List ℕ). At x k v) (append-nil (range (s .references) p (n * 2)) ∙ e) a);
-  names = λ k v a. no-at k v a;
+  below = class-links s w (range (s .references) p n) c (λ k v a. b k v (rw e at a));
+  names = class-names s w c;
+  number = λ low high m q. apart (cc);
+}
+listed-right {p = p} s r ms (is-hash n w) c i e b = record {
+  inside = i;
+  below = class-links s w (range (s .references) p (n * 2) ++ []) c (λ k v a. b k v (subst (λ (x : List ℕ). At x k v) (append-nil (range (s .references) p (n * 2)) ∙ e) a));
+  names = class-names s w c;
   number = λ low high m q. apart (cc);
 }
 
-hash-right : (s : State) (p n d : ℕ) (ms : List ℕ) → Inside s (hash p n (d + 1)) → range (s .references) p (n * 2) ≡ ms → Below (length (s .nodes)) ms → d < length (s .nodes) → RowRight s (hash p n (d + 1))
-unfolding links row-names default-link names-by-kind own-names kind pick
-hash-right s p n d ms i e b h = record { inside = i; below = below-join _ (range (s .references) p (n * 2)) (default-link (d + 1)) (λ k v a. b k v (rw e at a)) last; names = λ k v a. no-at k v a; number = λ low high m q. apart (cc) }
+hash-right : (s : State) (p n d w : ℕ) (ms : List ℕ) → ClassRight s w → Inside s (hash p n (d + 1) w) → range (s .references) p (n * 2) ≡ ms → Below (length (s .nodes)) ms → d < length (s .nodes) → RowRight s (hash p n (d + 1) w)
+unfolding links row-names pair-names own-names kind words optional-node pick
+hash-right s p n d w ms c i e b h = record {
+  inside = i;
+  below = class-links s w (range (s .references) p (n * 2) ++ optional-node (d + 1)) c (below-join _ (range (s .references) p (n * 2)) (optional-node (d + 1)) (λ k v a. b k v (rw e at a)) last);
+  names = class-names s w c;
+  number = λ low high m q. apart (cc);
+}
   where
-    last : Below (length (s .nodes)) (default-link (d + 1))
+    last : Below (length (s .nodes)) (optional-node (d + 1))
     last = let z : d + 1 ≡ suc d = omega arith in rw z (below-one _ d h)
 
 object-right : (s : State) (p n c : ℕ) (ms : List ℕ) → Inside s (object p n c) → range (s .references) p (n * 2) ≡ ms → IsName s c → Below (length (s .nodes)) ms
     → ((k d : ℕ) → At (firsts ms) k d → IsName s d) → RowRight s (object p n c)
-unfolding links row-names names-by-kind own-names kind pick
+unfolding links row-names list-start list-length ranges pair-names own-names kind words optional-node pick
 object-right s p n c ms i e x b h = record {
   inside = i;
   below = below-first _ c (range (s .references) p (n * 2)) (name-below (arena-of s 0) c x) (λ k v a. b k v (rw e at a));
@@ -243,13 +268,15 @@ object-right s p n c ms i e x b h = record {
 
 varied-right : {p n : ℕ} (s : State) (r r′ : Row) (ms : List ℕ) → Varied p n r r′ → Inside s r′ → range (s .references) p (n * 2) ≡ ms → RowRight s r → Below (length (s .nodes)) ms
     → ((k d : ℕ) → At (firsts ms) k d → IsName s d) → RowRight s r′
-unfolding links row-names vars-links names-by-kind own-names kind pick
-varied-right s r r′ ms varied-string i e x b h = record {
-  inside = i;
-  below = λ k v a. b k v (rw e at a);
-  names = λ k d a. h k d (subst (λ (l : List ℕ). At (firsts l) k d) e a);
-  number = λ low high m q. apart (cc);
-}
+unfolding links row-names vars-links list-start list-length vars-start vars-length ranges pair-names own-names kind words pick
+varied-right {p = p} {n = n} s r r′ ms (varied-string {w = w}) i e x b h =
+    let c = names-left (arena-of s 0) (optional-node w) _ (x .names) in
+    record {
+      inside = i;
+      below = class-links s w (range (s .references) p (n * 2)) c (λ k v a. b k v (rw e at a));
+      names = names-join (arena-of s 0) (optional-node w) (firsts (range (s .references) p (n * 2))) c (λ k d a. h k d (subst (λ (l : List ℕ). At (firsts l) k d) e a));
+      number = λ low high m q. apart (cc);
+    }
 varied-right {p = p} {n = n} s r r′ ms (varied-user {c = c}) i e x b h = record {
   inside = i;
   below = below-first _ c (range (s .references) p (n * 2)) (x .below 0 c refl) (λ k v a. b k v (rw e at a));
@@ -258,8 +285,7 @@ varied-right {p = p} {n = n} s r r′ ms (varied-user {c = c}) i e x b h = recor
 }
 
 varied-no-symbol : {p n : ℕ} (r r′ : Row) → Varied p n r r′ → (a l : ℕ) → r ≡ symbol a l → ⊥
-varied-no-symbol r r′ varied-string a l e = apart (cc)
-varied-no-symbol r r′ varied-user a l e = apart (cc)
+varied-no-symbol {p} {n} r r′ q a l e = symbol-fixed p n r′ (subst (λ (x : Row). Varied p n x r′) e q)
 
 opened-right : (s : State) → Right s → Right (with-object-node nil s)
 opened-right s x = right-object-node nil s (nil-right s) x
@@ -320,20 +346,20 @@ filled-inside h r t l g = inside-up (with-row h r t) t r (omega arith) (omega ar
 opened-at : (s t : State) → Kept (with-object-node nil s) t → length (s .nodes) < length (t .nodes)
 opened-at s t κ = at-lt (t .nodes) (length (s .nodes)) nil (still-nil s t κ)
 
-done-list : (s t : State) (r : Row) (ms : List ℕ) → Listed (length (s .references)) r → Kept (with-object-node nil s) t → Ranged (with-row (length (s .nodes)) r t)
+done-list : (s t : State) (r : Row) (ms : List ℕ) (l : Listed (length (s .references)) r) → ClassRight s (list-class l) → Kept (with-object-node nil s) t → Ranged (with-row (length (s .nodes)) r t)
     → range (t .references) (length (s .references)) (list-length r) ≡ ms → Done (elements (list-length r) (length (s .references))) t ms
     → Done value (with-row (length (s .nodes)) r t) (length (s .nodes) ∷ [])
-done-list s t r ms l κ g e d =
-    filled-right s t r κ (listed-right t r ms l (filled-inside (length (s .nodes)) r t (opened-at s t κ) g) e (d .given .below)) (d .right)
+done-list s t r ms l c κ g e d =
+    filled-right s t r κ (listed-right t r ms l (class-kept (list-class l) (keeps-trans (keeps-object-node nil s) κ) c) (filled-inside (length (s .nodes)) r t (opened-at s t κ) g) e (d .given .below)) (d .right)
 
-done-hash-default : (s t u : State) (n d : ℕ) (ms : List ℕ) → Kept (with-object-node nil s) t → Kept t u → Ranged (with-row (length (s .nodes)) (hash (length (s .references)) n (d + 1)) u)
+done-hash-default : (s t u : State) (n d w : ℕ) (ms : List ℕ) → ClassRight s w → Kept (with-object-node nil s) t → Kept t u → Ranged (with-row (length (s .nodes)) (hash (length (s .references)) n (d + 1) w) u)
     → range (u .references) (length (s .references)) (n * 2) ≡ ms → Below (length (t .nodes)) ms → Done value u (d ∷ [])
-    → Done value (with-row (length (s .nodes)) (hash (length (s .references)) n (d + 1)) u) (length (s .nodes) ∷ [])
-done-hash-default s t u n d ms κ λ′ g e b x =
+    → Done value (with-row (length (s .nodes)) (hash (length (s .references)) n (d + 1) w) u) (length (s .nodes) ∷ [])
+done-hash-default s t u n d w ms c κ λ′ g e b x =
     let κ′ = keeps-trans κ λ′ in
-    let r = hash (length (s .references)) n (d + 1) in
+    let r = hash (length (s .references)) n (d + 1) w in
     filled-right s u r κ′
-    (hash-right u (length (s .references)) n d ms (filled-inside (length (s .nodes)) r u (opened-at s u κ′) g) e (below-up _ _ ms (λ′ .grows) b) (x .given .below 0 d refl)) (x .right)
+    (hash-right u (length (s .references)) n d w ms (class-kept w (keeps-trans (keeps-object-node nil s) κ′) c) (filled-inside (length (s .nodes)) r u (opened-at s u κ′) g) e (below-up _ _ ms (λ′ .grows) b) (x .given .below 0 d refl)) (x .right)
 
 done-object : (s t u : State) (n c p : ℕ) (ms : List ℕ) → Kept (with-object-node nil s) t → Kept t u → Ranged (with-row (length (s .nodes)) (object p n c) u)
     → range (u .references) p (n * 2) ≡ ms → IsName t c → Done (pairs n p) u ms
@@ -354,9 +380,9 @@ done-added r b t y x = record {
   given = record { below = below-one _ (length (t .nodes)) (omega (arith, len-snoc (t .nodes) r)); named = λ k c a. no-at k c a };
 }
 
-done-text : {k n : ℕ} (q : Texted k n) (s : State) (b : List ℕ) (a l : ℕ) → Ranged (with-object-node (text-row q a l) (with-bytes b s)) → Right s
-    → Done text (with-object-node (text-row q a l) (with-bytes b s)) (length (s .nodes) ∷ [])
-done-text q s b a l g x = done-added (text-row q a l) b s (text-right q (with-bytes b s) a l (added-inside _ b s g)) x
+done-text : {k n : ℕ} {d : Bool} (q : Texted k n d) (s : State) (b : List ℕ) (a l w : ℕ) → ClassRight s w → Ranged (with-object-node (text-row q a l w) (with-bytes b s)) → Right s
+    → Done text (with-object-node (text-row q a l w) (with-bytes b s)) (length (s .nodes) ∷ [])
+done-text q s b a l w c g x = done-added (text-row q a l w) b s (text-right q (with-bytes b s) a l w c (added-inside _ b s g)) x
 
 done-bignum : (s : State) (low high n : ℕ) (m : Bool) → magnitude low high ≡ n → NumberRight n m → Right s → Done value (with-object-node (bignum low high m) s) (length (s .nodes) ∷ [])
 done-bignum s low high n m e h x =
@@ -409,18 +435,27 @@ right-of {m = m} {s = s} (known b v o a l) h d = done-known m o s b v a d
 right-of {m = m} {s = s} (new b e o n p l₁ l₂ l₃) h d = done-new m o s b d
 right-of {m = m} {s = s} (symbol-link i v e o a) h d = record { right = d; given = given-name o s v (d .symbols i v a) }
 right-of {s = s} (object-link i v e a) h d = record { right = d; given = given-value s v (d .objects i v a) }
-right-of {s = s} (list {t = t} {ms = ms} r q e l₁ l₂ l₃ x) h d =
-    let o = ready-opened (list-length r) s (h .ranged) in
-    let κ = keeps-trans (keeps-refl (with-object-node nil s) (with-room (list-length r) (with-object-node nil s)) refl) (kept x) in
-    done-list s t r ms q κ (left (list {ms = ms} r q e l₁ l₂ l₃ x) h .ranged) (left x o .words) (right-of x o (right-words (replicate (list-length r) 0) (with-object-node nil s) (opened-right s d)))
-right-of {s = s} (hash-default {t = t} {u = u} {ms = ms} {d = v} n f l₁ l₂ l₃ x y) h d =
-    let o = ready-opened (n * 2) s (h .ranged) in
+right-of (unclassed e) h d = record { right = d; given = record { below = λ k v a. no-at k v a; named = λ k v a. no-at k v a } }
+right-of {s = s} (classed {t = t} k a e x b) h d =
+    let z = right-of x (ready-name s (h .ranged)) d in
+    record { right = right-read k a t (z .right); given = record { below = z .given .below; named = z .given .named } }
+right-of {s = s} (list {o = s₁} {t = t} {ms = ms} r q c l₁ l₂ l₃ x) h d =
+    let j = ready-opening _ _ s (h .ranged) in
+    let d₀ = right-of c j d in
+    let o = ready-opened (list-length r) s₁ (left c j .ranged) in
+    let κ = keeps-trans (keeps-refl (with-object-node nil s₁) (with-room (list-length r) (with-object-node nil s₁)) refl) (kept x) in
+    done-list s₁ t r ms q (d₀ .given .named) κ (left (list {ms = ms} r q c l₁ l₂ l₃ x) h .ranged) (left x o .words)
+    (right-of x o (right-words (replicate (list-length r) 0) (with-object-node nil s₁) (opened-right s₁ (d₀ .right))))
+right-of {s = s} (hash-default {o = s₁} {t = t} {u = u} {ms = ms} {d = v} n w c l₁ l₂ l₃ x y) h d =
+    let j = ready-opening _ _ s (h .ranged) in
+    let d₀ = right-of c j d in
+    let o = ready-opened (n * 2) s₁ (left c j .ranged) in
     let z = left x o in
-    let w = ready-value t (z .ranged) in
-    let e = frame-range (length (s .references)) (n * 2) (left y w .frame) (omega (arith, o .fits, z .frame .references-grow)) (omega (arith, o .fits, z .frame .references-grow)) ∙ z .words in
-    let κ = keeps-trans (keeps-refl (with-object-node nil s) (with-room (n * 2) (with-object-node nil s)) refl) (kept x) in
-    let d₁ = right-of x o (right-words (replicate (n * 2) 0) (with-object-node nil s) (opened-right s d)) in
-    done-hash-default s t u n v ms κ (kept y) (left (hash-default {ms = ms} n f l₁ l₂ l₃ x y) h .ranged) e (d₁ .given .below) (right-of y w (d₁ .right))
+    let i = ready-value t (z .ranged) in
+    let e = frame-range (length (s₁ .references)) (n * 2) (left y i .frame) (omega (arith, o .fits, z .frame .references-grow)) (omega (arith, o .fits, z .frame .references-grow)) ∙ z .words in
+    let κ = keeps-trans (keeps-refl (with-object-node nil s₁) (with-room (n * 2) (with-object-node nil s₁)) refl) (kept x) in
+    let d₁ = right-of x o (right-words (replicate (n * 2) 0) (with-object-node nil s₁) (opened-right s₁ (d₀ .right))) in
+    done-hash-default s₁ t u n v w ms (d₀ .given .named) κ (kept y) (left (hash-default {ms = ms} n w c l₁ l₂ l₃ x y) h .ranged) e (d₁ .given .below) (right-of y i (d₁ .right))
 right-of {s = s} (object-pairs {t = t} {u = u} {ms = ms} {c = c} n k a e l₁ l₂ x b l₃ y) h d =
     let o = ready-name (with-object-node nil s) (opened-ranged s (h .ranged)) in
     let v = read-to k a t in
@@ -428,7 +463,9 @@ right-of {s = s} (object-pairs {t = t} {u = u} {ms = ms} {c = c} n k a e l₁ l�
     let d₁ = right-of x o (opened-right s d) in
     let d₂ = right-of y p (right-words (replicate (n * 2) 0) v (right-read k a t (d₁ .right))) in
     done-object s t u n c (length (t .references)) ms (kept x) (keeps-trans (keeps-refl t (with-room (n * 2) v) refl) (kept y)) (left (object-pairs {ms = ms} n k a e l₁ l₂ x b l₃ y) h .ranged) (left y p .words) (d₁ .given .named 0 c refl) d₂
-right-of {room = room} {l = l} {s = s} (text-bytes q b e p l₁ l₂ l₃) h d = done-text q s b _ _ (left {room = room} {l = l} (text-bytes q b e p l₁ l₂ l₃) h .ranged) d
+right-of {s = s} (text-bytes {o = s₁} q w b e c p l₁ l₂ l₃) h d =
+    let d₀ = right-of c (ready-opening _ _ s (h .ranged)) d in
+    done-text q s₁ b _ _ w (d₀ .given .named) (left (text-bytes q w b e c p l₁ l₂ l₃) h .ranged) (d₀ .right)
 right-of {s = s} (user-bytes {t = t} {c = c} b k a e x f p l₁ l₂ l₃) h d =
     let d₁ = right-of x (ready-name s (h .ranged)) d in
     done-user (read-to k a t) b _ _ c (left (user-bytes b k a e x f p l₁ l₂ l₃) h .ranged) (d₁ .given .named 0 c refl) (right-read k a t (d₁ .right))

@@ -12,8 +12,8 @@ use native.Mathlib.Omega.{arith}
 use Rattle.definition.specs.Run.{ok}
 use Rattle.definition.specs.Integer.{integer-bytes}
 use Rattle.definition.specs.Magnitude.{magnitude, bignum-bytes}
-use Rattle.definition.specs.Kind.{SYMBOL, SYMBOL-LINK, OBJECT-LINK, INSTANCE-VARIABLES, HASH-DEFAULT, OBJECT, USER-DEFINED, BIGNUM}
-use Rattle.definition.specs.Node.{Row, nil, hash, object, string, user, bignum, absent, present}
+use Rattle.definition.specs.Kind.{SYMBOL, SYMBOL-LINK, OBJECT-LINK, INSTANCE-VARIABLES, ARRAY, HASH, HASH-DEFAULT, OBJECT, USER-DEFINED, BIGNUM, USER-CLASS}
+use Rattle.definition.specs.Node.{Row, nil, hash, object, string, user, bignum, absent, present, optional-node, optional-present}
 use Rattle.definition.specs.Arena.{Arena, range}
 use Rattle.definition.specs.State.{State, Room, noted}
 use Rattle.definition.specs.Load.{begin, load}
@@ -22,17 +22,17 @@ use Rattle.definition.specs.Graph.{Header, header, header-of, links, vars-links
 use Rattle.lists.specs.Lists.{At, NotIn, Below, at-snoc, apart}
 use Rattle.lists.specs.Ranges.{range-last}
 use Rattle.graph.specs.Forest as F
-use Rattle.graph.specs.Forest.{Node, leaf, sym, box, F, fEnd, fLeaf, fBox, fRef, fSym, fSymref, fIv, Texted, high-text, Text, tEnd, tNil, tFalse, tTrue, tFixnum, tSymbol, tSymbolLink, tObjectLink, tArray, tHash, tHashDefault, tObject, tBignum}
+use Rattle.graph.specs.Forest.{Node, leaf, sym, box, F, fEnd, fLeaf, fBox, fRef, fSym, fSymref, fIv, Class, no-class, a-class, Texted, high-text, Text, tEnd, tNil, tFalse, tTrue, tFixnum, tSymbol, tSymbolLink, tObjectLink, tArray, tHash, tHashDefault, tObject, tBignum}
 use Rattle.graph.specs.Build.{St, push, pushO, addSym, put, Ph, B, bEnd, bLeaf, bBox, bRef, bKnown, bNew, bSymref, bIv, keep}
 use Rattle.graph.specs.View.{see, text-row, see-text, arena-of, state-seen}
 use Rattle.well_formed.specs.Right.{NumberRight}
-use Rattle.load_forest.specs.Trace.{Off, Spelt, Mode, value, text, name, elements, pairs, One, as-value, as-name, Plain, plain-nil, plain-true, plain-false, plain-fixnum, list-bytes, inner-text, inner-value, Trace, reading, plain, known, new, symbol-link, object-link, list, hash-default, object-pairs, text-bytes, user-bytes, bignum-node, stored, variables, no-elements, element, no-pairs, pair, forwards}
+use Rattle.load_forest.specs.Trace.{Off, Spelt, Mode, value, text, name, opening, elements, pairs, One, as-value, as-name, Plain, plain-nil, plain-true, plain-false, plain-fixnum, list-bytes, list-class, inner-text, inner-value, Trace, reading, plain, known, new, symbol-link, object-link, unclassed, classed, list, hash-default, object-pairs, text-bytes, user-bytes, bignum-node, stored, variables, no-elements, element, no-pairs, pair, forwards}
 use Rattle.load_forest.specs.Readers.{load-traced}
 use Rattle.load_forest.specs.Bytes.{integer-below}
-use Rattle.load_forest.specs.Frames.{Ready, Left, left, ready-reading, ready-text, ready-value, ready-name, ready-pairs, ready-opened, ready-next, ready-after-name, ready-after-value}
+use Rattle.load_forest.specs.Frames.{Ready, Left, left, ready-reading, ready-text, ready-value, ready-name, ready-opening, ready-pairs, ready-opened, ready-next, ready-after-name, ready-after-value}
 use Rattle.states.specs.Rows.{list-length, see-array, see-hash, see-hash-default, see-object, see-string-variables, see-bignum, see-user, see-user-variables, Listed, is-array, is-hash, Varied, varied-string, varied-user, ranges}
 use Rattle.states.specs.States.{read-to, sought, row-seen, Ranged, with-node, with-object-node, with-bytes, with-word, with-row, st-eq, length-seen, seen-at, seen-read-to, seen-sought, objs-seen, syms-seen, seen-symbol, seen-node, seen-object-node, seen-row, seen-word, frame-range, free-part, with-room, opened-ranged, opened-seen, room-seen, new-symbol-seen, bytes-node-seen, begin-ranged, with-new-symbol}
-use Rattle.load_forest.specs.Spelling.{Named, named-new, named-link, OneTree, Trees, Told, told-all, joined, told-reading, closed-trees, closed-pairs, one-name, class-text, no-trees, more-trees, last-tree, no-pairs-told, ValuePairs, value-then, more-pairs, Lettered, letters, user-letters, lettered-tree, varied-tree}
+use Rattle.load_forest.specs.Spelling.{Named, named-new, named-link, OneTree, Trees, Told, told-all, joined, told-reading, closed-trees, closed-pairs, one-name, class-text, no-trees, more-trees, last-tree, no-pairs-told, ValuePairs, value-then, more-pairs, Lettered, letters, user-letters, class-tree, lettered-tree, varied-tree}
 
 -- ---- which inputs
 
@@ -123,18 +123,25 @@ module _ (input : List ℕ) (w : Inputs) where
       (ap (λ (n : ℕ). put n (box hd (us ++ ms)) (state-seen t)) (length-seen s₁) ∙ ap (λ (n : Node). put (length (s₁ .nodes)) n (state-seen t)) (psym q) ∙ psym (seen-row (length (s₁ .nodes)) r t))
       (head-box hd c f (leaf 0 0) (inl refl) b₀ (subst (λ (ρ : St). B (Odd w) f ρ ms (state-seen t)) e b₁) p)
 
-  -- a byte string was stored: after its name, if it has one, its node is added whole
+  -- a class v or none was read, and then the bytes q
+  pub record Opened (v : ℕ) (q p : List ℕ) (s : State) (us : List ℕ) (t : State) : Type 0 where
+    forest : F
+    built : B (Odd w) forest (state-seen s) us (state-seen t)
+    told : (Odd w → ⊥) → (x : List ℕ) × (drop (s .at) input ≡ x ++ drop (t .at) input) × (z : List ℕ) × Class (optional-present v) forest z × (z ++ q ≡ p ++ x)
+
+  -- a byte string was stored: after its name or its class, if it has one, its node is added whole
   pub record Stored (l : ℕ) (p : List ℕ) (s : State) (vs : List ℕ) (t : State) : Type 0 where
     kd : ℕ
+    class : Bool
     bytes : List ℕ
     us : List ℕ
     forest : F
     before : St
     named : B (Odd w) forest (state-seen s) us before
     numbered : vs ≡ length (before .nodes) ∷ []
-    is : state-seen t ≡ pushO (box (header-of kd 0 bytes 0 false) us) before
+    is : state-seen t ≡ pushO (box (header-of kd 0 bytes 0 false class) us) before
     high : 7 ≤ kd
-    told : (Odd w → ⊥) → (x : List ℕ) × (drop (s .at) input ≡ x ++ drop (t .at) input) × Lettered l kd forest bytes (p ++ x)
+    told : (Odd w → ⊥) → (x : List ℕ) × (drop (s .at) input ≡ x ++ drop (t .at) input) × Lettered l kd class forest bytes (p ++ x)
 
   -- a box added whole
   put-open : (x y : Node) (σ : St) → put (length (σ .nodes)) x (pushO y σ) ≡ pushO x σ
@@ -142,7 +149,7 @@ module _ (input : List ℕ) (w : Inputs) where
 
   stored-head : {l : ℕ} {p : List ℕ} {s : State} {vs : List ℕ} {t : State} → Stored l p s vs t → Head (Told input value l p s t) (state-seen s) vs (state-seen t)
   stored-head {l} {p} {s} {vs} {t} x =
-      let hd = header-of (x .kd) 0 (x .bytes) 0 false in
+      let hd = header-of (x .kd) 0 (x .bytes) 0 false (x .class) in
       placed refl (psym (x .numbered)) (put-open (box hd (x .us ++ [])) (leaf 0 0) (x .before) ∙ ap (λ (us : List ℕ). pushO (box hd us) (x .before)) (append-nil (x .us)) ∙ psym (x .is))
       (head-box hd (x .forest) fEnd (leaf 0 0) (inl refl) (x .named) bEnd (λ n. let (y, e, z) = x .told n in record { bytes = y; here = e; says = lettered-tree z }))
 
@@ -152,6 +159,7 @@ module _ (input : List ℕ) (w : Inputs) where
   Out value l p s vs t = Head (Told input value l p s t) (state-seen s) vs (state-seen t)
   Out text l p s vs t = Stored l p s vs t
   Out name l p s vs t = Head (Told input name l p s t) (state-seen s) vs (state-seen t)
+  Out (opening v q) l p s vs t = Opened v q p s vs t
   Out (elements n i) l p s vs t = Head (Told input (elements n i) l p s t) (state-seen s) vs (state-seen t)
   Out (pairs n i) l p s vs t = Head (Told input (pairs n i) l p s t) (state-seen s) vs (state-seen t)
 
@@ -159,9 +167,17 @@ module _ (input : List ℕ) (w : Inputs) where
     head-reading : (m : Mode) → Head (Told input m l (p ++ y) (read-to k n s) t) (state-seen (read-to k n s)) vs (state-seen t) → Head (Told input m l p s t) (state-seen s) vs (state-seen t)
     head-reading m x = moved (seen-read-to k n s) refl (λ h g o. told-reading a (formed w n q o) (g o)) x
 
+    opened-reading : (v : ℕ) (q : List ℕ) → Opened v q (p ++ y) (read-to k n s) vs t → Opened v q p s vs t
+    opened-reading v g x = record {
+      forest = x .forest;
+      built = subst (λ (ρ : St). B (Odd w) (x .forest) ρ vs (state-seen t)) (seen-read-to k n s) (x .built);
+      told = λ o. let (z, e, c, i, j) = x .told o in (y ++ z, joined y z _ (a .text (formed w n q o)) e, c, i, j ∙ append-assoc p y z);
+    }
+
     stored-reading : Stored l (p ++ y) (read-to k n s) vs t → Stored l p s vs t
     stored-reading x = record {
       kd = x .kd;
+      class = x .class;
       bytes = x .bytes;
       us = x .us;
       forest = x .forest;
@@ -170,13 +186,14 @@ module _ (input : List ℕ) (w : Inputs) where
       numbered = x .numbered;
       is = x .is;
       high = x .high;
-      told = λ o. let (z, e, c) = x .told o in (y ++ z, joined y z _ (a .text (formed w n q o)) e, subst (Lettered l (x .kd) (x .forest) (x .bytes)) (append-assoc p y z) c);
+      told = λ o. let (z, e, c) = x .told o in (y ++ z, joined y z _ (a .text (formed w n q o)) e, subst (Lettered l (x .kd) (x .class) (x .forest) (x .bytes)) (append-assoc p y z) c);
     }
 
     out-reading : (m : Mode) → Out m l (p ++ y) (read-to k n s) vs t → Out m l p s vs t
     out-reading value x = head-reading value x
     out-reading text x = stored-reading x
     out-reading name x = head-reading name x
+    out-reading (opening v g) x = opened-reading v g x
     out-reading (elements j i) x = head-reading (elements j i) x
     out-reading (pairs j i) x = head-reading (pairs j i) x
 
@@ -218,57 +235,74 @@ module _ (input : List ℕ) (w : Inputs) where
   ref-head {l} s k v e a =
       head-ref (state-seen s) k v (rw (objs-seen s) a) (λ _. told-all refl (subst (OneTree (suc l) (fRef k)) (psym e) (record { trees-are = λ r. refl; writes = λ m r y v t. tObjectLink v t })))
 
+  -- a class: none, or a name
+  out-unclassed : {p q : List ℕ} (s : State) → p ≡ q → Opened 0 q p s [] s
+  unfolding optional-present
+  out-unclassed {p} s e = record { forest = fEnd; built = bEnd; told = λ o. ([], refl, [], no-class, psym (append-nil p ∙ e)) }
+
+  out-classed : {l k c : ℕ} {p q : List ℕ} {a : Bool} (s t : State) → p ≡ USER-CLASS ∷ [] → Spelt input t k a q → (Off a → Odd w) → Out name l [] s (c ∷ []) t → Opened (suc c) q p s (c ∷ []) (read-to k a t)
+  unfolding optional-present
+  out-classed {k = k} {c = c} {q = q} {a = a} s t e b f x = record {
+    forest = x .head fEnd;
+    built = subst (B (Odd w) (x .head fEnd) (state-seen s) (c ∷ [])) (psym (seen-read-to k a t)) (whole x);
+    told = λ o.
+        let d = x .told o in
+        (d .bytes ++ q, joined (d .bytes) q _ (d .here) (b .text (formed w a f o)), USER-CLASS ∷ d .bytes, a-class (one-name (d .says)), ap (λ (p : List ℕ). p ++ (d .bytes ++ q)) (psym e));
+  }
+
+  -- a class, and then bytes that it is told with
+  after-class : {v : ℕ} {q p : List ℕ} {s : State} {us : List ℕ} {o : State} {l : ℕ} {t : State} {h : F → F} (c : Opened v q p s us o) (n : Odd w → ⊥) (x : List ℕ) → drop (o .at) input ≡ x ++ drop (t .at) input
+      → ((z : List ℕ) → Class (optional-present v) (c .forest) z → OneTree l h (z ++ (q ++ x))) → Told input value l p s t h
+  after-class {q = q} {p = p} {l = l} {h = h} c n x e f =
+      let (y, g, z, i, j) = c .told n in
+      record { bytes = y ++ x; here = joined y x _ g e; says = subst (OneTree l h) (psym (append-assoc z q x) ∙ ap (λ (b : List ℕ). b ++ x) j ∙ append-assoc p y x) (f z i) }
+
   -- an array or a hash: its header, as it is seen, and its tree
-  listed-box : {q l : ℕ} (A : Arena) (r : Row) (ms : List ℕ) (z : Listed q r) → range (A .references) q (list-length r) ≡ ms
-      → (hd : Header) × (see A r ≡ box hd ms) × ((h : F → F) (x : List ℕ) → Trees l (list-length r) h x → OneTree (suc l) (fBox hd fEnd (h fEnd)) (list-bytes z ++ x))
+  listed-box : {q l : ℕ} (A : Arena) (r : Row) (ms : List ℕ) (g : Listed q r) → range (A .references) q (list-length r) ≡ ms
+      → (hd : Header) × (see A r ≡ box hd (optional-node (list-class g) ++ ms))
+      × ((c : F) (z : List ℕ) → Class (optional-present (list-class g)) c z → (h : F → F) (x : List ℕ) → Trees l (list-length r) h x → OneTree (suc l) (fBox hd c (h fEnd)) (z ++ (list-bytes g ++ x)))
   unfolding list-length ranges
-  listed-box {q} A r ms (is-array n) e = (
-    header-of 4 0 [] n false,
-    see-array A q n ms e,
-    λ h x a. let (t, c) = closed-trees a in record { trees-are = λ r. refl; writes = λ m r y v u. tArray v c t u },
+  listed-box {q} A r ms (is-array n v) e = (
+    header-of 4 0 [] n false (optional-present v),
+    see-array A q n v ms e,
+    λ c z i h x a. let (t, j) = closed-trees a in class-tree z (ARRAY ∷ integer-bytes n ++ x) (λ r. refl) (λ m r y v u. tArray v i j t u),
   )
-  listed-box {q} A r ms (is-hash n) e = (
-    header-of 5 0 [] n false,
-    see-hash A q n ms e,
-    λ h x a. let (t, c) = closed-trees a in record { trees-are = λ r. refl; writes = λ m r y v u. tHash v c t u },
+  listed-box {q} A r ms (is-hash n v) e = (
+    header-of 5 0 [] n false (optional-present v),
+    see-hash A q n v ms e,
+    λ c z i h x a. let (t, j) = closed-trees a in class-tree z (HASH ∷ integer-bytes n ++ x) (λ r. refl) (λ m r y v u. tHash v i j t u),
   )
 
-  out-list : {l : ℕ} {p : List ℕ} (s t : State) (r : Row) (ms : List ℕ) (z : Listed (length (s .references)) r) → p ≡ list-bytes z → Ready value s
-      → range (t .references) (length (s .references)) (list-length r) ≡ ms → Out (elements (list-length r) (length (s .references))) l [] (with-room (list-length r) (with-object-node nil s)) ms t
-      → Out value (suc l) p s (length (s .nodes) ∷ []) (with-row (length (s .nodes)) r t)
-  out-list {l} {p} s t r ms z f h e x =
-      let (hd, q, o) = listed-box {l = l} (arena-of t 0) r ms z e in
-      box-of s s _ t r hd [] ms fEnd (x .head fEnd) bEnd (room-seen (list-length r) (with-object-node nil s) (opened-ranged s (h .ranged)) ∙ opened-seen s) (whole x) q
-      (λ n.
-      let a = x .told n in
-      record { bytes = a .bytes; here = a .here; says = subst (λ (b : List ℕ). OneTree (suc l) (fBox hd fEnd (x .head fEnd)) (b ++ a .bytes)) (psym f) (o (x .head) (a .bytes) (a .says)) })
+  out-list : {l : ℕ} {p : List ℕ} (s o t : State) (r : Row) (ms : List ℕ) (z : Listed (length (o .references)) r) → Opened (list-class z) (list-bytes z) p s (optional-node (list-class z)) o → Ranged o
+      → range (t .references) (length (o .references)) (list-length r) ≡ ms → Out (elements (list-length r) (length (o .references))) l [] (with-room (list-length r) (with-object-node nil o)) ms t
+      → Out value (suc l) p s (length (o .nodes) ∷ []) (with-row (length (o .nodes)) r t)
+  out-list {l} {p} s o t r ms z c h e x =
+      let (hd, q, f) = listed-box {l = l} (arena-of t 0) r ms z e in
+      box-of s o _ t r hd _ ms (c .forest) (x .head fEnd) (c .built) (room-seen (list-length r) (with-object-node nil o) (opened-ranged o h) ∙ opened-seen o) (whole x) q
+      (λ n. let a = x .told n in after-class c n (a .bytes) (a .here) (λ b i. f (c .forest) b i (x .head) (a .bytes) (a .says)))
 
-  out-hash-default : {l : ℕ} {p : List ℕ} (s t u : State) (n d : ℕ) (ms : List ℕ) → p ≡ HASH-DEFAULT ∷ integer-bytes n → Ready value s → range (u .references) (length (s .references)) (n * 2) ≡ ms
-      → Out (elements (n * 2) (length (s .references))) l [] (with-room (n * 2) (with-object-node nil s)) ms t → Out value l [] t (d ∷ []) u
-      → Out value (suc l) p s (length (s .nodes) ∷ []) (with-row (length (s .nodes)) (hash (length (s .references)) n (d + 1)) u)
-  out-hash-default {l} {p} s t u n d ms f h e x y =
-      let hd = header-of 5 0 [] n true in
+  out-hash-default : {l : ℕ} {p : List ℕ} (s o t u : State) (n d v : ℕ) (ms : List ℕ) → Opened v (HASH-DEFAULT ∷ integer-bytes n) p s (optional-node v) o → Ranged o → range (u .references) (length (o .references)) (n * 2) ≡ ms
+      → Out (elements (n * 2) (length (o .references))) l [] (with-room (n * 2) (with-object-node nil o)) ms t → Out value l [] t (d ∷ []) u
+      → Out value (suc l) p s (length (o .nodes) ∷ []) (with-row (length (o .nodes)) (hash (length (o .references)) n (d + 1) v) u)
+  out-hash-default {l} {p} s o t u n d v ms c h e x y =
+      let hd = header-of 5 0 [] n true (optional-present v) in
       let g = x .head (y .head fEnd) in
-      box-of s s _ u (hash (length (s .references)) n (d + 1)) hd [] (ms ++ (d ∷ [])) fEnd g bEnd
-      (room-seen (n * 2) (with-object-node nil s) (opened-ranged s (h .ranged)) ∙ opened-seen s) (x .built (y .head fEnd) (d ∷ []) (state-seen u) (whole y))
-      (see-hash-default (arena-of u 0) (length (s .references)) n d ms e)
-      (λ o.
-      let a = x .told o in
-      let b = y .told o in
-      let (c, k) = last-tree (a .says) (b .says) in
-      record {
-        bytes = a .bytes ++ b .bytes;
-        here = joined (a .bytes) (b .bytes) _ (a .here) (b .here);
-        says = subst (λ (z : List ℕ). OneTree (suc l) (fBox hd fEnd g) (z ++ (a .bytes ++ b .bytes))) (psym f)
-            (record { trees-are = λ r. refl; writes = λ m r z v v′. tHashDefault v k c v′ });
-      })
+      box-of s o _ u (hash (length (o .references)) n (d + 1) v) hd (optional-node v) (ms ++ (d ∷ [])) (c .forest) g (c .built)
+      (room-seen (n * 2) (with-object-node nil o) (opened-ranged o h) ∙ opened-seen o) (x .built (y .head fEnd) (d ∷ []) (state-seen u) (whole y))
+      (see-hash-default (arena-of u 0) (length (o .references)) n d v ms e)
+      (λ i.
+      let a = x .told i in
+      let b = y .told i in
+      let (f, k) = last-tree (a .says) (b .says) in
+      after-class c i (a .bytes ++ b .bytes) (joined (a .bytes) (b .bytes) _ (a .here) (b .here))
+      (λ z j. class-tree z (HASH-DEFAULT ∷ integer-bytes n ++ (a .bytes ++ b .bytes)) (λ r. refl) (λ m r y v u. tHashDefault v j k f u)))
 
   out-object : {l k : ℕ} {p : List ℕ} {a : Bool} (s t u : State) (n c : ℕ) (ms : List ℕ) → p ≡ OBJECT ∷ [] → Ranged t → range (u .references) (length (t .references)) (n * 2) ≡ ms
       → Spelt input t k a (integer-bytes n) → (Off a → Odd w)
       → Out name l [] (with-object-node nil s) (c ∷ []) t → Out (pairs n (length (t .references))) l [] (with-room (n * 2) (read-to k a t)) ms u
       → Out value (suc l) p s (length (s .nodes) ∷ []) (with-row (length (s .nodes)) (object (length (t .references)) n c) u)
   out-object {l} {k} {p} {a} s t u n c ms f h e b q x y =
-      let hd = header-of 6 0 [] n false in
+      let hd = header-of 6 0 [] n false false in
       let g = x .head (y .head fEnd) in
       let members = subst (λ (ρ : St). B (Odd w) (y .head fEnd) ρ ms (state-seen u)) (room-seen (n * 2) (read-to k a t) h ∙ seen-read-to k a t) (whole y) in
       box-of s s (with-object-node nil s) u (object (length (t .references)) n c) hd [] (c ∷ ms) fEnd g bEnd (opened-seen s) (x .built (y .head fEnd) ms (state-seen u) members)
@@ -284,29 +318,32 @@ module _ (input : List ℕ) (w : Inputs) where
       })
 
   -- a node with its bytes is added at t
-  stored-seen : (t : State) (b us : List ℕ) (kd : ℕ) (r : Row) → Ranged t → row-seen (with-bytes b t) r ≡ box (header-of kd 0 b 0 false) us
-      → state-seen (with-object-node r (with-bytes b t)) ≡ pushO (box (header-of kd 0 b 0 false) us) (state-seen t)
-  stored-seen t b us kd r h e = bytes-node-seen b t r _ h e
+  stored-seen : (t : State) (b us : List ℕ) (kd : ℕ) (d : Bool) (r : Row) → Ranged t → row-seen (with-bytes b t) r ≡ box (header-of kd 0 b 0 false d) us
+      → state-seen (with-object-node r (with-bytes b t)) ≡ pushO (box (header-of kd 0 b 0 false d) us) (state-seen t)
+  stored-seen t b us kd d r h e = bytes-node-seen b t r _ h e
 
-  out-text : {l k n : ℕ} {p : List ℕ} (q : Texted k n) (s : State) (b : List ℕ) → p ≡ k ∷ byte-string-bytes b → Ranged s
-      → Out text (suc l) p s (length (s .nodes) ∷ []) (with-object-node (text-row q (length (s .bytes)) (length b)) (with-bytes b s))
-  out-text {l} {k} {n} {p} q s b e h = record {
+  out-text : {l k n : ℕ} {d : Bool} {p : List ℕ} (q : Texted k n d) (v : ℕ) (s o : State) (b : List ℕ) → optional-present v ≡ d → Opened v (k ∷ byte-string-bytes b) p s (optional-node v) o → Ranged o
+      → Out text (suc l) p s (length (o .nodes) ∷ []) (with-object-node (text-row q (length (o .bytes)) (length b) v) (with-bytes b o))
+  out-text {l} {k} {n} {d} {p} q v s o b e c h = record {
     kd = n;
+    class = d;
     bytes = b;
-    us = [];
-    forest = fEnd;
-    before = state-seen s;
-    named = bEnd;
-    numbered = psym (number s);
-    is = stored-seen s b [] n _ h (see-text q (arena-of (with-bytes b s) 0) (length (s .bytes)) (length b) b (range-last (s .bytes) b));
+    us = optional-node v;
+    forest = c .forest;
+    before = state-seen o;
+    named = c .built;
+    numbered = psym (number o);
+    is = stored-seen o b (optional-node v) n d _ h (see-text q (arena-of (with-bytes b o) 0) (length (o .bytes)) (length b) v b e (range-last (o .bytes) b));
     high = high-text q;
-    told = λ o. ([], refl, subst (Lettered (suc l) n fEnd b) (psym (append-nil p ∙ e)) (letters q));
+    told = λ i.
+        let (x, f, z, j, g) = c .told i in
+        (x, f, subst (Lettered (suc l) n d (c .forest) b) g (letters q (subst (λ (d : Bool). Class d (c .forest) z) e j)));
   }
 
   out-bignum : {l : ℕ} {p : List ℕ} (s : State) (low high n : ℕ) (m : Bool) → p ≡ BIGNUM ∷ bignum-bytes m n → magnitude low high ≡ n → NumberRight n m
       → Out value (suc l) p s (length (s .nodes) ∷ []) (with-object-node (bignum low high m) s)
   out-bignum {l} s low high n m e q h =
-      let hd = header-of 10 n [] 0 m in
+      let hd = header-of 10 n [] 0 m false in
       placed refl (number s) (put-open (box hd []) (leaf 0 0) (state-seen s) ∙ psym (seen-object-node (bignum low high m) s ∙ ap (λ (x : Node). pushO x (state-seen s)) (see-bignum (arena-of s 0) low high n m q)))
       (head-box hd fEnd fEnd (leaf 0 0) (inl refl) bEnd bEnd (λ o. told-all refl (subst (OneTree (suc l) (fBox hd fEnd fEnd)) (psym e) (record { trees-are = λ r. refl; writes = λ i r y v t. tBignum v h t }))))
 
@@ -314,17 +351,18 @@ module _ (input : List ℕ) (w : Inputs) where
       → Out text (suc l) p s (length (t .nodes) ∷ []) (with-object-node (user (length (t .bytes)) (length b) c absent) (with-bytes b (read-to k a t)))
   out-user {l} {k} {p} {a} s t c b e h y q x = record {
     kd = 8;
+    class = false;
     bytes = b;
     us = c ∷ [];
     forest = x .head fEnd;
     before = state-seen t;
     named = whole x;
     numbered = psym (number t);
-    is = stored-seen (read-to k a t) b (c ∷ []) 8 _ h (see-user (arena-of (with-bytes b t) 0) (length (t .bytes)) (length b) c b (range-last (t .bytes) b)) ∙ ap (pushO (box (header-of 8 0 b 0 false) (c ∷ []))) (seen-read-to k a t);
+    is = stored-seen (read-to k a t) b (c ∷ []) 8 false _ h (see-user (arena-of (with-bytes b t) 0) (length (t .bytes)) (length b) c b (range-last (t .bytes) b)) ∙ ap (pushO (box (header-of 8 0 b 0 false false) (c ∷ []))) (seen-read-to k a t);
     high = omega arith;
     told = λ o.
         let d = x .told o in
-        (d .bytes ++ byte-string-bytes b, joined (d .bytes) (byte-string-bytes b) _ (d .here) (y .text (formed w a q o)), subst (λ (z : List ℕ). Lettered (suc l) 8 (x .head fEnd) b (z ++ (d .bytes ++ byte-string-bytes b))) (psym e) (user-letters (one-name (d .says))));
+        (d .bytes ++ byte-string-bytes b, joined (d .bytes) (byte-string-bytes b) _ (d .here) (y .text (formed w a q o)), subst (λ (z : List ℕ). Lettered (suc l) 8 false (x .head fEnd) b (z ++ (d .bytes ++ byte-string-bytes b))) (psym e) (user-letters (one-name (d .says))));
   }
 
   -- ---- variables
@@ -333,10 +371,10 @@ module _ (input : List ℕ) (w : Inputs) where
   varied-seen : {p n : ℕ} (A : Arena) (r r′ : Row) (ms : List ℕ) → Varied p n r r′ → range (A .references) p (n * 2) ≡ ms
       → (hd : Header) × (hd′ : Header) × (us : List ℕ) × (os : List ℕ) × (see A r ≡ box hd (us ++ os)) × (see A r′ ≡ box hd′ (us ++ ms))
   unfolding see header links
-  varied-seen {p} {n} A r r′ ms (varied-string {s = s} {l = l} {v = v}) e =
-      (header A (string s l v), header-of 7 0 (range (A .bytes) s l) n true, [], vars-links A v, refl, see-string-variables A s l p n _ ms refl e)
+  varied-seen {p} {n} A r r′ ms (varied-string {s = s} {l = l} {w = c} {v = v}) e =
+      (header A (string s l v c), header-of 7 0 (range (A .bytes) s l) n true (optional-present c), optional-node c, vars-links A v, refl, see-string-variables A s l p n c _ ms refl e)
   varied-seen {p} {n} A r r′ ms (varied-user {s = s} {l = l} {c = c} {v = v}) e =
-      (header A (user s l c v), header-of 8 0 (range (A .bytes) s l) n true, c ∷ [], vars-links A v, refl, see-user-variables A s l c p n _ ms refl e)
+      (header A (user s l c v), header-of 8 0 (range (A .bytes) s l) n true false, c ∷ [], vars-links A v, refl, see-user-variables A s l c p n _ ms refl e)
 
   module _ {l k : ℕ} {a : Bool} (s t u : State) (n h : ℕ) (r r′ : Row) (ms : List ℕ) (g : Ranged t) (e : range (u .references) (length (t .references)) (n * 2) ≡ ms)
       (y : Out (pairs n (length (t .references))) l [] (with-room (n * 2) (read-to k a t)) ms u) (i : At (u .nodes) h r) (v : Varied (length (t .references)) n r r′) where
@@ -352,8 +390,8 @@ module _ (input : List ℕ) (w : Inputs) where
 
 -- a box's header and members
 abbrev header-in : Node → Header
-header-in (leaf k x) = header-of 0 0 [] 0 false
-header-in (sym b) = header-of 0 0 [] 0 false
+header-in (leaf k x) = header-of 0 0 [] 0 false false
+header-in (sym b) = header-of 0 0 [] 0 false false
 header-in (box h ms) = h
 
 abbrev members-in : Node → List ℕ
@@ -362,21 +400,23 @@ members-in (sym b) = []
 members-in (box h ms) = ms
 
 -- a row that is seen without variables, and with them
-varied-whole : {p n : ℕ} (A : Arena) (r r′ : Row) (ms : List ℕ) → Varied p n r r′ → range (A .references) p (n * 2) ≡ ms → (kd : ℕ) (b us : List ℕ) → see A r ≡ box (header-of kd 0 b 0 false) us
-    → (see A r′ ≡ box (header-of kd 0 b n true) (us ++ ms)) × ((kd ≡ 7) ⊎ (kd ≡ 8))
+varied-whole : {p n : ℕ} (A : Arena) (r r′ : Row) (ms : List ℕ) → Varied p n r r′ → range (A .references) p (n * 2) ≡ ms → (kd : ℕ) (d : Bool) (b us : List ℕ) → see A r ≡ box (header-of kd 0 b 0 false d) us
+    → (see A r′ ≡ box (header-of kd 0 b n true d) (us ++ ms)) × ((kd ≡ 7) ⊎ (kd ≡ 8))
 unfolding see header links vars-links vars-count vars-present
-varied-whole {n = n} A r r′ ms (varied-string {v = absent}) e kd b us q =
+varied-whole {n = n} A r r′ ms (varied-string {w = w} {v = absent}) e kd d b us q =
     let k = ap (λ (x : Node). header-in x .kind) q in
+    let o = ap (λ (x : Node). header-in x .class) q in
+    let c = ap (λ (x : Node). header-in x .bytes) q in
+    let m = psym (append-nil (optional-node w)) ∙ ap members-in q in
+    (λ i. box (header-of (k i) 0 (c i) n true (o i)) (m i ++ e i), inl (psym k))
+varied-whole A r r′ ms (varied-string {v = present a j}) e kd d b us q = let z = ap (λ (x : Node). header-in x .presence) q in apart (cc)
+varied-whole {n = n} A r r′ ms (varied-user {v = absent}) e kd d b us q =
+    let k = ap (λ (x : Node). header-in x .kind) q in
+    let o = ap (λ (x : Node). header-in x .class) q in
     let c = ap (λ (x : Node). header-in x .bytes) q in
     let m = ap members-in q in
-    (λ i. box (header-of (k i) 0 (c i) n true) (m i ++ e i), inl (psym k))
-varied-whole A r r′ ms (varied-string {v = present a j}) e kd b us q = let z = ap (λ (x : Node). header-in x .presence) q in apart (cc)
-varied-whole {n = n} A r r′ ms (varied-user {v = absent}) e kd b us q =
-    let k = ap (λ (x : Node). header-in x .kind) q in
-    let c = ap (λ (x : Node). header-in x .bytes) q in
-    let m = ap members-in q in
-    (λ i. box (header-of (k i) 0 (c i) n true) (m i ++ e i), inr (psym k))
-varied-whole A r r′ ms (varied-user {v = present a j}) e kd b us q = let z = ap (λ (x : Node). header-in x .presence) q in apart (cc)
+    (λ i. box (header-of (k i) 0 (c i) n true (o i)) (m i ++ e i), inr (psym k))
+varied-whole A r r′ ms (varied-user {v = present a j}) e kd d b us q = let z = ap (λ (x : Node). header-in x .presence) q in apart (cc)
 
 same-node : (l : List Node) (i : ℕ) (x y : Node) → At l i x → At l i y → x ≡ y
 same-node l i x y a b = cc
@@ -390,14 +430,14 @@ module _ (input : List ℕ) {l k : ℕ} {p : List ℕ} {a : Bool} (s t u : State
   out-variables : (w : Inputs) → (Off a → Odd w) → Stored input w l [] s (h ∷ []) t → Out input w (pairs n (length (t .references))) l [] (with-room (n * 2) (read-to k a t)) ms u → Out input w value (suc l) p s (h ∷ []) (with-row h r′ u)
   out-variables every q x y = out-put input every s t u n h r r′ ms g e y i v tt (whole input every (stored-head input every x))
   out-variables canonical q x y =
-      let φ = box (header-of (x .kd) 0 (x .bytes) 0 false) (x .us) in
-      let hd = header-of (x .kd) 0 (x .bytes) n true in
+      let φ = box (header-of (x .kd) 0 (x .bytes) 0 false (x .class)) (x .us) in
+      let hd = header-of (x .kd) 0 (x .bytes) n true (x .class) in
       let d = y .head fEnd in
       let z = same-number h (length (x .before .nodes)) (x .numbered) in
       let members = members-built input canonical s t u n h r r′ ms g e y i v in
       let stands : At (state-seen t .nodes) h φ = rw (x .is, z) (at-snoc (x .before .nodes) φ) in
       let c = same-node (state-seen u .nodes) h (row-seen u r) φ (seen-at u h r i) (keep members h φ stands) in
-      let (o, kinds) = varied-whole (arena-of u 0) r r′ ms v e (x .kd) (x .bytes) (x .us) c in
+      let (o, kinds) = varied-whole (arena-of u 0) r r′ ms v e (x .kd) (x .class) (x .bytes) (x .us) c in
       placed input canonical refl (psym (x .numbered))
       (ap (λ (j : ℕ). put j (box hd (x .us ++ ms)) (state-seen u)) (psym z) ∙ ap (λ (m : Node). put h m (state-seen u)) (psym o) ∙ psym (seen-row h r′ u))
       (head-box input canonical hd (x .forest) d φ (inr (λ j. j, λ b j. apart (cc), x .high)) (x .named) (subst (λ (ρ : St). B ⊥ d ρ ms (state-seen u)) (x .is) members)
@@ -443,22 +483,31 @@ module _ (input : List ℕ) (w : Inputs) where
     sound {s = s} (new b e o n z l₁ l₂ l₃) q h = new-head input w s b o e (h .ranged) n
     sound {s = s} (symbol-link i v e o a) q h = link-head input w s i v o e a
     sound {s = s} (object-link i v e a) q h = ref-head input w s i v e a
-    sound {s = s} (list {t = t} {ms = ms} r z e l₁ l₂ l₃ x) q h =
-        let o = ready-opened (list-length r) s (h .ranged) in
-        out-list input w s t r ms z e h (left x o .words) (sound x q o)
-    sound {s = s} (hash-default {t = t} {u = u} {ms = ms} {d = d} n f l₁ l₂ l₃ x y) q h =
-        let o = ready-opened (n * 2) s (h .ranged) in
-        let z = left x o in
-        let v = ready-value t (z .ranged) in
-        let e = frame-range (length (s .references)) (n * 2) (left y v .frame) (omega (arith, o .fits, z .frame .references-grow)) (omega (arith, o .fits, z .frame .references-grow)) ∙ z .words in
-        out-hash-default input w s t u n d ms f h e (sound x (λ i. q (forwards y .off i)) o) (sound y q v)
+    sound {s = s} (unclassed e) q h = out-unclassed input w s e
+    sound {s = s} (classed {t = t} k a e x b) q h = out-classed input w s t e b q (sound x (λ i. q (b .off i)) (ready-name s (h .ranged)))
+    sound {s = s} (list {o = o} {t = t} {ms = ms} r z c l₁ l₂ l₃ x) q h =
+        let i = ready-opening _ _ s (h .ranged) in
+        let g = left c i .ranged in
+        let j = ready-opened (list-length r) o g in
+        out-list input w s o t r ms z (sound c (λ i. q (forwards x .off i)) i) g (left x j .words) (sound x q j)
+    sound {s = s} (hash-default {o = o} {t = t} {u = u} {ms = ms} {d = d} n v c l₁ l₂ l₃ x y) q h =
+        let i = ready-opening _ _ s (h .ranged) in
+        let g = left c i .ranged in
+        let j = ready-opened (n * 2) o g in
+        let z = left x j in
+        let k = ready-value t (z .ranged) in
+        let e = frame-range (length (o .references)) (n * 2) (left y k .frame) (omega (arith, j .fits, z .frame .references-grow)) (omega (arith, j .fits, z .frame .references-grow)) ∙ z .words in
+        let q₂ : Off (t .notes .form) → Odd w = λ i. q (forwards y .off i) in
+        out-hash-default input w s o t u n d v ms (sound c (λ i. q₂ (forwards x .off i)) i) g e (sound x q₂ j) (sound y q k)
     sound {s = s} (object-pairs {t = t} {u = u} {ms = ms} {c = c} n k a f l₁ l₂ x b l₃ y) q h =
         let o = ready-name (with-object-node nil s) (opened-ranged s (h .ranged)) in
         let g = left x o .ranged in
         let r = ready-pairs n (read-to k a t) g in
         let off : Off a → Odd w = λ i. q (forwards y .off i) in
         out-object input w s t u n c ms f g (left y r .words) b off (sound x (λ i. off (b .off i)) o) (sound y q r)
-    sound {s = s} (text-bytes z b e i l₁ l₂ l₃) q h = out-text input w z s b e (h .ranged)
+    sound {s = s} (text-bytes {o = o} z v b e c i l₁ l₂ l₃) q h =
+        let j = ready-opening _ _ s (h .ranged) in
+        out-text input w z v s o b e (sound c q j) (left c j .ranged)
     sound {s = s} (user-bytes {t = t} {c = c} b k a e x d i l₁ l₂ l₃) q h =
         let o = ready-name s (h .ranged) in
         out-user input w s t c b e (left x o .ranged) d q (sound x (λ i. q (d .off i)) o)

@@ -22,7 +22,7 @@ use Rattle.graph.specs.Sums.{sumTo, total, total-snoc, total-set, total-set-mos
 use Rattle.graph.specs.Forest.{Node, leaf, sym, box, node-words, node-bytes, node-box, node-sym, Texted, text-string, text-float}
 use Rattle.graph.specs.Build.{Zero, paid, boxed, lf, Φ}
 use Rattle.graph.specs.View.{see, text-row, seen, arena-of, state-seen}
-use Rattle.load_forest.specs.Trace.{Mode, Plain, plain-nil, plain-true, plain-false, plain-fixnum, Trace, reading, plain, known, new, symbol-link, object-link, list, hash-default, object-pairs, text-bytes, user-bytes, bignum-node, stored, variables, no-elements, element, no-pairs, pair}
+use Rattle.load_forest.specs.Trace.{Mode, Plain, plain-nil, plain-true, plain-false, plain-fixnum, Trace, reading, plain, known, new, symbol-link, object-link, unclassed, classed, list, hash-default, object-pairs, text-bytes, user-bytes, bignum-node, stored, variables, no-elements, element, no-pairs, pair}
 use Rattle.load_forest.specs.Readers.{load-traced}
 use Rattle.load_forest.specs.Sound.{load-sound}
 use Rattle.load_forest.specs.Right.{IsName, load-right-state}
@@ -96,13 +96,15 @@ within {room = room} {s = s} (known b h o a l) w = within-symbol room h _ l (wit
 within {room = room} {s = s} (new b e o n p l₁ l₂ l₃) w = within-symbol room (length (s .nodes)) _ l₃ (within-node room _ (with-bytes b (sought b s)) l₂ (within-bytes room b (sought b s) l₁ (within-sought room b s w)))
 within (symbol-link i h e o a) w = w
 within (object-link i h e a) w = w
-within {room = room} {s = s} (list {t = t} r q e l₁ l₂ l₃ x) w =
-    within-row room (length (s .nodes)) r t (within x (within-room room (list-length r) (with-object-node nil s) l₃ (within-object-node room nil s l₁ l₂ w)))
-within {room = room} {s = s} (hash-default {u = u} n e l₁ l₂ l₃ x y) w =
-    within-row room (length (s .nodes)) _ u (within y (within x (within-room room (n * 2) (with-object-node nil s) l₃ (within-object-node room nil s l₁ l₂ w))))
+within (unclassed e) w = w
+within {room = room} (classed {t = t} k a e x b) w = within-read room k a t (within x w)
+within {room = room} (list {o = o} {t = t} r q c l₁ l₂ l₃ x) w =
+    within-row room (length (o .nodes)) r t (within x (within-room room (list-length r) (with-object-node nil o) l₃ (within-object-node room nil o l₁ l₂ (within c w))))
+within {room = room} (hash-default {o = o} {u = u} n d c l₁ l₂ l₃ x y) w =
+    within-row room (length (o .nodes)) _ u (within y (within x (within-room room (n * 2) (with-object-node nil o) l₃ (within-object-node room nil o l₁ l₂ (within c w)))))
 within {room = room} {s = s} (object-pairs {t = t} {u = u} n k a e l₁ l₂ x b l₃ y) w =
     within-row room (length (s .nodes)) _ u (within y (within-room room (n * 2) (read-to k a t) l₃ (within-read room k a t (within x (within-object-node room nil s l₁ l₂ w)))))
-within {room = room} {s = s} (text-bytes q b e p l₁ l₂ l₃) w = within-object-node room _ (with-bytes b s) l₂ l₃ (within-bytes room b s l₁ w)
+within {room = room} (text-bytes {o = o} q d b e c p l₁ l₂ l₃) w = within-object-node room _ (with-bytes b o) l₂ l₃ (within-bytes room b o l₁ (within c w))
 within {room = room} (user-bytes {t = t} b k a e x d p l₁ l₂ l₃) w = within-object-node room _ (with-bytes b (read-to k a t)) l₂ l₃ (within-bytes room b (read-to k a t) l₁ (within-read room k a t (within x w)))
 within {room = room} {s = s} (bignum-node low high n m e q h l₁ l₂) w = within-object-node room _ s l₁ l₂ w
 within (stored x) w = within x w
@@ -170,21 +172,21 @@ symbol-weighs a l = record { words-are = refl; bytes-are = refl; boxes-are = ref
 
 listed-weighs : {p : ℕ} (r : Row) → Listed p r → Weighs r (list-length r) 0 1 0
 unfolding bytes-length is-box is-symbol kind pick ranges
-listed-weighs r (is-array n) = record { words-are = refl; bytes-are = refl; boxes-are = refl; names-are = refl }
-listed-weighs r (is-hash n) = record { words-are = refl; bytes-are = refl; boxes-are = refl; names-are = refl }
+listed-weighs r (is-array n w) = record { words-are = refl; bytes-are = refl; boxes-are = refl; names-are = refl }
+listed-weighs r (is-hash n w) = record { words-are = refl; bytes-are = refl; boxes-are = refl; names-are = refl }
 
-hash-weighs : (p n d : ℕ) → Weighs (hash p n d) (n * 2) 0 1 0
+hash-weighs : (p n d w : ℕ) → Weighs (hash p n d w) (n * 2) 0 1 0
 unfolding list-length bytes-length is-box is-symbol kind pick ranges
-hash-weighs p n d = record { words-are = refl; bytes-are = refl; boxes-are = refl; names-are = refl }
+hash-weighs p n d w = record { words-are = refl; bytes-are = refl; boxes-are = refl; names-are = refl }
 
 object-weighs : (p n c : ℕ) → Weighs (object p n c) (n * 2) 0 1 0
 unfolding list-length bytes-length is-box is-symbol kind pick ranges
 object-weighs p n c = record { words-are = refl; bytes-are = refl; boxes-are = refl; names-are = refl }
 
-text-weighs : {k n : ℕ} (q : Texted k n) (a l : ℕ) → Weighs (text-row q a l) 0 l 1 0
+text-weighs : {k n : ℕ} {c : Bool} (q : Texted k n c) (a l w : ℕ) → Weighs (text-row q a l w) 0 l 1 0
 unfolding list-length bytes-length is-box is-symbol kind pick vars-length ranges
-text-weighs text-string a l = record { words-are = refl; bytes-are = refl; boxes-are = refl; names-are = refl }
-text-weighs text-float a l = record { words-are = refl; bytes-are = refl; boxes-are = refl; names-are = refl }
+text-weighs text-string a l w = record { words-are = refl; bytes-are = refl; boxes-are = refl; names-are = refl }
+text-weighs text-float a l w = record { words-are = refl; bytes-are = refl; boxes-are = refl; names-are = refl }
 
 bignum-weighs : (low high : ℕ) (m : Bool) → Weighs (bignum low high m) 0 0 1 0
 unfolding list-length bytes-length is-box is-symbol kind pick ranges
@@ -269,21 +271,26 @@ covered {s = s} {t = t} (new b e o n p l₁ l₂ l₃) =
     covered-added s t (symbol (length (s .bytes)) (length b)) 0 (length b) 0 1 (symbol-weighs _ _) refl (omega arith) (omega (arith, length-append (s .bytes) b)) (omega arith) (omega (arith, len-snoc (s .symbols) (length (s .nodes))))
 covered {s = s} (symbol-link i h e o a) = covered-refl s
 covered {s = s} (object-link i h e a) = covered-refl s
-covered {s = s} (list {t = t} r q e l₁ l₂ l₃ x) =
-    let s₁ = with-object-node nil s in
-    covered-filled s t (length (s .nodes)) (list-length r) r (listed-weighs r q) (covered-trans (covered-room (list-length r) s₁) (covered x)) (spare-room (list-length r) s₁ t (covered x))
-covered {s = s} (hash-default {t = t} {u = u} {d = d} n e l₁ l₂ l₃ x y) =
-    let s₁ = with-object-node nil s in
-    covered-filled s u (length (s .nodes)) (n * 2) (hash (length (s .references)) n (d + 1)) (hash-weighs _ n (d + 1)) (covered-trans (covered-room (n * 2) s₁) (covered-trans (covered x) (covered y)))
-    (spare-after (n * 2) s₁ t u (spare-room (n * 2) s₁ t (covered x)) (covered y))
+covered {s = s} (unclassed e) = covered-refl s
+covered (classed {t = t} k a e x b) = covered-trans (covered x) (covered-read k a t)
+covered (list {o = o} {t = t} r q c l₁ l₂ l₃ x) =
+    let s₁ = with-object-node nil o in
+    covered-trans (covered c)
+    (covered-filled o t (length (o .nodes)) (list-length r) r (listed-weighs r q) (covered-trans (covered-room (list-length r) s₁) (covered x)) (spare-room (list-length r) s₁ t (covered x)))
+covered (hash-default {o = o} {t = t} {u = u} {d = d} n w c l₁ l₂ l₃ x y) =
+    let s₁ = with-object-node nil o in
+    covered-trans (covered c)
+    (covered-filled o u (length (o .nodes)) (n * 2) (hash (length (o .references)) n (d + 1) w) (hash-weighs _ n (d + 1) w) (covered-trans (covered-room (n * 2) s₁) (covered-trans (covered x) (covered y)))
+    (spare-after (n * 2) s₁ t u (spare-room (n * 2) s₁ t (covered x)) (covered y)))
 covered {s = s} (object-pairs {t = t} {u = u} {c = c} n k a e l₁ l₂ x b l₃ y) =
     let s₁ = with-object-node nil s in
     let v = read-to k a t in
     let z = covered-trans (covered x) (covered-read k a t) in
     covered-filled s u (length (s .nodes)) (n * 2) (object (length (t .references)) n c) (object-weighs _ n c) (covered-trans z (covered-trans (covered-room (n * 2) v) (covered y)))
     (spare-before (n * 2) s₁ v u z (spare-room (n * 2) v u (covered y)))
-covered {s = s} {t = t} (text-bytes q b e p l₁ l₂ l₃) =
-    covered-added s t (text-row q (length (s .bytes)) (length b)) 0 (length b) 1 0 (text-weighs q _ _) refl (omega arith) (omega (arith, length-append (s .bytes) b)) (omega (arith, len-snoc (s .objects) (length (s .nodes)))) (omega arith)
+covered {t = t} (text-bytes {o = o} q w b e c p l₁ l₂ l₃) =
+    covered-trans (covered c)
+    (covered-added o t (text-row q (length (o .bytes)) (length b) w) 0 (length b) 1 0 (text-weighs q _ _ w) refl (omega arith) (omega (arith, length-append (o .bytes) b)) (omega (arith, len-snoc (o .objects) (length (o .nodes)))) (omega arith))
 covered {t = t} (user-bytes {t = u} {c = c} b k a e x d p l₁ l₂ l₃) =
     covered-trans (covered x)
     (covered-added u t (user (length (u .bytes)) (length b) c absent) 0 (length b) 1 0 (user-weighs _ _ c) refl (omega arith) (omega (arith, length-append (u .bytes) b)) (omega (arith, len-snoc (u .objects) (length (u .nodes)))) (omega arith))
@@ -318,10 +325,10 @@ see-most A (bool true) = omega arith
 see-most A (bool false) = omega arith
 see-most A (fixnum w) = omega arith
 see-most A (symbol s l) = omega (arith, range-most (A .bytes) s l)
-see-most A (array s n) = omega arith
-see-most A (hash s n d) = omega arith
+see-most A (array s n w) = omega arith
+see-most A (hash s n d w) = omega arith
 see-most A (object s n c) = omega arith
-see-most A (string s l v) = omega (arith, vars-words v, range-most (A .bytes) s l)
+see-most A (string s l v w) = omega (arith, vars-words v, range-most (A .bytes) s l)
 see-most A (user s l c v) = omega (arith, vars-words v, range-most (A .bytes) s l)
 see-most A (float s l) = omega (arith, range-most (A .bytes) s l)
 see-most A (bignum low high m) = omega arith

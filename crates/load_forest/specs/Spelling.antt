@@ -8,13 +8,13 @@ use mathlib.Core.List.{List, [], _∷_, _++_, append-nil, append-assoc}
 use lib.ListN.{drop}
 use native.Mathlib.Omega.{arith}
 use Rattle.definition.specs.Integer.{integer-bytes}
-use Rattle.definition.specs.Kind.{SYMBOL, SYMBOL-LINK, INSTANCE-VARIABLES, USER-DEFINED}
+use Rattle.definition.specs.Kind.{SYMBOL, SYMBOL-LINK, INSTANCE-VARIABLES, STRING, USER-DEFINED}
 use Rattle.definition.specs.State.{State}
 use Rattle.definition.specs.Dump.{byte-string-bytes}
 use Rattle.definition.specs.Graph.{header-of}
 use Rattle.graph.specs.Forest as F
-use Rattle.graph.specs.Forest.{F, fEnd, fBox, fSym, fSymref, trees, Texted, text-string, text-float, IsValue, after, Text, tEnd, tEndPairs, tName, tNameLink, tOneName, tOneLink, tClass, tClassLink, tText, tStringVars, tUser, tUserVars}
-use Rattle.load_forest.specs.Trace.{Spelt, Mode, value, text, name, elements, pairs}
+use Rattle.graph.specs.Forest.{F, fEnd, fBox, fSym, fSymref, trees, OneName, one-new, one-link, Class, Texted, text-string, text-float, IsValue, after, Text, tEnd, tEndPairs, tName, tNameLink, tClass, tClassLink, tText, tStringVars, tUser, tUserVars}
+use Rattle.load_forest.specs.Trace.{Spelt, Mode, value, text, name, opening, elements, pairs}
 use Rattle.states.specs.States.{read-to}
 
 -- ---- what a head of trees says
@@ -38,11 +38,12 @@ pub record Trees (l n : ℕ) (h : F → F) (x : List ℕ) : Type 0 where
 pub record Pairs (l n : ℕ) (h : F → F) (x : List ℕ) : Type 0 where
   pub writes : (k : ℕ) (r : F) (y : List ℕ) → Text (F.pairs k) l r y → Text (F.pairs (n + k)) l (h r) (x ++ y)
 
--- by what was read (a byte string's text is told elsewhere)
+-- by what was read (what a byte string and a class say is told elsewhere)
 abbrev pub Says : Mode → ℕ → (F → F) → List ℕ → Type 0
 Says value l h x = OneTree l h x
 Says text l h x = Unit {0}
 Says name l h x = Named h x
+Says (opening w q) l h x = Unit {0}
 Says (elements n i) l h x = Trees l n h x
 Says (pairs n i) l h x = Pairs l n h x
 
@@ -77,9 +78,9 @@ closed-pairs {l} {n} {h} {x} a =
     let z : n + 0 ≡ n = omega arith in
     subst (Text (F.pairs n) l (h fEnd)) (append-nil x) (subst (λ (k : ℕ). Text (F.pairs k) l (h fEnd) (x ++ [])) z (a .writes 0 fEnd [] tEndPairs))
 
-pub one-name : {l : ℕ} {h : F → F} {x : List ℕ} → Named h x → Text F.name l (h fEnd) x
-one-name named-new = tOneName
-one-name named-link = tOneLink
+pub one-name : {h : F → F} {x : List ℕ} → Named h x → OneName (h fEnd) x
+one-name named-new = one-new
+one-name named-link = one-link
 
 pub class-text : {l n : ℕ} {f : F} {h : F → F} {x y : List ℕ} → Named h x → Text (F.pairs n) l f y → Text (F.name-pairs n) l (h f) (x ++ integer-bytes n ++ y)
 class-text named-new t = tClass t
@@ -124,19 +125,28 @@ more-pairs {l} {n} {c} {g} {x} {y} a b = record {
 
 -- ---- a byte string
 
--- the bytes of a byte string b of kind kd, after its name if it has one
-pub data Lettered : ℕ → ℕ → F → List ℕ → List ℕ → Type 0 where
-  letters : {l k kd : ℕ} {b : List ℕ} → Texted k kd → Lettered (suc l) kd fEnd b (k ∷ byte-string-bytes b)
-  user-letters : {l : ℕ} {c : F} {z b : List ℕ} → Text F.name l c z → Lettered (suc l) 8 c b (USER-DEFINED ∷ z ++ byte-string-bytes b)
+-- the bytes of a byte string b of kind kd, after its name or its class if it has one
+pub data Lettered : ℕ → ℕ → Bool → F → List ℕ → List ℕ → Type 0 where
+  letters : {l k kd : ℕ} {d : Bool} {c : F} {z b : List ℕ} → Texted k kd d → Class d c z → Lettered (suc l) kd d c b (z ++ (k ∷ byte-string-bytes b))
+  user-letters : {l : ℕ} {c : F} {z b : List ℕ} → OneName c z → Lettered (suc l) 8 false c b (USER-DEFINED ∷ z ++ byte-string-bytes b)
 
-pub lettered-tree : {l kd : ℕ} {c : F} {b x : List ℕ} → Lettered l kd c b x → OneTree l (fBox (header-of kd 0 b 0 false) c fEnd) x
-lettered-tree (letters q) = record { trees-are = λ r. refl; writes = λ m r y v t. tText q v t }
+-- a class, and then the tree's own bytes
+pub class-tree : {l : ℕ} {h : F → F} (z x : List ℕ) → ((r : F) → trees (h r) ≡ suc (trees r)) → ((m : F.Mode) (r : F) (y : List ℕ) → IsValue m → Text (after m) l r y → Text m l (h r) (z ++ (x ++ y)))
+    → OneTree l h (z ++ x)
+class-tree {l} {h} z x e f = record { trees-are = e; writes = λ m r y v t. subst (Text m l (h r)) (psym (append-assoc z x y)) (f m r y v t) }
+
+pub lettered-tree : {l kd : ℕ} {d : Bool} {c : F} {b x : List ℕ} → Lettered l kd d c b x → OneTree l (fBox (header-of kd 0 b 0 false d) c fEnd) x
+lettered-tree (letters {k = k} {z = z} {b = b} q a) = class-tree z (k ∷ byte-string-bytes b) (λ r. refl) (λ m r y v t. tText q v a t)
 lettered-tree (user-letters z) = record { trees-are = λ r. refl; writes = λ m r y v t. tUser v z t }
 
 -- with n variables
-pub varied-tree : {l kd n : ℕ} {c f : F} {b x y : List ℕ} → Lettered l kd c b x → (kd ≡ 7) ⊎ (kd ≡ 8) → Text (F.pairs n) l f y
-    → OneTree (suc l) (fBox (header-of kd 0 b n true) c f) (INSTANCE-VARIABLES ∷ x ++ integer-bytes n ++ y)
-varied-tree (letters text-string) k t = record { trees-are = λ r. refl; writes = λ m r z v u. tStringVars v t u }
-varied-tree (letters text-float) (inl e) t = absurd (omega (arith, e))
-varied-tree (letters text-float) (inr e) t = absurd (omega (arith, e))
+pub varied-tree : {l kd n : ℕ} {d : Bool} {c f : F} {b x y : List ℕ} → Lettered l kd d c b x → (kd ≡ 7) ⊎ (kd ≡ 8) → Text (F.pairs n) l f y
+    → OneTree (suc l) (fBox (header-of kd 0 b n true d) c f) (INSTANCE-VARIABLES ∷ x ++ integer-bytes n ++ y)
+varied-tree {l} {n = n} {d = d} {c = c} {f = f} {b = b} {y = y} (letters {z = z} text-string a) k t =
+    let x : List ℕ = STRING ∷ byte-string-bytes b in
+    subst (λ (o : List ℕ). OneTree (suc l) (fBox (header-of 7 0 b n true d) c f) (INSTANCE-VARIABLES ∷ o))
+    (psym (append-assoc z (x ++ integer-bytes n) y) ∙ ap (λ (o : List ℕ). o ++ y) (psym (append-assoc z x (integer-bytes n))))
+    (class-tree (INSTANCE-VARIABLES ∷ z) (x ++ integer-bytes n ++ y) (λ r. refl) (λ m r o v u. tStringVars v a t u))
+varied-tree (letters text-float a) (inl e) t = absurd (omega (arith, e))
+varied-tree (letters text-float a) (inr e) t = absurd (omega (arith, e))
 varied-tree (user-letters z) k t = record { trees-are = λ r. refl; writes = λ m r y v u. tUserVars v z t u }

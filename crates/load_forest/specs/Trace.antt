@@ -9,8 +9,8 @@ use native.Mathlib.Omega.{arith}
 use Rattle.definition.specs.Run.{ok}
 use Rattle.definition.specs.Integer.{integer-bytes}
 use Rattle.definition.specs.Magnitude.{magnitude, bignum-bytes}
-use Rattle.definition.specs.Kind.{NIL, TRUE, FALSE, FIXNUM, SYMBOL, SYMBOL-LINK, OBJECT-LINK, INSTANCE-VARIABLES, ARRAY, HASH, HASH-DEFAULT, OBJECT, USER-DEFINED, BIGNUM}
-use Rattle.definition.specs.Node.{Row, nil, bool, fixnum, hash, object, user, bignum, absent}
+use Rattle.definition.specs.Kind.{NIL, TRUE, FALSE, FIXNUM, SYMBOL, SYMBOL-LINK, OBJECT-LINK, INSTANCE-VARIABLES, ARRAY, HASH, HASH-DEFAULT, OBJECT, USER-DEFINED, BIGNUM, USER-CLASS}
+use Rattle.definition.specs.Node.{Row, nil, bool, fixnum, hash, object, user, bignum, absent, optional-node, optional-present}
 use Rattle.definition.specs.Arena.{range}
 use Rattle.definition.specs.State.{State, Room, noted}
 use Rattle.definition.specs.Load.{read-integer}
@@ -53,11 +53,12 @@ spelt-join {input} {s} {k} {k′} {n} {n′} {y} {z} a b = record {
 
 -- ---- the steps
 
--- what is read: a value; a byte string or a user-defined value, not through `I`; a name; n values or n pairs of name and value, written from a word on
+-- what is read: a value; a byte string or a user-defined value, not through `I`; a name; a class as word 7 holds it and then bytes; n values or n pairs of name and value, written from a word on
 pub data Mode : Type 0 where
   value : Mode
   text : Mode
   name : Mode
+  opening : ℕ → List ℕ → Mode
   elements : ℕ → ℕ → Mode
   pairs : ℕ → ℕ → Mode
 
@@ -77,10 +78,14 @@ pub data Plain (input : List ℕ) : List ℕ → Row → Type 0 where
   plain-false : Plain input (FALSE ∷ []) (bool false)
   plain-fixnum : (w : ℕ) (s t : State) → read-integer input s ≡ ok w t → Plain input (FIXNUM ∷ integer-bytes w) (fixnum w)
 
--- the bytes before the members
+-- the bytes between the class and the members, and the class
 abbrev pub list-bytes : {p : ℕ} {r : Row} → Listed p r → List ℕ
-list-bytes (is-array n) = ARRAY ∷ integer-bytes n
-list-bytes (is-hash n) = HASH ∷ integer-bytes n
+list-bytes (is-array n w) = ARRAY ∷ integer-bytes n
+list-bytes (is-hash n w) = HASH ∷ integer-bytes n
+
+abbrev pub list-class : {p : ℕ} {r : Row} → Listed p r → ℕ
+list-class (is-array n w) = w
+list-class (is-hash n w) = w
 
 -- what stands after `I`: directly a byte string or a user-defined value, or it is not in dump form
 pub data Inner (t : State) : Mode → Type 0 where
@@ -97,24 +102,29 @@ pub data Trace (input : List ℕ) (room : Room) : ℕ → Mode → List ℕ → 
       → Trace input room l m p s (length (s .nodes) ∷ []) (with-new-symbol b (sought b s))
   symbol-link : {l : ℕ} {m : Mode} {p : List ℕ} {s : State} (i h : ℕ) → p ≡ SYMBOL-LINK ∷ integer-bytes i → One l m → At (s .symbols) i h → Trace input room l m p s (h ∷ []) s
   object-link : {l : ℕ} {p : List ℕ} {s : State} (i h : ℕ) → p ≡ OBJECT-LINK ∷ integer-bytes i → At (s .objects) i h → Trace input room (suc l) value p s (h ∷ []) s
-  list : {l : ℕ} {p : List ℕ} {s t : State} {ms : List ℕ} (r : Row) (q : Listed (length (s .references)) r) → p ≡ list-bytes q
-      → length (s .nodes) < room .nodes → length (s .objects) < room .objects → list-length r ≤ room .references - length (s .references)
-      → Trace input room l (elements (list-length r) (length (s .references))) [] (with-room (list-length r) (with-object-node nil s)) ms t
-      → Trace input room (suc l) value p s (length (s .nodes) ∷ []) (with-row (length (s .nodes)) r t)
-  hash-default : {l : ℕ} {p : List ℕ} {s t u : State} {ms : List ℕ} {d : ℕ} (n : ℕ) → p ≡ HASH-DEFAULT ∷ integer-bytes n
-      → length (s .nodes) < room .nodes → length (s .objects) < room .objects → n * 2 ≤ room .references - length (s .references)
-      → Trace input room l (elements (n * 2) (length (s .references))) [] (with-room (n * 2) (with-object-node nil s)) ms t
+  unclassed : {l : ℕ} {p q : List ℕ} {s : State} → p ≡ q → Trace input room l (opening 0 q) p s [] s
+  classed : {l : ℕ} {p q : List ℕ} {s t : State} {c : ℕ} (k : ℕ) (a : Bool) → p ≡ USER-CLASS ∷ [] → Trace input room l name [] s (c ∷ []) t → Spelt input t k a q
+      → Trace input room l (opening (suc c) q) p s (c ∷ []) (read-to k a t)
+  list : {l : ℕ} {p : List ℕ} {s o t : State} {ms : List ℕ} (r : Row) (q : Listed (length (o .references)) r)
+      → Trace input room l (opening (list-class q) (list-bytes q)) p s (optional-node (list-class q)) o
+      → length (o .nodes) < room .nodes → length (o .objects) < room .objects → list-length r ≤ room .references - length (o .references)
+      → Trace input room l (elements (list-length r) (length (o .references))) [] (with-room (list-length r) (with-object-node nil o)) ms t
+      → Trace input room (suc l) value p s (length (o .nodes) ∷ []) (with-row (length (o .nodes)) r t)
+  hash-default : {l : ℕ} {p : List ℕ} {s o t u : State} {ms : List ℕ} {d : ℕ} (n w : ℕ) → Trace input room l (opening w (HASH-DEFAULT ∷ integer-bytes n)) p s (optional-node w) o
+      → length (o .nodes) < room .nodes → length (o .objects) < room .objects → n * 2 ≤ room .references - length (o .references)
+      → Trace input room l (elements (n * 2) (length (o .references))) [] (with-room (n * 2) (with-object-node nil o)) ms t
       → Trace input room l value [] t (d ∷ []) u
-      → Trace input room (suc l) value p s (length (s .nodes) ∷ []) (with-row (length (s .nodes)) (hash (length (s .references)) n (d + 1)) u)
+      → Trace input room (suc l) value p s (length (o .nodes) ∷ []) (with-row (length (o .nodes)) (hash (length (o .references)) n (d + 1) w) u)
   object-pairs : {l : ℕ} {p : List ℕ} {s t u : State} {ms : List ℕ} {c : ℕ} (n k : ℕ) (a : Bool) → p ≡ OBJECT ∷ []
       → length (s .nodes) < room .nodes → length (s .objects) < room .objects
       → Trace input room l name [] (with-object-node nil s) (c ∷ []) t
       → Spelt input t k a (integer-bytes n) → n * 2 ≤ room .references - length (t .references)
       → Trace input room l (pairs n (length (t .references))) [] (with-room (n * 2) (read-to k a t)) ms u
       → Trace input room (suc l) value p s (length (s .nodes) ∷ []) (with-row (length (s .nodes)) (object (length (t .references)) n c) u)
-  text-bytes : {l : ℕ} {p : List ℕ} {s : State} {k n : ℕ} (q : Texted k n) (b : List ℕ) → p ≡ k ∷ byte-string-bytes b → Part input b
-      → length b ≤ room .bytes - length (s .bytes) → length (s .nodes) < room .nodes → length (s .objects) < room .objects
-      → Trace input room (suc l) text p s (length (s .nodes) ∷ []) (with-object-node (text-row q (length (s .bytes)) (length b)) (with-bytes b s))
+  text-bytes : {l : ℕ} {p : List ℕ} {s o : State} {k n : ℕ} {c : Bool} (q : Texted k n c) (w : ℕ) (b : List ℕ) → optional-present w ≡ c
+      → Trace input room l (opening w (k ∷ byte-string-bytes b)) p s (optional-node w) o → Part input b
+      → length b ≤ room .bytes - length (o .bytes) → length (o .nodes) < room .nodes → length (o .objects) < room .objects
+      → Trace input room (suc l) text p s (length (o .nodes) ∷ []) (with-object-node (text-row q (length (o .bytes)) (length b) w) (with-bytes b o))
   user-bytes : {l : ℕ} {p : List ℕ} {s t : State} {c : ℕ} (b : List ℕ) (k : ℕ) (a : Bool) → p ≡ USER-DEFINED ∷ []
       → Trace input room l name [] s (c ∷ []) t → Spelt input t k a (byte-string-bytes b) → Part input b
       → length b ≤ room .bytes - length (t .bytes) → length (t .nodes) < room .nodes → length (t .objects) < room .objects
@@ -164,11 +174,13 @@ forwards (known b h o a l) = record { on = omega arith; ends = λ h. h; off = λ
 forwards {input} {s = s} {t = t} (new b e o n p l₁ l₂ l₃) = forwards-same input s t refl refl
 forwards {input} {s = s} {t = t} (symbol-link i h e o a) = forwards-same input s t refl refl
 forwards {input} {s = s} {t = t} (object-link i h e a) = forwards-same input s t refl refl
-forwards {s = s} {t = t} (list r q e l₁ l₂ l₃ x) = forwards-as s t refl refl refl refl (forwards x)
-forwards {s = s} {t = t} (hash-default n e l₁ l₂ l₃ x y) = forwards-as s t refl refl refl refl (forwards-trans (forwards x) (forwards y))
+forwards {input} {s = s} {t = t} (unclassed e) = forwards-same input s t refl refl
+forwards (classed k a e x b) = forwards-trans (forwards x) (forwards-to b)
+forwards {t = t} (list {o = o} r q c l₁ l₂ l₃ x) = forwards-trans (forwards c) (forwards-as o t refl refl refl refl (forwards x))
+forwards {t = t} (hash-default {o = o} n w c l₁ l₂ l₃ x y) = forwards-trans (forwards c) (forwards-as o t refl refl refl refl (forwards-trans (forwards x) (forwards y)))
 forwards {s = s} {t = t} (object-pairs {t = v} {u = u} n k a e l₁ l₂ x b l₃ y) =
     forwards-trans (forwards-as s v refl refl refl refl (forwards x)) (forwards-trans (forwards-to b) (forwards-as (read-to k a v) t refl refl refl refl (forwards y)))
-forwards {input} {s = s} {t = t} (text-bytes q b e p l₁ l₂ l₃) = forwards-same input s t refl refl
+forwards {input} {t = t} (text-bytes {o = o} q w b e c p l₁ l₂ l₃) = forwards-trans (forwards c) (forwards-same input o t refl refl)
 forwards {input} {t = t} (user-bytes {t = v} b k a e x c p l₁ l₂ l₃) = forwards-trans (forwards x) (forwards-trans (forwards-to c) (forwards-same input (read-to k a v) t refl refl))
 forwards {input} {s = s} {t = t} (bignum-node low high n m e q h l₁ l₂) = forwards-same input s t refl refl
 forwards (stored x) = forwards x

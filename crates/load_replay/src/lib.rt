@@ -5,8 +5,11 @@
 // where they are in dump form and else 0; the hashed load's answer, likewise; the bytes copied, the bytes compared and the bucket
 // words looked at, two words each; how much of nodes, references and bytes is laid out, and the byte at which these bytes stand;
 // then those node words and references.
+use console::BYTES;
+use console::NODES;
+use console::NUMBERED;
+use console::REFERENCES;
 use definition::Loaded;
-use definition::Node;
 use load::load;
 use load::load_hashed;
 use load::load_measured;
@@ -51,8 +54,6 @@ const LAID: usize = 35;
 const BYTES_AT: usize = 38;
 
 const TABLES: usize = 39;
-
-const NODES: usize = 1000 * Node::WIDTH;
 
 // The calls.
 const LOAD: u32 = 0;
@@ -242,11 +243,11 @@ fn fitted_agrees(
 
 fn call_agrees(data: &[u8], which: u32) -> bool {
     let mut nodes = [0u32; NODES];
-    let mut references = [0u32; 4000];
-    let mut bytes = [0u8; 16384];
-    let mut symbols = [0u32; 1000];
-    let mut objects = [0u32; 1000];
-    let mut buckets = [0u32; 1000];
+    let mut references = [0u32; REFERENCES];
+    let mut bytes = [0u8; BYTES];
+    let mut symbols = [0u32; NUMBERED];
+    let mut objects = [0u32; NUMBERED];
+    let mut buckets = [0u32; NUMBERED];
     let n = words_at(&data[..], SIZES, &nodes);
     let r = words_at(&data[..], SIZES + 1, &references);
     let b = bytes_at(&data[..], SIZES + 2, &bytes);

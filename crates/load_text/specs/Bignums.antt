@@ -88,7 +88,7 @@ module _ (input : List ℕ) (room : Room) where
       ∙ step _ _ s₂ bs s₃ (units-ahead input s₂ m y a₂) ∙ rw (unit-bytes-say m (h .0), h .0, ← e) (add-runs m minus h s₃ l₁ l₂)
 
   pub takes-bignum : (P : List Node) (m : ℕ) (minus : Bool) → NumberRight m minus → (r : F) (σ : Num) (v : ℕ)
-      → Takes input room P (read-bignum input room) (fBox (header-of 10 m [] 0 minus) fEnd fEnd r) r (bignum-bytes minus m) σ (addO v σ)
+      → Takes input room P (read-bignum input room) (fBox (header-of 10 m [] 0 minus false) fEnd fEnd r) r (bignum-bytes minus m) σ (addO v σ)
   unfolding state-seen pick
   takes-bignum P m minus h r σ v s y i a b g =
       let low : ℕ = m % 4294967296 in
@@ -96,7 +96,7 @@ module _ (input : List ℕ) (room : Room) where
       let w = at-set (s .at + length (bignum-bytes minus m)) s in
       let l₁ = len-snoc (s .nodes) (bignum low high minus) in
       let l₂ = len-snoc (s .objects) (length (s .nodes)) in
-      node-step input room P (read-bignum input room) (header-of 10 m [] 0 minus) (bignum low high minus) fEnd r σ v s w [] y
+      node-step input room P (read-bignum input room) (header-of 10 m [] 0 minus false) (bignum low high minus) fEnd r σ v s w [] y
       (bignum-runs m minus h s y b (omega (arith, g .nodes)) (omega (arith, g .objects))) bEnd (omega arith) (see-bignum (arena-of w 0) low high m minus (of-words m))
       (ahead-past (bignum-bytes minus m) y b) i a (inside-bignum low high minus w) (above-bignum _ low high minus) (frame-at-set _ _ s) (keeps-refl s w refl) refl
       (record { nodes = omega arith; objects = omega arith; symbols = omega arith; references = omega arith; bytes = omega arith })

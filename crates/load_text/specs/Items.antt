@@ -2,18 +2,19 @@
 use Prim.Native.Nat.{ℕ, zero, suc, _+_, _*_, _≤_, _<_}
 use mathlib.Core.Path.{_≡_, refl, ap, subst}
 use mathlib.Core.Path.{sym as psym, _∙_}
+use mathlib.Core.Bool.{Bool}
 use mathlib.Core.List.{List, [], _∷_, _++_, append-assoc}
 use lib.ListN.{length, replicate, length-set, length-append, length-replicate}
 use native.Mathlib.Omega.{arith}
 use Rattle.definition.specs.Run.{ok, pure, _>>=_}
 use Rattle.definition.specs.Integer.{integer-bytes}
-use Rattle.definition.specs.Node.{Row}
+use Rattle.definition.specs.Node.{Row, optional-node, optional-present}
 use Rattle.definition.specs.Arena.{range}
 use Rattle.definition.specs.State.{Room, State, Reader, at-set}
 use Rattle.definition.specs.Load.{read-count, put-reference, counted, read-elements, read-pairs}
 use Rattle.lists.specs.Ranges.{range-none}
 use Rattle.graph.specs.Forest.{Node, Num, F, fEnd, refsOf, bytesOf, boxesOf, symsOf}
-use Rattle.graph.specs.Build.{St, B, Inv, nodesOf}
+use Rattle.graph.specs.Build.{St, B, bEnd, Inv, nodesOf}
 use Rattle.graph.specs.View.{state-seen}
 use Rattle.states.specs.States.{Ranged, Free, Frame, Keeps, with-word, with-room, ranged-words, ranged-word, seen-at-set, seen-word, room-seen, free-new, free-part, frame-refl, frame-trans, frame-below, frame-at-set, frame-words, frame-word, range-written, keeps-refl, keeps-trans}
 use Rattle.load_text.specs.Steps.{step, put-runs, reserve-runs}
@@ -40,6 +41,9 @@ Even more g s r t = record {
   references : length (t .references) + refsOf r ≡ length (s .references) + more + refsOf g;
   bytes : length (t .bytes) + bytesOf r ≡ length (s .bytes) + bytesOf g;
 }
+
+pub even-same : (s : State) → Even 0 fEnd s fEnd s
+even-same s = record { nodes = refl; objects = refl; symbols = refl; references = omega arith; bytes = refl }
 
 -- the readers in turn, their values put into the words from i on
 pub in-turn : List (Reader ℕ) → ℕ → Reader (Unit {0})
@@ -87,6 +91,71 @@ module _ (input : List ℕ) (room : Room) (P : List Node) where
 
   abbrev pub Takes : Reader ℕ → F → F → List ℕ → Num → Num → Type 0
   Takes rd g r z σ σ₁ = (s : State) (y : List ℕ) → Inv P σ (state-seen s) → Ranged s → Ahead input (s .at) (z ++ y) → Fits room 0 g s → Step rd g r σ₁ s y
+
+  -- what comes before a box's node was read, from s to u: p, whose nodes are us
+  pub record Before (p : F) (us : List ℕ) (σ : Num) (s u : State) : Type 0 where
+    pub built : B ⊥ p (state-seen s) us (state-seen u)
+    pub inv : Inv P σ (state-seen u)
+    pub ranged : Ranged u
+    pub frame : Frame (length (s .references)) s u
+    pub keeps : Keeps Every s u
+    pub form : u .notes .form ≡ s .notes .form
+    pub even : Even 0 p s fEnd u
+
+  pub before-none : {σ : Num} (s : State) → Inv P σ (state-seen s) → Ranged s → Before fEnd [] σ s s
+  before-none s v a = record {
+    built = bEnd;
+    inv = v;
+    ranged = a;
+    frame = frame-refl _ s;
+    keeps = keeps-refl s s refl;
+    form = refl;
+    even = even-same s;
+  }
+
+  pub before-one : {rd : Reader ℕ} {p : F} {σ : Num} {s : State} {y : List ℕ} (t : Step rd p fEnd σ s y) → Before p (t .value ∷ []) σ s (t .then′)
+  before-one t = record {
+    built = t .built [] (state-seen (t .then′)) bEnd;
+    inv = t .inv;
+    ranged = t .ranged;
+    frame = t .frame;
+    keeps = t .keeps;
+    form = t .form;
+    even = t .even;
+  }
+
+  -- only the offset differs
+  pub before-at : {p : F} {us : List ℕ} {σ : Num} {s u : State} (m n : ℕ) → Before p us σ (at-set m s) u → Before p us σ s (at-set n u)
+  unfolding state-seen
+  before-at {s = s} {u = u} m n b = record {
+    built = b .built;
+    inv = b .inv;
+    ranged = b .ranged;
+    frame = frame-trans (frame-at-set _ m s) (frame-trans (b .frame) (frame-at-set _ n u));
+    keeps = keeps-trans (keeps-refl s (at-set m s) refl) (keeps-trans (b .keeps) (keeps-refl u (at-set n u) refl));
+    form = b .form;
+    even = b .even;
+  }
+
+  -- a reader that does what another does
+  pub step-as : {rd rd′ : Reader ℕ} {g r : F} {σ : Num} {s : State} {y : List ℕ} → rd s ≡ rd′ s → Step rd′ g r σ s y → Step rd g r σ s y
+  step-as e t = record {
+    value = t .value;
+    then′ = t .then′;
+    runs = e ∙ t .runs;
+    ahead = t .ahead;
+    built = t .built;
+    inv = t .inv;
+    ranged = t .ranged;
+    frame = t .frame;
+    keeps = t .keeps;
+    form = t .form;
+    even = t .even;
+  }
+
+  -- a reader by the class, in u, once the class, p, was read
+  abbrev pub Wrapped : (ℕ → Reader ℕ) → Bool → F → F → F → List ℕ → Num → Num → Type 0
+  Wrapped rd c p g r z σ σ₁ = (w : ℕ) (s u : State) (y : List ℕ) → optional-present w ≡ c → Before p (optional-node w) σ s u → Ahead input (u .at) (z ++ y) → Fits room 0 g s → Step (λ _. rd w u) g r σ₁ s y
 
   -- the readers take the trees of a forest one by one
   pub data Items : List (Reader ℕ) → F → List ℕ → Num → Num → Type 0 where

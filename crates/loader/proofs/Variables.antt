@@ -8,10 +8,10 @@ use mathlib.Core.List.{List, [], _∷_}
 use lib.ListN.{length, set, getD, List·getD-eq-default}
 use lib.Seq.{sets}
 use lib.Dec.{eqb}
-use borrow.Author.Tests.{ne-eqb, eqb-true, eqb-false}
+use borrow.Author.Tests.{eqb-true, eqb-false}
 use Rattle.definition.specs.Run.{refuse, next, look, _>>=_, refused, pure, pick}
-use Rattle.definition.specs.Kind.{STRING, USER-DEFINED}
-use Rattle.definition.specs.Node.{Row, nil, bool, fixnum, symbol, array, hash, object, string, user, float, bignum, present, kind, words, row-of, vars, width, START, LENGTH, NAME}
+use Rattle.definition.specs.Kind.{STRING}
+use Rattle.definition.specs.Node.{Row, nil, bool, fixnum, symbol, array, hash, object, string, user, float, bignum, present, kind, words, row-of, vars, width, START, LENGTH, NAME, CLASS}
 use Rattle.definition.specs.State.{Room, Reader, noted, State}
 use Rattle.definition.specs.Load.{fill, set-variables, note, takes-variables}
 use Rattle.definition.specs.declared.Refusal.the-variants.{NotAnObject}
@@ -28,7 +28,7 @@ use Rattle.load_state.specs.Names.{kind-word}
 
 -- what setting variables does, by the kind: a string or a user-defined is filled again with the list, another row is refused
 abbrev Sets : ℕ → ℕ → ℕ → Row → Type 0
-Sets h start n r = (((kind r ≡ 7) ⊎ (kind r ≡ 8)) × (v : Row) × (words v ≡ kind r ∷ getD (words r) START 0 ∷ getD (words r) LENGTH 0 ∷ start ∷ n ∷ getD (words r) NAME 0 ∷ 1 ∷ []) × (set-variables h start n r ≡ fill h v) × Plain v × Plain r) ⊎ ((kind r ≡ 7 → ⊥) × (kind r ≡ 8 → ⊥) × (set-variables h start n r ≡ refuse NotAnObject))
+Sets h start n r = (((kind r ≡ 7) ⊎ (kind r ≡ 8)) × (v : Row) × (words v ≡ kind r ∷ getD (words r) START 0 ∷ getD (words r) LENGTH 0 ∷ start ∷ n ∷ getD (words r) NAME 0 ∷ 1 ∷ getD (words r) CLASS 0 ∷ []) × (set-variables h start n r ≡ fill h v) × Plain v × Plain r) ⊎ ((kind r ≡ 7 → ⊥) × (kind r ≡ 8 → ⊥) × (set-variables h start n r ≡ refuse NotAnObject))
 
 sets-variables : (h start n : ℕ) (r : Row) → Sets h start n r
 unfolding kind words set-variables row-of vars pick
@@ -36,10 +36,10 @@ sets-variables h start n nil = inr (λ e. omega arith, λ e. omega arith, refl)
 sets-variables h start n (bool b) = inr (λ e. omega arith, λ e. omega arith, refl)
 sets-variables h start n (fixnum w) = inr (λ e. omega arith, λ e. omega arith, refl)
 sets-variables h start n (symbol s l) = inr (λ e. omega arith, λ e. omega arith, refl)
-sets-variables h start n (array s m) = inr (λ e. omega arith, λ e. omega arith, refl)
-sets-variables h start n (hash s m d) = inr (λ e. omega arith, λ e. omega arith, refl)
+sets-variables h start n (array s m w) = inr (λ e. omega arith, λ e. omega arith, refl)
+sets-variables h start n (hash s m d w) = inr (λ e. omega arith, λ e. omega arith, refl)
 sets-variables h start n (object s m c) = inr (λ e. omega arith, λ e. omega arith, refl)
-sets-variables h start n (string s l v) = inl (inl refl, string s l (present start n), refl, refl, λ e. omega arith, λ e. omega arith)
+sets-variables h start n (string s l v w) = inl (inl refl, string s l (present start n) w, refl, refl, λ e. omega arith, λ e. omega arith)
 sets-variables h start n (user s l c v) = inl (inr refl, user s l c (present start n), refl, refl, λ e. omega arith, λ e. omega arith)
 sets-variables h start n (float s l) = inr (λ e. omega arith, λ e. omega arith, refl)
 sets-variables h start n (bignum low high m) = inr (λ e. omega arith, λ e. omega arith, refl)
@@ -51,18 +51,18 @@ one-of-two k a b g g' = go (eqb k 7) refl
     go true e = a (eqb-true k 7 e)
     go false e = let d = eqb-false k 7 e in b (omega (arith, g, g', d))
 
-words-same : {a b d e a' b' d' e' : ℕ} (start n : ℕ) → a ≡ a' → b ≡ b' → d ≡ d' → e ≡ e' → _≡_ {A = List ℕ} (a ∷ b ∷ d ∷ start ∷ n ∷ e ∷ 1 ∷ []) (a' ∷ b' ∷ d' ∷ start ∷ n ∷ e' ∷ 1 ∷ [])
-words-same start n p q r t = λ i. p i ∷ q i ∷ r i ∷ start ∷ n ∷ t i ∷ 1 ∷ []
+words-same : {a b d e f a' b' d' e' f' : ℕ} (start n : ℕ) → a ≡ a' → b ≡ b' → d ≡ d' → e ≡ e' → f ≡ f' → _≡_ {A = List ℕ} (a ∷ b ∷ d ∷ start ∷ n ∷ e ∷ 1 ∷ f ∷ []) (a' ∷ b' ∷ d' ∷ start ∷ n ∷ e' ∷ 1 ∷ f' ∷ [])
+words-same start n p q r t u = λ i. p i ∷ q i ∷ r i ∷ start ∷ n ∷ t i ∷ 1 ∷ u i ∷ []
 
 -- where a state is held
 module _ {input : List ℕ} {room : Room} {c : List ℕ} {no re by : List ℕ} {sy : Symbols} {ob : List ℕ} (h start n : ℕ) (l : h < nodes-of c) (s : State) (H : Holds input room s (lent no re by sy ob) c) where
   kind-held : getD no (h * width) 0 ≡ kind (getD (s .nodes) h nil)
   kind-held = word-0 H h l ∙ kind-word (getD (s .nodes) h nil)
 
-  set-went : {no' : List ℕ} → 7 ≤ getD no (h * width) 0 → getD no (h * width) 0 ≤ 8 → no' ≡ sets no (h * width) (getD no (h * width) 0 ∷ getD no (h * width + START) 0 ∷ getD no (h * width + LENGTH) 0 ∷ start ∷ n ∷ getD no (h * width + NAME) 0 ∷ 1 ∷ []) → Sets h start n (getD (s .nodes) h nil) → Went input room s (settle h start n s) (pure h) (lent no re by sy ob) (lent no' re by sy ob) c
+  set-went : {no' : List ℕ} → 7 ≤ getD no (h * width) 0 → getD no (h * width) 0 ≤ 8 → no' ≡ sets no (h * width) (getD no (h * width) 0 ∷ getD no (h * width + START) 0 ∷ getD no (h * width + LENGTH) 0 ∷ start ∷ n ∷ getD no (h * width + NAME) 0 ∷ 1 ∷ getD no (h * width + CLASS) 0 ∷ []) → Sets h start n (getD (s .nodes) h nil) → Went input room s (settle h start n s) (pure h) (lent no re by sy ob) (lent no' re by sy ob) c
   unfolding look
   set-went g g' f (inl (k, v, e, q, p, p')) =
-      let w = words-same start n kind-held (word H h l START (omega arith)) (word H h l LENGTH (omega arith)) (word H h l NAME (omega arith)) in
+      let w = words-same start n kind-held (word H h l START (omega arith)) (word H h l LENGTH (omega arith)) (word H h l NAME (omega arith)) (word H h l CLASS (omega arith)) in
       let x = row-went h v _ (e ∙ sym w) p l f s H (λ _. p') in
       record { state = x .state; holds = x .holds; same = ap (λ (m : Reader ℕ). m s) q ∙ x .same; grown = x .grown; behind = x .behind }
   set-went g g' f (inr (a, b, q)) = absurd (one-of-two (kind (getD (s .nodes) h nil)) a b (omega (arith, kind-held, g)) (omega (arith, kind-held, g')))
@@ -74,7 +74,7 @@ module _ {input : List ℕ} {room : Room} {c : List ℕ} {no re by : List ℕ} {
   set-refused a b (inr (x, y, q)) = ap (λ (m : Reader ℕ). m s) q
 
 module _ {input : List ℕ} {room : Room} {limit : ℕ} {c : List ℕ} {no re by : List ℕ} {sy : Symbols} {ob : List ℕ} (h start n : ℕ) (l : h < nodes-of c) where
-  pub variables-set : {no' : List ℕ} → 7 ≤ getD no (h * width) 0 → getD no (h * width) 0 ≤ 8 → no' ≡ sets no (h * width) (getD no (h * width) 0 ∷ getD no (h * width + START) 0 ∷ getD no (h * width + LENGTH) 0 ∷ start ∷ n ∷ getD no (h * width + NAME) 0 ∷ 1 ∷ []) → Meets input room limit (settle h start n) (lent no re by sy ob) c h (lent no' re by sy ob) c
+  pub variables-set : {no' : List ℕ} → 7 ≤ getD no (h * width) 0 → getD no (h * width) 0 ≤ 8 → no' ≡ sets no (h * width) (getD no (h * width) 0 ∷ getD no (h * width + START) 0 ∷ getD no (h * width + LENGTH) 0 ∷ start ∷ n ∷ getD no (h * width + NAME) 0 ∷ 1 ∷ getD no (h * width + CLASS) 0 ∷ []) → Meets input room limit (settle h start n) (lent no re by sy ob) c h (lent no' re by sy ob) c
   variables-set g g' f = given (λ s H. omega arith) (record { goes = λ s H. set-went h start n l s H g g' f (sets-variables h start n (getD (s .nodes) h nil)); counts = refl })
 
   pub variables-refused : {T' : Lent} {c' : List ℕ} → (getD no (h * width) 0 ≡ 7 → ⊥) → (getD no (h * width) 0 ≡ 8 → ⊥) → Meets input room limit (settle h start n) (lent no re by sy ob) c (coded 10 0) T' c'
@@ -96,10 +96,6 @@ module _ {input : List ℕ} {room : Room} {T : Lent} {c : List ℕ} (inner : Rea
 pub takes-string : {k : ℕ} → k ≡ STRING → takes-variables k ≡ true
 unfolding takes-variables
 takes-string e = rw e refl
-
-pub takes-other : {k : ℕ} → (k ≡ STRING → ⊥) → takes-variables k ≡ eqb k USER-DEFINED
-unfolding takes-variables
-takes-other {k} n = simp (ne-eqb k STRING n)
 
 pub takes-past : (input : List ℕ) (at : ℕ) → length input ≤ at → takes-variables (getD input at 0) ≡ false
 unfolding takes-variables

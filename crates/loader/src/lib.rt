@@ -42,7 +42,7 @@ pub fn open_node(nodes: &mut [u32], objects: &mut [u32], c: &mut [usize; COUNTS]
     ensures { λ r. ⌜ ((input : List ℕ) (room : Room) (limit : ℕ) (re by : List ℕ) (sy : Symbols) → Meets input room limit (add-object-node room nil) (lent (now (nodes .entry)) re by sy (now (objects .entry))) (now (c .entry)) r (lent (now (nodes .exit)) re by sy (now (objects .exit))) (now (c .exit))) ⌝ }
     ensures { λ r. ⌜ (r < REFUSED → (r < nodes-of (now (c .exit))) × Free (now (nodes .exit)) r) ⌝ }
 {
-    add_object_node(nodes, objects, c, Node::NIL, 0, 0, 0, 0)
+    add_object_node(nodes, objects, c, Node::NIL, 0, 0, 0, 0, 0)
 }
 
 // A count, and so many times `each` reference words more, which are zero: the count.
@@ -74,9 +74,10 @@ pub fn fill_node(
     n: u32,
     name: u32,
     last: u32,
+    class: u32,
 ) -> u64
     requires { ⌜ (h * width + width ≤ length (now nodes)) × (h < 4294967296) ⌝ }
-    ensures { λ r. ⌜ ((input : List ℕ) (room : Room) (limit : ℕ) (row : Row) (re by : List ℕ) (sy : Symbols) (ob c : List ℕ) → words row ≡ kind ∷ 0 ∷ 0 ∷ list ∷ n ∷ name ∷ last ∷ [] → Plain row → h < nodes-of c → (sy .searched ≡ true → Free (now (nodes .entry)) h) → Meets input room limit (fill h row) (lent (now (nodes .entry)) re by sy ob) c r (lent (now (nodes .exit)) re by sy ob) c) ⌝ }
+    ensures { λ r. ⌜ ((input : List ℕ) (room : Room) (limit : ℕ) (row : Row) (re by : List ℕ) (sy : Symbols) (ob c : List ℕ) → words row ≡ kind ∷ 0 ∷ 0 ∷ list ∷ n ∷ name ∷ last ∷ class ∷ [] → Plain row → h < nodes-of c → (sy .searched ≡ true → Free (now (nodes .entry)) h) → Meets input room limit (fill h row) (lent (now (nodes .entry)) re by sy ob) c r (lent (now (nodes .exit)) re by sy ob) c) ⌝ }
     ensures { λ r. ⌜ r ≡ h ⌝ }
 {
     put_node(
@@ -89,11 +90,12 @@ pub fn fill_node(
         n,
         name,
         last,
+        class,
     );
     h
 }
 
-// Does a string or a user-defined stand at `at`? Dump writes `I` before nothing else.
+// Does a string, a user-defined or a class stand at `at`? Dump writes `I` before nothing else.
 fn takes_next(input: &[u8], at: usize) -> bool
     ensures { λ r. ⌜ r ≡ takes-variables (getD (now (input .entry)) at 0) ⌝ }
 {
@@ -101,10 +103,7 @@ fn takes_next(input: &[u8], at: usize) -> bool
         return false;
     }
     let k = input[at];
-    if k == ValueKind::STRING {
-        return true;
-    }
-    k == ValueKind::USER_DEFINED
+    (k == ValueKind::STRING) | (k == ValueKind::USER_DEFINED) | (k == ValueKind::USER_CLASS)
 }
 
 // After `I`: that something else comes directly is noted.
@@ -135,7 +134,8 @@ pub fn set_variables(nodes: &mut [u32], h: u64, list: u32, n: u32) -> u64
     let a = nodes[base + Node::START];
     let b = nodes[base + Node::LENGTH];
     let name = nodes[base + Node::NAME];
-    put_node(nodes, base, kind, a, b, list, n, name, 1);
+    let class = nodes[base + Node::CLASS];
+    put_node(nodes, base, kind, a, b, list, n, name, 1, class);
     h
 }
 

@@ -104,11 +104,11 @@ module _ (words : List ℕ) where
   unfolding tell-number number-words details
   number-told {r = r} h e g = enough (r .answer) (number-words r) words tt tt h e ∙ ap (λ (k : Number). tell-number k words) g
 
-  pub words-few : (r : Words) → length words < 9 → reply 1 words tt ≡ tell-words r words
+  pub words-few : (r : Words) → length words < 10 → reply 1 words tt ≡ tell-words r words
   unfolding tell-words node-words details
   words-few r h = too-few (r .answer) (node-words r) words tt tt h
 
-  pub words-told : {r k : Words} {n : ℕ} {w : List ℕ} → 9 ≤ length words → (n ≡ answer-numbers (r .answer) .0) × (w ≡ sets words 0 (node-words r)) → r ≡ k → reply n w tt ≡ tell-words k words
+  pub words-told : {r k : Words} {n : ℕ} {w : List ℕ} → 10 ≤ length words → (n ≡ answer-numbers (r .answer) .0) × (w ≡ sets words 0 (node-words r)) → r ≡ k → reply n w tt ≡ tell-words k words
   unfolding tell-words node-words details
   words-told {r = r} h e g = enough (r .answer) (node-words r) words tt tt h e ∙ ap (λ (k : Words). tell-words k words) g
 

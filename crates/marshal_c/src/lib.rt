@@ -37,6 +37,7 @@ use value_arena::get;
 use value_arena::get_symbol;
 use value_arena::kind;
 use value_arena::new;
+use value_arena::replace_class;
 use value_arena::replace_root;
 use weight::reading;
 use weight::wet_weight;
@@ -46,7 +47,7 @@ ghost use Rattle.definition.specs.Load.{lists, load-call};
 ghost use Rattle.definition.specs.LoadMeasured.{measured-call};
 ghost use Rattle.definition.specs.LoadHashed.{hashed-call};
 ghost use Rattle.definition.specs.Dump.{dump-call};
-ghost use Rattle.definition.specs.Build.{lent, build-call, new-call, number-done, words-done, name-done, get-words, get-kind, get-name, get-root, exchange-root, create-nil, create-bool, create-fixnum, create-new-symbol, create-symbol, create-array, create-hash, create-object, create-string, create-user-defined, create-float, create-bignum};
+ghost use Rattle.definition.specs.Build.{lent, build-call, new-call, number-done, words-done, name-done, get-words, get-kind, get-name, get-root, exchange-root, exchange-class, create-nil, create-bool, create-fixnum, create-new-symbol, create-symbol, create-array, create-hash, create-object, create-string, create-user-defined, create-float, create-bignum};
 ghost use Rattle.definition.specs.Weight.{get-reading, wet-weight, read-done, weighed-done};
 ghost use Rattle.definition.specs.Cost.{batch-cost, cost-done};
 ghost use Rattle.reply.specs.Reply.{reply, tell-load, tell-measured, tell-hashed, tell-dump, tell-new, tell-build, tell-number, tell-words, tell-name, tell-reading, tell-weighed, tell-costed};
@@ -67,7 +68,7 @@ const BEGUN: usize = 6;
 
 const NUMBER: usize = 3;
 
-const WORDS: usize = 9;
+const WORDS: usize = 10;
 
 const NAME: usize = 4;
 
@@ -453,6 +454,34 @@ pub extern "C" fn ruby_marshal_replace_root(
         root: root,
     };
     let r = replace_root(&nodes[..], &references[..], &bytes[..], c, handle);
+    tell_created(answer, r)
+}
+
+#[no_mangle]
+pub extern "C" fn ruby_marshal_replace_class(
+    nodes: &mut [u32],
+    references: &[u32],
+    bytes: &[u8],
+    node_count: usize,
+    reference_count: usize,
+    byte_count: usize,
+    root: u32,
+    handle: u32,
+    class: u32,
+    answer: &mut [u64],
+) -> u32
+    ensures { λ r. ⌜ reply r (now (answer .exit)) (tables-of (now (nodes .exit)) (now (references .entry)) (now (bytes .entry))) ≡ tell-build (build-call (exchange-class handle class) (lent (now (nodes .entry)) (now (references .entry)) (now (bytes .entry)) (counts-of «node_count» «reference_count» «byte_count» root))) (tables-of (now (nodes .entry)) (now (references .entry)) (now (bytes .entry))) (now (answer .entry)) ⌝ }
+{
+    if answer.len() < CREATED {
+        return BAD_TABLES;
+    }
+    let c = Counts {
+        nodes: node_count,
+        references: reference_count,
+        bytes: byte_count,
+        root: root,
+    };
+    let r = replace_class(nodes, &references[..], &bytes[..], c, handle, class);
     tell_created(answer, r)
 }
 

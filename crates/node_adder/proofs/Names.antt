@@ -12,7 +12,7 @@ use lib.ListN.{length, getD, take, drop, drop-of-length-le}
 use lib.Seq.{drop-cons, length-take-le, take-length}
 use borrow.Author.Tests.{ne-eqb}
 use Rattle.definition.specs.Run.{ok, pick}
-use Rattle.definition.specs.Node.{Row, nil, symbol, kind, row-of, rows, equal, width, START, LENGTH, LIST, COUNT, NAME, DEFAULT, symbol-kind, words}
+use Rattle.definition.specs.Node.{Row, nil, symbol, kind, row-of, rows, equal, width, START, LENGTH, LIST, COUNT, NAME, DEFAULT, CLASS, symbol-kind, words}
 use Rattle.definition.specs.Arena.{Arena, node, range, name-of, named, find-symbol}
 use Rattle.definition.specs.Build.{Lent, held, check}
 use Rattle.lists.specs.Same.{same-length}
@@ -36,11 +36,11 @@ module _ (A : Arena) (count : ℕ) (t : List ℕ) (i : ℕ) (name : List ℕ) (e
   unfolding named
   no-symbol n =
       sym (ap (λ (b : Bool). b && equal name (name-of (A .bytes) (node A i)))
-      (ap (λ (r : Row). eqb (kind r) symbol-kind) (node-row A count t e i lt) ∙ kind-test symbol-kind (omega arith) (omega arith) _ _ _ _ _ _ _ ∙ ne-eqb (getD t (i * width) 0) symbol-kind n))
+      (ap (λ (r : Row). eqb (kind r) symbol-kind) (node-row A count t e i lt) ∙ kind-test symbol-kind (omega arith) (omega arith) _ _ _ _ _ _ _ _ ∙ ne-eqb (getD t (i * width) 0) symbol-kind n))
 
   symbol-is : getD t (i * width) 0 ≡ symbol-kind → node A i ≡ symbol (at START) (at LENGTH)
   unfolding row-of pick
-  symbol-is k = node-row A count t e i lt ∙ ap (λ (x : ℕ). row-of x (at START) (at LENGTH) (at LIST) (at COUNT) (at NAME) (at DEFAULT)) k
+  symbol-is k = node-row A count t e i lt ∙ ap (λ (x : ℕ). row-of x (at START) (at LENGTH) (at LIST) (at COUNT) (at NAME) (at DEFAULT) (at CLASS)) k
 
   name-is : getD t (i * width) 0 ≡ symbol-kind → named (A .bytes) name (node A i) ≡ equal name (range (A .bytes) (at START) (at LENGTH))
   unfolding named name-of kind words pick

@@ -35,14 +35,14 @@ pub fn refused(q: Refusal, counts: Counts) -> Created
 // A node of kind k with words 1, 2 and 4, and neither bytes nor a list.
 pub fn add_plain(nodes: &mut [u32], counts: Counts, k: u32, a: u32, b: u32, n: u32) -> Created
     requires { ⌜ (counts .nodes * width ≤ length (now nodes)) × (length (now nodes) ≤ greatest-length) ⌝ }
-    ensures { λ r. ⌜ ((re by : List ℕ) (row : Row) → words row ≡ k ∷ a ∷ b ∷ 0 ∷ n ∷ 0 ∷ 0 ∷ [] → build-call-of r (now (nodes .exit)) re by ≡ build-call (B.add [] [] (λ b l. row)) (lent (now (nodes .entry)) re by counts)) ⌝ }
+    ensures { λ r. ⌜ ((re by : List ℕ) (row : Row) → words row ≡ k ∷ a ∷ b ∷ 0 ∷ n ∷ 0 ∷ 0 ∷ 0 ∷ [] → build-call-of r (now (nodes .exit)) re by ≡ build-call (B.add [] [] (λ b l. row)) (lent (now (nodes .entry)) re by counts)) ⌝ }
 {
     let at = counts.nodes;
     let references = counts.references;
     let bytes = counts.bytes;
     let root = counts.root;
     if at < nodes.len() / Node::WIDTH {
-        put_node(nodes, at * Node::WIDTH, k, a, b, 0, n, 0, 0);
+        put_node(nodes, at * Node::WIDTH, k, a, b, 0, n, 0, 0, 0);
         Created {
             answer: Answer::Accepted,
             handle: at as u32,
@@ -68,7 +68,7 @@ pub fn add_string(
     name: u32,
 ) -> Created
     requires { ⌜ (counts .nodes * width ≤ length (now nodes)) × (length (now nodes) ≤ greatest-length) × (counts .bytes ≤ length (now bytes)) × (length (now bytes) ≤ greatest-length) ⌝ }
-    ensures { λ r. ⌜ ((re : List ℕ) (row : ℕ → ℕ → Row) → ((l : ℕ) → words (row (counts .bytes) l) ≡ k ∷ counts .bytes ∷ length (now (source .entry)) ∷ 0 ∷ 0 ∷ name ∷ 0 ∷ []) → build-call-of r (now (nodes .exit)) re (now (bytes .exit)) ≡ build-call (B.add (now (source .entry)) [] row) (lent (now (nodes .entry)) re (now (bytes .entry)) counts)) ⌝ }
+    ensures { λ r. ⌜ ((re : List ℕ) (row : ℕ → ℕ → Row) → ((l : ℕ) → words (row (counts .bytes) l) ≡ k ∷ counts .bytes ∷ length (now (source .entry)) ∷ 0 ∷ 0 ∷ name ∷ 0 ∷ 0 ∷ []) → build-call-of r (now (nodes .exit)) re (now (bytes .exit)) ≡ build-call (B.add (now (source .entry)) [] row) (lent (now (nodes .entry)) re (now (bytes .entry)) counts)) ⌝ }
 {
     let at = counts.nodes;
     let r = counts.references;
@@ -87,6 +87,7 @@ pub fn add_string(
                 0,
                 0,
                 name,
+                0,
                 0,
             );
             Created {
@@ -114,7 +115,7 @@ pub fn entry_count(pairs: bool, m: usize) -> usize
     if pairs { m / 2 } else { m }
 }
 
-// A node of kind k with a list of elements or pairs, a name in word 5 and a last word.
+// A node of kind k with a list of elements or pairs, a name in word 5 and a default in word 6.
 pub fn add_list(
     nodes: &mut [u32],
     references: &mut [u32],
@@ -123,10 +124,10 @@ pub fn add_list(
     k: u32,
     pairs: bool,
     name: u32,
-    last: u32,
+    default: u32,
 ) -> Created
     requires { ⌜ (counts .nodes * width ≤ length (now nodes)) × (length (now nodes) ≤ greatest-length) × (counts .references ≤ length (now references)) × (length (now references) ≤ greatest-length) ⌝ }
-    ensures { λ r. ⌜ ((by : List ℕ) (row : ℕ → ℕ → Row) → ((b : ℕ) → words (row b (counts .references)) ≡ k ∷ 0 ∷ 0 ∷ counts .references ∷ entries pairs (length (now (source .entry))) ∷ name ∷ last ∷ []) → build-call-of r (now (nodes .exit)) (now (references .exit)) by ≡ build-call (B.add [] (now (source .entry)) row) (lent (now (nodes .entry)) (now (references .entry)) by counts)) ⌝ }
+    ensures { λ r. ⌜ ((by : List ℕ) (row : ℕ → ℕ → Row) → ((b : ℕ) → words (row b (counts .references)) ≡ k ∷ 0 ∷ 0 ∷ counts .references ∷ entries pairs (length (now (source .entry))) ∷ name ∷ default ∷ 0 ∷ []) → build-call-of r (now (nodes .exit)) (now (references .exit)) by ≡ build-call (B.add [] (now (source .entry)) row) (lent (now (nodes .entry)) (now (references .entry)) by counts)) ⌝ }
 {
     let at = counts.nodes;
     let to = counts.references;
@@ -145,7 +146,8 @@ pub fn add_list(
                 to as u32,
                 entry_count(pairs, m) as u32,
                 name,
-                last,
+                default,
+                0,
             );
             Created {
                 answer: Answer::Accepted,

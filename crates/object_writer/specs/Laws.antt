@@ -3,13 +3,13 @@ use Prim.Native.Nat.{ℕ, zero, suc}
 use native.Mathlib.Omega.{arith}
 use mathlib.Core.Path.{_≡_, refl, sym, _∙_, subst}
 use mathlib.Core.List.{List}
-use Rattle.definition.specs.Run.{refused, pure, refuse}
+use Rattle.definition.specs.Run.{refused, pure, refuse, next, _>>=_}
 use Rattle.definition.specs.Arena.{Arena}
-use Rattle.definition.specs.Dump.{Writer, _>>_}
+use Rattle.definition.specs.Dump.{Writer, _>>_, write-class}
 use Rattle.definition.specs.declared.Refusal.the-variants.{TooDeep}
 use Rattle.writer.specs.Held.{Buffers, Ready, Goes, stopped, Leads, Meets}
 use Rattle.writer.specs.Laws.{then, then-refused, ready-goes}
-use Rattle.object_writer.specs.Values.{Heads}
+use Rattle.object_writer.specs.Values.{Heads, opened, classed}
 
 module _ {A : Arena} {room limit : ℕ} where
   -- ---- an answer by what it says
@@ -75,3 +75,8 @@ module _ {A : Arena} {room limit : ℕ} where
 
 pub ready-head : {P : Arena → Type 0} {B B' : Buffers} {c c' : List ℕ} {r : ℕ} (m m' : Arena → ℕ → Writer) → Ready P B c → r ≡ 0 → ((A : Arena) (room : ℕ) → P A → Heads A room 0 (m A room) (m' A room) B c r B' c') → Ready P B' c'
 ready-head m m' d e k = ready-goes d (head-goes e (k (d .arena) (d .room) (d .fact)))
+
+-- no class is written as nothing
+pub unclassed : (room : ℕ) (A : Arena) (v : ℕ) (bs : List ℕ) (rest : Writer) {w : ℕ} → w ≡ 0 → classed room A v w bs rest ≡ opened room v bs rest
+unfolding write-class _>>_ _>>=_ next pure
+unclassed room A v bs rest e = rw e refl

@@ -6,7 +6,7 @@ use Rattle.definition.specs.Run.{pure}
 use Rattle.definition.specs.Kind.{INSTANCE-VARIABLES}
 use Rattle.definition.specs.Node.{kind}
 use Rattle.definition.specs.Arena.{Arena, node}
-use Rattle.definition.specs.Dump.{Writer, _>>_, write, write-object-or-link}
+use Rattle.definition.specs.Dump.{Writer, _>>_, write, write-class, write-object-or-link}
 use Rattle.writer.specs.Held.{Buffers, Goes, Refuses, stopped}
 
 -- node v is of kinds 4 to 10
@@ -27,15 +27,19 @@ pub record Heads (A : Arena) (room limit : ℕ) (m m' : Writer) (B : Buffers) (c
 abbrev pub Opens : Arena → ℕ → ℕ → (Writer → Writer) → Buffers → List ℕ → ℕ → Buffers → List ℕ → Type 0
 Opens A room limit m B c r B' c' = (rest : Writer) → Heads A room limit (m rest) rest B c r B' c'
 
--- the value after `I` where the mark f says that there is one, and then the rest
-unfoldable pub begun : ℕ → Writer → ℕ → Writer → Writer → Writer
-begun room level zero body rest = body >> rest
-begun room level (suc f) body rest = write room (INSTANCE-VARIABLES ∷ []) >> level >> body >> rest
+-- `I` and the level where the mark f says that there are variables, and then the rest
+unfoldable pub begun : ℕ → Writer → ℕ → Writer → Writer
+begun room level zero rest = rest
+begun room level (suc f) rest = write room (INSTANCE-VARIABLES ∷ []) >> level >> rest
 
 -- the bytes first given of an object that is not linked, and then the rest
 abbrev pub opened : ℕ → ℕ → List ℕ → Writer → Writer
 opened room v bs rest = write-object-or-link room v (write room bs >> rest)
 
--- byte k and bytes of an object that is not linked, after `I` and the level where the mark f says that there are variables, and then the rest
-abbrev pub texted : ℕ → ℕ → Writer → ℕ → ℕ → List ℕ → Writer → Writer
-texted room v level f k bs rest = write-object-or-link room v (begun room level f (write room (k ∷ [])) (write room bs >> rest))
+-- likewise after the class
+abbrev pub classed : ℕ → Arena → ℕ → ℕ → List ℕ → Writer → Writer
+classed room A v w bs rest = write-object-or-link room v (write-class room A w >> (write room bs >> rest))
+
+-- likewise after `I` and the level, where there are variables, and the class
+abbrev pub texted : ℕ → Arena → ℕ → Writer → ℕ → ℕ → List ℕ → Writer → Writer
+texted room A v level f w bs rest = write-object-or-link room v (begun room level f (write-class room A w >> (write room bs >> rest)))

@@ -3,8 +3,11 @@
 //
 // A case, from word 2 on: 1 where they hold the same graph, else 0; the answer's number and two details, of both; and of the first
 // input, the second, the first dump and the second the length and the byte at which it stands.
+use console::BYTES;
+use console::NODES;
+use console::NUMBERED;
+use console::REFERENCES;
 use definition::Dumped;
-use definition::Node;
 use redumping::redump;
 use replay_cases::bytes_agree;
 use replay_cases::junk;
@@ -27,8 +30,6 @@ const INPUTS: usize = 6;
 
 const DUMPS: usize = 10;
 
-const NODES: usize = 1000 * Node::WIDTH;
-
 // The dump is that of which length and place stand from word `at` on.
 fn dumped_agrees(data: &[u8], at: usize, r: Dumped, scratch: &[u32], output: &[u8]) -> bool {
     let answer = r.answer;
@@ -44,11 +45,11 @@ fn dumped_agrees(data: &[u8], at: usize, r: Dumped, scratch: &[u32], output: &[u
 // An input, loaded and dumped into `output`.
 fn input_agrees(data: &[u8], at: usize, input: &[u8], output: &mut [u8]) -> bool {
     let mut nodes = [0u32; NODES];
-    let mut references = [0u32; 4000];
-    let mut bytes = [0u8; 16384];
-    let mut symbols = [0u32; 1000];
-    let mut objects = [0u32; 1000];
-    let mut scratch = [0u32; 1000];
+    let mut references = [0u32; REFERENCES];
+    let mut bytes = [0u8; BYTES];
+    let mut symbols = [0u32; NUMBERED];
+    let mut objects = [0u32; NUMBERED];
+    let mut scratch = [0u32; NUMBERED];
     set_words(&data[..], junk(), &mut nodes);
     set_words(&data[..], junk(), &mut references);
     set_bytes(&data[..], junk(), &mut bytes);

@@ -7,7 +7,7 @@ use borrow.Author.Tests.{ne-eqb}
 use Rattle.definition.specs.Run.{ok, refused, pick}
 use Rattle.definition.specs.State.{State, Reader, at-set, noted}
 use Rattle.definition.specs.declared.Refusal.{Refusal}
-use Rattle.definition.specs.declared.Refusal.the-variants.{InvalidVersion, ShortInput, InvalidKind, NegativeCount, MissingSymbol, MissingObject, NotASymbol, NotAnObject, TooDeep, NoSpace, BadSign, TooBig, WrongSign}
+use Rattle.definition.specs.declared.Refusal.the-variants.{InvalidVersion, ShortInput, InvalidKind, NegativeCount, MissingSymbol, MissingObject, NotASymbol, NotAnObject, TooDeep, NoSpace, BadSign, TooBig, WrongSign, NotWrappable}
 
 -- the refusal of number n with detail d; the detail of 11 is the limit, which readers do not know
 unfoldable pub refusal-of : ℕ → ℕ → ℕ → Refusal
@@ -24,7 +24,8 @@ refusal-of limit n d =
     (pick (eqb n 15) (BadSign (d % 256))
     (pick (eqb n 16) (TooBig d)
     (pick (eqb n 19) (WrongSign (d % 256))
-    (NoSpace d))))))))))))
+    (pick (eqb n 22) (NotWrappable (d % 256))
+    (NoSpace d)))))))))))))
 
 -- readers answer refusals from here on
 abbrev pub REFUSED : ℕ
@@ -94,12 +95,16 @@ module _ (limit : ℕ) where
   unfolding refusal-of pick
   at-wrong-sign b l = let e : b % 256 ≡ b = omega arith in at-parts limit 19 b refl (omega arith) ∙ ap WrongSign e
 
+  pub at-wrapped : (k : ℕ) → k ≤ 255 → refusal-at limit (coded 22 k) ≡ NotWrappable k
+  unfolding refusal-of pick
+  at-wrapped k l = let e : k % 256 ≡ k = omega arith in at-parts limit 22 k refl (omega arith) ∙ ap NotWrappable e
+
 -- what is left where no other number is
-pub refusal-last : (limit r : ℕ) → (r / 4294967296 ≡ 3 → ⊥) → (r / 4294967296 ≡ 4 → ⊥) → (r / 4294967296 ≡ 5 → ⊥) → (r / 4294967296 ≡ 6 → ⊥) → (r / 4294967296 ≡ 7 → ⊥) → (r / 4294967296 ≡ 8 → ⊥) → (r / 4294967296 ≡ 9 → ⊥) → (r / 4294967296 ≡ 10 → ⊥) → (r / 4294967296 ≡ 11 → ⊥) → (r / 4294967296 ≡ 15 → ⊥) → (r / 4294967296 ≡ 16 → ⊥) → (r / 4294967296 ≡ 19 → ⊥) → NoSpace (r % 4294967296) ≡ refusal-at limit r
+pub refusal-last : (limit r : ℕ) → (r / 4294967296 ≡ 3 → ⊥) → (r / 4294967296 ≡ 4 → ⊥) → (r / 4294967296 ≡ 5 → ⊥) → (r / 4294967296 ≡ 6 → ⊥) → (r / 4294967296 ≡ 7 → ⊥) → (r / 4294967296 ≡ 8 → ⊥) → (r / 4294967296 ≡ 9 → ⊥) → (r / 4294967296 ≡ 10 → ⊥) → (r / 4294967296 ≡ 11 → ⊥) → (r / 4294967296 ≡ 15 → ⊥) → (r / 4294967296 ≡ 16 → ⊥) → (r / 4294967296 ≡ 19 → ⊥) → (r / 4294967296 ≡ 22 → ⊥) → NoSpace (r % 4294967296) ≡ refusal-at limit r
 unfolding refusal-at refusal-of pick
-refusal-last limit r c d e f g h i j k l m o =
+refusal-last limit r c d e f g h i j k l m o p =
     let n = r / 4294967296 in
-    simp (ne-eqb n 3 c, ne-eqb n 4 d, ne-eqb n 5 e, ne-eqb n 6 f, ne-eqb n 7 g, ne-eqb n 8 h, ne-eqb n 9 i, ne-eqb n 10 j, ne-eqb n 11 k, ne-eqb n 15 l, ne-eqb n 16 m, ne-eqb n 19 o)
+    simp (ne-eqb n 3 c, ne-eqb n 4 d, ne-eqb n 5 e, ne-eqb n 6 f, ne-eqb n 7 g, ne-eqb n 8 h, ne-eqb n 9 i, ne-eqb n 10 j, ne-eqb n 11 k, ne-eqb n 15 l, ne-eqb n 16 m, ne-eqb n 19 o, ne-eqb n 22 p)
 
 -- a reader m at the offset `at`, whose number is r: below 2^32 it has come to the offset given, and dump writes what it read just where r is 0; from there on it is a refusal
 pub record Reads (m : Reader (Unit {0})) (at r next : ℕ) : Type 0 where

@@ -63,6 +63,8 @@ pub const BIGNUM_TOO_BIG: u64 = 16 * REFUSED;
 
 const WRONG_SIGN: u64 = 19 * REFUSED;
 
+const NOT_WRAPPABLE: u64 = 22 * REFUSED;
+
 // The refusal that an answer from REFUSED on is, under this limit.
 pub fn refusal_of(r: u64, limit: u32) -> Refusal
     requires { ⌜ 4294967296 ≤ r ⌝ }
@@ -83,6 +85,7 @@ pub fn refusal_of(r: u64, limit: u32) -> Refusal
         15 => Refusal::BadSign((detail % 256) as u8),
         16 => Refusal::TooBig(detail),
         19 => Refusal::WrongSign((detail % 256) as u8),
+        22 => Refusal::NotWrappable((detail % 256) as u8),
         _ => Refusal::NoSpace(detail),
     }
 }
@@ -99,6 +102,13 @@ pub fn not_a_symbol(k: u8) -> u64
     ensures { λ r. ⌜ (r ≡ coded 9 k) × (k ≤ 255) ⌝ }
 {
     NOT_A_SYMBOL + k as u64
+}
+
+// The refusal of a byte after a class's name.
+pub fn not_wrappable(k: u8) -> u64
+    ensures { λ r. ⌜ (r ≡ coded 22 k) × (k ≤ 255) ⌝ }
+{
+    NOT_WRAPPABLE + k as u64
 }
 
 // A Bignum's sign byte, or the refusal of another.

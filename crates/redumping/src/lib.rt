@@ -65,9 +65,10 @@ pub fn put_redump(
     objects: &mut [u32],
 ) -> usize {
     let mut scratch = [0u32; NUMBERED];
-    // 65,536 bytes hold every dump of the programs' tables, which takes at most 2 + 16,384 + 1,000 * 12 + 4,001 * 4 = 44,390:
-    // the header; the byte strings, each laid out once; for each node `I`, its kind, a length and a count of 3 bytes each
-    // (a fixnum's 6 are fewer), and 4 for a link as its name or default; the root and each reference as a link of 4.
+    // 65,536 bytes hold every dump of the programs' tables, which takes at most 2 + 16,384 + 1,000 * 13 + 4,001 * 4 = 45,390:
+    // the header; the byte strings, each laid out once; for each node its kind, `C` and 4 for a link as its class or name, and
+    // `I`, a length and a count of 3 bytes each or, in a hash, a count and 4 for a link as its default (a fixnum's 6 are fewer);
+    // the root and each reference as a link of 4.
     let mut output = io::large_buffer();
     let r = redump(
         &input[..],

@@ -10,7 +10,7 @@ use Rattle.definition.specs.declared.Answer.{Answer}
 use Rattle.definition.specs.declared.Answer.the-variants.{Accepted, Refused}
 use Rattle.definition.specs.declared.Numbers.{Numbers}
 use Rattle.definition.specs.declared.Refusal.{Refusal}
-use Rattle.definition.specs.declared.Refusal.the-variants.{BadTables, BadArena, InvalidVersion, ShortInput, InvalidKind, NegativeCount, MissingSymbol, MissingObject, NotASymbol, NotAnObject, TooDeep, NoSpace, BadHandle, WrongKind, BadSign, TooBig, NotAWeight, BadMoisture, WrongSign, NotARecipe, NoPrice}
+use Rattle.definition.specs.declared.Refusal.the-variants.{BadTables, BadArena, InvalidVersion, ShortInput, InvalidKind, NegativeCount, MissingSymbol, MissingObject, NotASymbol, NotAnObject, TooDeep, NoSpace, BadHandle, WrongKind, BadSign, TooBig, NotAWeight, BadMoisture, WrongSign, NotARecipe, NoPrice, NotWrappable}
 
 -- a number with its sign apart, as an integer
 abbrev pub integer : Bool → ℕ → ℤ
@@ -54,3 +54,4 @@ answer-shown (Refused q) = by-refusal q
     by-refusal (WrongSign byte) = shown-told 19 (pos byte) 0
     by-refusal (NotARecipe handle) = shown-told 20 (pos handle) 0
     by-refusal (NoPrice handle) = shown-told 21 (pos handle) 0
+    by-refusal (NotWrappable byte) = shown-told 22 (pos byte) 0

@@ -63,6 +63,7 @@ pub fn numbers_of(q: Refusal) -> Numbers
         Refusal::WrongSign(byte) => plain(19, byte as u32, 0),
         Refusal::NotARecipe(handle) => plain(20, handle, 0),
         Refusal::NoPrice(handle) => plain(21, handle, 0),
+        Refusal::NotWrappable(byte) => plain(22, byte as u32, 0),
     }
 }
 

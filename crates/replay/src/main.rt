@@ -2,7 +2,7 @@
 //
 // Standard input is cases, in sections by the kind of call: words of 32 bits, low byte first, then bytes, padded to a word. Word 0
 // of a case is its length in words, word 1 its call. The call END closes a section, whose count is then printed: one that is cut
-// short has none.
+// short has none. A case has at most LONGEST bytes.
 mod readers;
 
 use replay_cases::next;
@@ -21,6 +21,8 @@ const DUMP: u32 = 2;
 const PAIR: u32 = 3;
 
 const LAST_OF_ARENAS: u32 = 40;
+
+const LONGEST: usize = 4096;
 
 fn case_agrees(data: &[u8]) -> bool {
     match word(&data[..], 1) {
@@ -80,6 +82,6 @@ fn replay_all(data: &mut [u8]) {
 }
 
 fn main() {
-    let mut data = [0u8; 131072];
+    let mut data = [0u8; LONGEST];
     replay_all(&mut data);
 }

@@ -78,15 +78,15 @@ begun-words r = details (r .answer) ++ count-words (r .counts)
 unfoldable pub number-words : Number → List ℕ
 number-words r = details (r .answer) ++ (r .value ∷ [])
 
--- get: the node's seven words
+-- get: the node's words
 unfoldable pub node-words : Words → List ℕ
-node-words r = details (r .answer) ++ (getD (r .words) 0 0 ∷ getD (r .words) 1 0 ∷ getD (r .words) 2 0 ∷ getD (r .words) 3 0 ∷ getD (r .words) 4 0 ∷ getD (r .words) 5 0 ∷ getD (r .words) 6 0 ∷ [])
+node-words r = details (r .answer) ++ (getD (r .words) 0 0 ∷ getD (r .words) 1 0 ∷ getD (r .words) 2 0 ∷ getD (r .words) 3 0 ∷ getD (r .words) 4 0 ∷ getD (r .words) 5 0 ∷ getD (r .words) 6 0 ∷ getD (r .words) 7 0 ∷ [])
 
 -- get_symbol: byte start and length
 unfoldable pub name-words : Name → List ℕ
 name-words r = details (r .answer) ++ (r .start ∷ r .length ∷ [])
 
--- create_* and replace_root: the counts, then the new node or the old root
+-- create_*, replace_root and replace_class: the counts, then the new node, the old root or the old class word
 unfoldable pub created-words : Created → List ℕ
 created-words r = details (r .answer) ++ count-words (r .counts) ++ (r .handle ∷ [])
 

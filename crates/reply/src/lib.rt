@@ -109,10 +109,10 @@ pub fn tell_counts(answer: &mut [u64], c: Counts)
     answer[5] = c.root as u64;
 }
 
-// Words 2 to 8.
-pub fn tell_seven(answer: &mut [u64], a: u32, b: u32, c: u32, d: u32, e: u32, f: u32, g: u32)
-    requires { ⌜ 9 ≤ length (now answer) ⌝ }
-    ensures { λ _. ⌜ now (answer .exit) ≡ sets (now (answer .entry)) 2 (a ∷ b ∷ c ∷ d ∷ e ∷ f ∷ g ∷ []) ⌝ }
+// A node's words, from word 2 on.
+pub fn tell_node(answer: &mut [u64], a: u32, b: u32, c: u32, d: u32, e: u32, f: u32, g: u32, h: u32)
+    requires { ⌜ 10 ≤ length (now answer) ⌝ }
+    ensures { λ _. ⌜ now (answer .exit) ≡ sets (now (answer .entry)) 2 (a ∷ b ∷ c ∷ d ∷ e ∷ f ∷ g ∷ h ∷ []) ⌝ }
 {
     answer[2] = a as u64;
     answer[3] = b as u64;
@@ -121,6 +121,7 @@ pub fn tell_seven(answer: &mut [u64], a: u32, b: u32, c: u32, d: u32, e: u32, f:
     answer[6] = e as u64;
     answer[7] = f as u64;
     answer[8] = g as u64;
+    answer[9] = h as u64;
 }
 
 // Each kind of answer: its words, and its number.
@@ -190,13 +191,13 @@ pub fn tell_number(answer: &mut [u64], r: Number) -> u32
 }
 
 pub fn tell_words(answer: &mut [u64], r: Words) -> u32
-    requires { ⌜ 9 ≤ length (now answer) ⌝ }
+    requires { ⌜ 10 ≤ length (now answer) ⌝ }
     ensures { λ n. ⌜ (n ≡ answer-numbers (r .answer) .0) × (now (answer .exit) ≡ sets (now (answer .entry)) 0 (node-words r)) ⌝ }
 {
     let a = r.answer;
     let w = r.words;
     let n = tell(answer, a);
-    tell_seven(answer, w[0], w[1], w[2], w[3], w[4], w[5], w[6]);
+    tell_node(answer, w[0], w[1], w[2], w[3], w[4], w[5], w[6], w[7]);
     n
 }
 

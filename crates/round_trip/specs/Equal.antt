@@ -60,7 +60,7 @@ module _ (A : Arena) (m : Small A) where
   row-bounded f h true-shown = omega arith
   row-bounded f h (fixnum-shown {w}) = f w refl
   row-bounded f h (symbol-shown {s} {l}) = range-bounded s l h
-  row-bounded f h (array-shown {s} {n}) = (omega (arith, h .inside, m .references), omega arith)
+  row-bounded f h (array-shown {s} {n}) = (omega (arith, h .0 .inside, m .references), omega arith)
   row-bounded f h (hash-shown {s} {n}) = (omega (arith, h .0 .inside, m .references), omega arith)
   row-bounded f h (default-shown {s} {n} {d}) = (omega (arith, h .0 .inside, m .references), omega arith)
   row-bounded f h (object-shown {s} {n} {c}) = (omega (arith, h .1 .list .inside, m .references), omega arith)
@@ -144,10 +144,10 @@ word-bounded (x ∷ t) b zero = b 0 x refl
 word-bounded (x ∷ t) b (suc k) = word-bounded t (λ j v e. b (suc j) v e) k
 
 -- a fixnum's value is word 1
-fixnum-word : (k a b s n c f w : ℕ) → row-of k a b s n c f ≡ fixnum w → a ≡ w
+fixnum-word : (k a b s n c f v w : ℕ) → row-of k a b s n c f v ≡ fixnum w → a ≡ w
 unfolding kind
-fixnum-word k a b s n c f w e =
-    let z = row-2 k a b s n c f (kind-is k a b s n c f 2 (ap kind e) (omega arith)) in
+fixnum-word k a b s n c f v w e =
+    let z = row-2 k a b s n c f v (kind-is k a b s n c f v 2 (ap kind e) (omega arith)) in
     cc
 
 rows-fixnum : (n : ℕ) (t : List ℕ) → ((k : ℕ) → getD t k 0 < 4294967296) → (i w : ℕ) → At (rows n t) i (fixnum w) → w < 4294967296
@@ -155,7 +155,7 @@ unfolding rows row
 rows-fixnum zero t b i w e = apart (cc)
 rows-fixnum (suc n) t b zero w e =
     let q : row (take width t) ≡ fixnum w = cc in
-    let z = fixnum-word _ (getD (take width t) START 0) _ _ _ _ _ w q in
+    let z = fixnum-word _ (getD (take width t) START 0) _ _ _ _ _ _ w q in
     omega (arith, z, getD-take width t START 0 (omega arith), b START)
 rows-fixnum (suc n) t b (suc i) w e = rows-fixnum n (drop width t) (λ k. rw (getD-drop width t k 0) (b (width + k))) i w e
 

@@ -13,7 +13,7 @@ use Rattle.definition.specs.Run.{Outcome, ok, refused, pick}
 use Rattle.definition.specs.Arena.{Arena, Tables, too-long, bad-nodes, lowest}
 use Rattle.definition.specs.State.{State}
 use Rattle.definition.specs.Load.{Lists, room-of, begin, load, load-wrong, load-done, load-if, load-call}
-use Rattle.definition.specs.Dump.{dump-wrong, dump-call}
+use Rattle.definition.specs.Dump.{dump-wrong}
 use Rattle.definition.specs.Node.{width}
 use Rattle.definition.specs.Slice.{greatest-length, greatest-limit}
 use Rattle.definition.specs.declared.Answer.the-variants.{Refused}

@@ -62,7 +62,7 @@ links-box A r k v e = go (headed A r) e
     go (bool-headed x) e = apart (cc)
     go (fixnum-headed x) e = apart (cc)
     go (symbol-headed b) e = apart (cc)
-    go (box-headed k x b n p ms) e = refl
+    go (box-headed k x b n p c ms) e = refl
 
 scalar-leaf : (A : Arena) (x : Row) → kind x < 3 → node-leaf (see A x) ≡ 1
 unfolding see

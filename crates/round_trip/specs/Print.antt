@@ -9,11 +9,11 @@ use lib.Seq.{take-at, drop-at, drop-append-seam}
 use native.Mathlib.Omega.{arith}
 use Rattle.definition.specs.Run.{pick}
 use Rattle.definition.specs.Integer.{Form, value, data-bytes, form, little, integer-bytes}
-use Rattle.definition.specs.Kind.{NIL, TRUE, FALSE, FIXNUM, SYMBOL, SYMBOL-LINK, OBJECT-LINK, INSTANCE-VARIABLES, ARRAY, HASH, HASH-DEFAULT, OBJECT, STRING, USER-DEFINED, FLOAT, BIGNUM, MINUS}
+use Rattle.definition.specs.Kind.{NIL, TRUE, FALSE, FIXNUM, SYMBOL, SYMBOL-LINK, OBJECT-LINK, INSTANCE-VARIABLES, ARRAY, HASH, HASH-DEFAULT, OBJECT, STRING, USER-DEFINED, FLOAT, BIGNUM, USER-CLASS, MINUS}
 use Rattle.definition.specs.Magnitude.{fits, fewest-units, sign-byte, unit-bytes, bignum-bytes}
 use Rattle.definition.specs.Dump.{byte-string-bytes}
 use Rattle.definition.specs.Graph.{header-of}
-use Rattle.graph.specs.Forest.{F, fEnd, fLeaf, fBox, fRef, fSym, fSymref, fIv, trees, Mode, values, pairs, value-pairs, name, name-pairs, after, IsValue, Text, tEnd, tEndPairs, tName, tNameLink, tOneName, tOneLink, tClass, tClassLink, tNil, tFalse, tTrue, tFixnum, tSymbol, tSymbolLink, tObjectLink, tArray, tHash, tHashDefault, tObject, Texted, text-string, text-float, tText, tBignum, tStringVars, tUser, tUserVars}
+use Rattle.graph.specs.Forest.{F, fEnd, fLeaf, fBox, fRef, fSym, fSymref, fIv, trees, OneName, one-new, one-link, Class, no-class, a-class, Mode, values, pairs, value-pairs, name-pairs, after, IsValue, Text, tEnd, tEndPairs, tName, tNameLink, tClass, tClassLink, tNil, tFalse, tTrue, tFixnum, tSymbol, tSymbolLink, tObjectLink, tArray, tHash, tHashDefault, tObject, Texted, text-string, text-float, tText, tBignum, tStringVars, tUser, tUserVars}
 use Rattle.lists.specs.Words.{length-low}
 use Rattle.lists.specs.Magnitudes.{few-units, unit-bytes-say}
 use Rattle.load_text.specs.Codec.{Codes, short, long, codes}
@@ -34,7 +34,6 @@ abbrev BoundedMode : Mode → Type 0
 BoundedMode values = Unit {0}
 BoundedMode (pairs n) = Unit {0}
 BoundedMode (value-pairs n) = Unit {0}
-BoundedMode name = Unit {0}
 BoundedMode (name-pairs n) = n < 2147483648
 
 -- ---- integers and byte strings
@@ -78,6 +77,44 @@ units-back m u h =
     let l = length-low (n * 2) m in
     rw (e, take-at bs u (n * 2) l, drop-at bs u (n * 2) l, unit-bytes-say m h)
 
+-- ---- one name, and a class
+
+-- a name or, where the byte is no symbol's, a link to one: its forest and the bytes after it
+unfoldable one-by : Bool → List ℕ → F × List ℕ
+one-by true x = (fSym false (str x .0) fEnd, str x .1)
+one-by false x = (fSymref false (int x .0) fEnd, int x .1)
+
+unfoldable one : List ℕ → F × List ℕ
+one [] = (fEnd, [])
+one (b ∷ x) = one-by (eqb b SYMBOL) x
+
+one-back : {p : F} {z : List ℕ} → OneName p z → Bounded p → (u : List ℕ) → one (z ++ u) ≡ (p, u)
+unfolding one one-by
+one-back (one-new {b = b}) h u = rw (str-back b u (h .0))
+one-back (one-link {k = k}) h u = rw (int-back k u (omega (arith, h .0)))
+
+-- what stands before a value's kind byte: is there a class, its forest, the bytes after it
+record Front : Type 0 where
+  classed : Bool
+  class-name : F
+  rest : List ℕ
+
+abbrev fronted : Bool → F → List ℕ → Front
+fronted c p u = record { classed = c; class-name = p; rest = u }
+
+unfoldable front-by : Bool → ℕ → List ℕ → Front
+front-by true b x = fronted true (one x .0) (one x .1)
+front-by false b x = fronted false fEnd (b ∷ x)
+
+unfoldable front : List ℕ → Front
+front [] = fronted false fEnd []
+front (b ∷ x) = front-by (eqb b USER-CLASS) b x
+
+front-back : {c : Bool} {p : F} {z : List ℕ} → Class c p z → Bounded p → (b : ℕ) (u : List ℕ) → eqb b USER-CLASS ≡ false → front (z ++ (b ∷ u)) ≡ fronted c p (b ∷ u)
+unfolding front front-by
+front-back no-class h b u e = rw e
+front-back (a-class n) h b u e = rw (one-back n h (b ∷ u))
+
 -- ---- the reader
 
 -- what a kind byte begins; h-text: a byte string and nothing more, of the kind given
@@ -97,7 +134,6 @@ data Want : Type 0 where
   w-values : ℕ → Want
   w-pairs : ℕ → Want
   w-value-pairs : ℕ → Want
-  w-name : Want
   w-name-pairs : Want
 
 -- what was read: the number of a class's pairs, else 0; the forest; the bytes after it
@@ -119,42 +155,46 @@ on k t = got 0 (k (t .forest)) (t .rest)
 abbrev boxed : Reader → Want → (Got → F → F) → Got → Got
 boxed p w k t = on (k t) (p w (t .rest))
 
-abbrev user : Reader → Want → Got → Got
-user p w t = on (fBox (header-of 8 0 (str (t .rest) .0) 0 false) (t .forest) fEnd) (p w (str (t .rest) .1))
+abbrev user : Reader → Want → F × List ℕ → Got
+user p w (q, x) = on (fBox (header-of 8 0 (str x .0) 0 false false) q fEnd) (p w (str x .1))
 
 abbrev variables : Reader → Want → (ℕ → F → F → F) → List ℕ → Got
 variables p w k x = boxed p w (λ t. k (int x .0) (t .forest)) (p (w-pairs (int x .0)) (int x .1))
 
-abbrev user-variables : Reader → Want → Got → Got
-user-variables p w t = variables p w (λ n f. fBox (header-of 8 0 (str (t .rest) .0) n true) (t .forest) f) (str (t .rest) .1)
+abbrev user-variables : Reader → Want → F × List ℕ → Got
+user-variables p w (q, x) = variables p w (λ n f. fBox (header-of 8 0 (str x .0) n true false) q f) (str x .1)
 
--- a string or, where the byte is no string's, a user-defined value, with variables
-unfoldable varied : Reader → Want → Bool → List ℕ → Got
-varied p w true x = variables p w (λ n f. fBox (header-of 7 0 (str x .0) n true) fEnd f) (str x .1)
-varied p w false x = user-variables p w (p w-name x)
+-- a string of the class given or, where the byte is no string's, a user-defined value, with variables
+unfoldable varied : Reader → Want → Bool → F → Bool → List ℕ → Got
+varied p w c q true x = variables p w (λ n f. fBox (header-of 7 0 (str x .0) n true c) q f) (str x .1)
+varied p w c q false x = user-variables p w (one x)
 
 unfoldable begins : (ℕ → List ℕ → Got) → List ℕ → Got
 begins k [] = got 0 fEnd []
 begins k (b ∷ x) = k b x
 
--- a value, then what is wanted after it
-unfoldable item : Reader → Want → Head → List ℕ → Got
-item p w h-nil x = on (fLeaf 0 0) (p w x)
-item p w h-true x = on (fLeaf 1 1) (p w x)
-item p w h-false x = on (fLeaf 1 0) (p w x)
-item p w h-fixnum x = on (fLeaf 2 (int x .0)) (p w (int x .1))
-item p w h-symbol x = on (fSym true (str x .0)) (p w (str x .1))
-item p w h-symbol-link x = on (fSymref true (int x .0)) (p w (int x .1))
-item p w h-object-link x = on (fRef (int x .0)) (p w (int x .1))
-item p w h-variables x = begins (λ b. varied p w (eqb b STRING)) x
-item p w h-array x = boxed p w (λ t. fBox (header-of 4 0 [] (int x .0) false) fEnd (t .forest)) (p (w-values (int x .0)) (int x .1))
-item p w h-hash x = boxed p w (λ t. fBox (header-of 5 0 [] (int x .0) false) fEnd (t .forest)) (p (w-values (int x .0 * 2)) (int x .1))
-item p w h-hash-default x = boxed p w (λ t. fBox (header-of 5 0 [] (int x .0) true) fEnd (t .forest)) (p (w-values (int x .0 * 2 + 1)) (int x .1))
-item p w h-object x = boxed p w (λ t. fBox (header-of 6 0 [] (t .number) false) fEnd (t .forest)) (p w-name-pairs x)
-item p w (h-text n) x = on (fBox (header-of n 0 (str x .0) 0 false) fEnd fEnd) (p w (str x .1))
-item p w h-user x = user p w (p w-name x)
-item p w h-bignum x = begins (λ b y. on (fBox (header-of 10 (units y .0) [] 0 (eqb b MINUS)) fEnd fEnd) (p w (units y .1))) x
-item p w h-other x = got 0 fEnd x
+-- a class or none, then what comes behind
+abbrev after-front : (Bool → F → ℕ → List ℕ → Got) → Front → Got
+after-front k t = begins (k (t .classed) (t .class-name)) (t .rest)
+
+-- a value of the class given, then what is wanted after it
+unfoldable item : Reader → Want → Bool → F → Head → List ℕ → Got
+item p w c q h-nil x = on (fLeaf 0 0) (p w x)
+item p w c q h-true x = on (fLeaf 1 1) (p w x)
+item p w c q h-false x = on (fLeaf 1 0) (p w x)
+item p w c q h-fixnum x = on (fLeaf 2 (int x .0)) (p w (int x .1))
+item p w c q h-symbol x = on (fSym true (str x .0)) (p w (str x .1))
+item p w c q h-symbol-link x = on (fSymref true (int x .0)) (p w (int x .1))
+item p w c q h-object-link x = on (fRef (int x .0)) (p w (int x .1))
+item p w c q h-variables x = after-front (λ d s b. varied p w d s (eqb b STRING)) (front x)
+item p w c q h-array x = boxed p w (λ t. fBox (header-of 4 0 [] (int x .0) false c) q (t .forest)) (p (w-values (int x .0)) (int x .1))
+item p w c q h-hash x = boxed p w (λ t. fBox (header-of 5 0 [] (int x .0) false c) q (t .forest)) (p (w-values (int x .0 * 2)) (int x .1))
+item p w c q h-hash-default x = boxed p w (λ t. fBox (header-of 5 0 [] (int x .0) true c) q (t .forest)) (p (w-values (int x .0 * 2 + 1)) (int x .1))
+item p w c q h-object x = boxed p w (λ t. fBox (header-of 6 0 [] (t .number) false false) fEnd (t .forest)) (p w-name-pairs x)
+item p w c q (h-text n) x = on (fBox (header-of n 0 (str x .0) 0 false c) q fEnd) (p w (str x .1))
+item p w c q h-user x = user p w (one x)
+item p w c q h-bignum x = begins (λ b y. on (fBox (header-of 10 (units y .0) [] 0 (eqb b MINUS) false) fEnd fEnd) (p w (units y .1))) x
+item p w c q h-other x = got 0 fEnd x
 
 -- a name or, where the byte is no symbol's, a link to one, then what is wanted after it
 unfoldable named : Reader → Want → Bool → List ℕ → Got
@@ -171,11 +211,10 @@ class p false x = counted p (fSymref false (int x .0)) (int x .1)
 
 unfoldable body : Reader → Want → List ℕ → Got
 body p (w-values zero) x = got 0 fEnd x
-body p (w-values (suc n)) x = begins (λ b. item p (w-values n) (head b)) x
+body p (w-values (suc n)) x = after-front (λ c q b. item p (w-values n) c q (head b)) (front x)
 body p (w-pairs zero) x = got 0 fEnd x
 body p (w-pairs (suc n)) x = begins (λ b. named p (w-value-pairs n) (eqb b SYMBOL)) x
-body p (w-value-pairs n) x = begins (λ b. item p (w-pairs n) (head b)) x
-body p w-name x = begins (λ b. named p (w-values 0) (eqb b SYMBOL)) x
+body p (w-value-pairs n) x = after-front (λ c q b. item p (w-pairs n) c q (head b)) (front x)
 body p w-name-pairs x = begins (λ b. class p (eqb b SYMBOL)) x
 
 unfoldable parse : ℕ → Reader
@@ -188,21 +227,19 @@ abbrev want : Mode → F → Want
 want values g = w-values (trees g)
 want (pairs n) g = w-pairs n
 want (value-pairs n) g = w-value-pairs n
-want name g = w-name
 want (name-pairs n) g = w-name-pairs
 
 abbrev num : Mode → ℕ
 num values = 0
 num (pairs n) = 0
 num (value-pairs n) = 0
-num name = 0
 num (name-pairs n) = n
 
--- turns of the reader that a forest takes
+-- turns of the reader that a forest takes; what comes before a box's node takes none
 abbrev need : F → ℕ
 need fEnd = 1
 need (fLeaf k x r) = suc (need r)
-need (fBox h p f r) = suc (need p + need f + need r)
+need (fBox h p f r) = suc (need f + need r)
 need (fRef k r) = suc (need r)
 need (fSym m b r) = suc (need r)
 need (fSymref m k r) = suc (need r)
@@ -212,86 +249,85 @@ need (fIv f p r) = suc (need f + need p + need r)
 abbrev Reads : Mode → ℕ → F → List ℕ → Type 0
 Reads m l g x = (u : List ℕ) → parse l (want m g) (x ++ u) ≡ got (num m) g u
 
--- a value is read by its head
-value-turn : (m : Mode) (l b : ℕ) (g r : F) (x u : List ℕ) → IsValue m → trees g ≡ suc (trees r)
-    → item (parse l) (want (after m) r) (head b) x ≡ got 0 g u → parse (suc l) (want m g) (b ∷ x) ≡ got (num m) g u
+-- a value is read by its class and its head; y is its bytes
+value-turn : (m : Mode) (l b : ℕ) (c : Bool) (q g r : F) (y x u : List ℕ) → IsValue m → trees g ≡ suc (trees r) → front y ≡ fronted c q (b ∷ x)
+    → item (parse l) (want (after m) r) c q (head b) x ≡ got 0 g u → parse (suc l) (want m g) y ≡ got (num m) g u
 unfolding parse body begins
-value-turn values l b g r x u v e h = rw e h
-value-turn (pairs n) l b g r x u v e h = absurd v
-value-turn (value-pairs n) l b g r x u v e h = h
-value-turn name l b g r x u v e h = absurd v
-value-turn (name-pairs n) l b g r x u v e h = absurd v
+value-turn values l b c q g r y x u v e f h = rw (e, f) h
+value-turn (pairs n) l b c q g r y x u v e f h = absurd v
+value-turn (value-pairs n) l b c q g r y x u v e f h = rw f h
+value-turn (name-pairs n) l b c q g r y x u v e f h = absurd v
 
 module _ (p : Reader) (w : Want) (k : ℕ) (r : F) (u : List ℕ) where
   abbrev Then : List ℕ → Type 0
   Then x = p w x ≡ got k r u
 
-  item-nil : (x : List ℕ) → Then x → item p w (head NIL) x ≡ got 0 (fLeaf 0 0 r) u
+  item-nil : (x : List ℕ) → Then x → item p w false fEnd (head NIL) x ≡ got 0 (fLeaf 0 0 r) u
   unfolding item head pick
   item-nil x e = rw e
 
-  item-true : (x : List ℕ) → Then x → item p w (head TRUE) x ≡ got 0 (fLeaf 1 1 r) u
+  item-true : (x : List ℕ) → Then x → item p w false fEnd (head TRUE) x ≡ got 0 (fLeaf 1 1 r) u
   unfolding item head pick
   item-true x e = rw e
 
-  item-false : (x : List ℕ) → Then x → item p w (head FALSE) x ≡ got 0 (fLeaf 1 0 r) u
+  item-false : (x : List ℕ) → Then x → item p w false fEnd (head FALSE) x ≡ got 0 (fLeaf 1 0 r) u
   unfolding item head pick
   item-false x e = rw e
 
-  item-fixnum : (x y : List ℕ) (n : ℕ) → int x ≡ (n, y) → Then y → item p w (head FIXNUM) x ≡ got 0 (fLeaf 2 n r) u
+  item-fixnum : (x y : List ℕ) (n : ℕ) → int x ≡ (n, y) → Then y → item p w false fEnd (head FIXNUM) x ≡ got 0 (fLeaf 2 n r) u
   unfolding item head pick
   item-fixnum x y n i e = rw (i, e)
 
-  item-symbol : (x y b : List ℕ) → str x ≡ (b, y) → Then y → item p w (head SYMBOL) x ≡ got 0 (fSym true b r) u
+  item-symbol : (x y b : List ℕ) → str x ≡ (b, y) → Then y → item p w false fEnd (head SYMBOL) x ≡ got 0 (fSym true b r) u
   unfolding item head pick
   item-symbol x y b i e = rw (i, e)
 
-  item-symbol-link : (x y : List ℕ) (n : ℕ) → int x ≡ (n, y) → Then y → item p w (head SYMBOL-LINK) x ≡ got 0 (fSymref true n r) u
+  item-symbol-link : (x y : List ℕ) (n : ℕ) → int x ≡ (n, y) → Then y → item p w false fEnd (head SYMBOL-LINK) x ≡ got 0 (fSymref true n r) u
   unfolding item head pick
   item-symbol-link x y n i e = rw (i, e)
 
-  item-object-link : (x y : List ℕ) (n : ℕ) → int x ≡ (n, y) → Then y → item p w (head OBJECT-LINK) x ≡ got 0 (fRef n r) u
+  item-object-link : (x y : List ℕ) (n : ℕ) → int x ≡ (n, y) → Then y → item p w false fEnd (head OBJECT-LINK) x ≡ got 0 (fRef n r) u
   unfolding item head pick
   item-object-link x y n i e = rw (i, e)
 
-  item-array : (x y z : List ℕ) (n j : ℕ) (f : F) → int x ≡ (n, y) → p (w-values n) y ≡ got j f z → Then z → item p w (head ARRAY) x ≡ got 0 (fBox (header-of 4 0 [] n false) fEnd f r) u
+  item-array : (c : Bool) (q : F) (x y z : List ℕ) (n j : ℕ) (f : F) → int x ≡ (n, y) → p (w-values n) y ≡ got j f z → Then z → item p w c q (head ARRAY) x ≡ got 0 (fBox (header-of 4 0 [] n false c) q f r) u
   unfolding item head pick
-  item-array x y z n j f i h e = rw (i, h, e)
+  item-array c q x y z n j f i h e = rw (i, h, e)
 
-  item-hash : (x y z : List ℕ) (n j : ℕ) (f : F) → int x ≡ (n, y) → p (w-values (n * 2)) y ≡ got j f z → Then z → item p w (head HASH) x ≡ got 0 (fBox (header-of 5 0 [] n false) fEnd f r) u
+  item-hash : (c : Bool) (q : F) (x y z : List ℕ) (n j : ℕ) (f : F) → int x ≡ (n, y) → p (w-values (n * 2)) y ≡ got j f z → Then z → item p w c q (head HASH) x ≡ got 0 (fBox (header-of 5 0 [] n false c) q f r) u
   unfolding item head pick
-  item-hash x y z n j f i h e = rw (i, h, e)
+  item-hash c q x y z n j f i h e = rw (i, h, e)
 
-  item-hash-default : (x y z : List ℕ) (n j : ℕ) (f : F) → int x ≡ (n, y) → p (w-values (n * 2 + 1)) y ≡ got j f z → Then z → item p w (head HASH-DEFAULT) x ≡ got 0 (fBox (header-of 5 0 [] n true) fEnd f r) u
+  item-hash-default : (c : Bool) (q : F) (x y z : List ℕ) (n j : ℕ) (f : F) → int x ≡ (n, y) → p (w-values (n * 2 + 1)) y ≡ got j f z → Then z → item p w c q (head HASH-DEFAULT) x ≡ got 0 (fBox (header-of 5 0 [] n true c) q f r) u
   unfolding item head pick
-  item-hash-default x y z n j f i h e = rw (i, h, e)
+  item-hash-default c q x y z n j f i h e = rw (i, h, e)
 
-  item-object : (x z : List ℕ) (n : ℕ) (f : F) → p w-name-pairs x ≡ got n f z → Then z → item p w (head OBJECT) x ≡ got 0 (fBox (header-of 6 0 [] n false) fEnd f r) u
+  item-object : (x z : List ℕ) (n : ℕ) (f : F) → p w-name-pairs x ≡ got n f z → Then z → item p w false fEnd (head OBJECT) x ≡ got 0 (fBox (header-of 6 0 [] n false false) fEnd f r) u
   unfolding item head pick
   item-object x z n f h e = rw (h, e)
 
-  item-text : {d n : ℕ} → Texted d n → (x y b : List ℕ) → str x ≡ (b, y) → Then y → item p w (head d) x ≡ got 0 (fBox (header-of n 0 b 0 false) fEnd fEnd r) u
+  item-text : {d n : ℕ} {c : Bool} → Texted d n c → (q : F) (x y b : List ℕ) → str x ≡ (b, y) → Then y → item p w c q (head d) x ≡ got 0 (fBox (header-of n 0 b 0 false c) q fEnd r) u
   unfolding item head pick
-  item-text text-string x y b i e = rw (i, e)
-  item-text text-float x y b i e = rw (i, e)
+  item-text text-string q x y b i e = rw (i, e)
+  item-text text-float q x y b i e = rw (i, e)
 
-  item-bignum : (x y : List ℕ) (n : ℕ) (minus : Bool) → units x ≡ (n, y) → Then y → item p w (head BIGNUM) (sign-byte minus ∷ x) ≡ got 0 (fBox (header-of 10 n [] 0 minus) fEnd fEnd r) u
+  item-bignum : (x y : List ℕ) (n : ℕ) (minus : Bool) → units x ≡ (n, y) → Then y → item p w false fEnd (head BIGNUM) (sign-byte minus ∷ x) ≡ got 0 (fBox (header-of 10 n [] 0 minus false) fEnd fEnd r) u
   unfolding item head pick begins
   item-bignum x y n minus i e = rw (i, sign-said minus, e)
 
-  item-string-variables : (x y z a b : List ℕ) (n j : ℕ) (f : F) → str x ≡ (b, y) → int y ≡ (n, z) → p (w-pairs n) z ≡ got j f a → Then a
-      → item p w (head INSTANCE-VARIABLES) (STRING ∷ x) ≡ got 0 (fBox (header-of 7 0 b n true) fEnd f r) u
+  item-string-variables : (c : Bool) (q : F) (x′ x y z a b : List ℕ) (n j : ℕ) (f : F) → front x′ ≡ fronted c q (STRING ∷ x) → str x ≡ (b, y) → int y ≡ (n, z) → p (w-pairs n) z ≡ got j f a → Then a
+      → item p w false fEnd (head INSTANCE-VARIABLES) x′ ≡ got 0 (fBox (header-of 7 0 b n true c) q f r) u
   unfolding item head pick begins varied
-  item-string-variables x y z a b n j f s i h e = rw (s, i, h, e)
+  item-string-variables c q x′ x y z a b n j f o s i h e = rw (o, s, i, h, e)
 
-  item-user : (x y z b : List ℕ) (j : ℕ) (c : F) → p w-name x ≡ got j c y → str y ≡ (b, z) → Then z → item p w (head USER-DEFINED) x ≡ got 0 (fBox (header-of 8 0 b 0 false) c fEnd r) u
+  item-user : (x y z b : List ℕ) (c : F) → one x ≡ (c, y) → str y ≡ (b, z) → Then z → item p w false fEnd (head USER-DEFINED) x ≡ got 0 (fBox (header-of 8 0 b 0 false false) c fEnd r) u
   unfolding item head pick
-  item-user x y z b j c h s e = rw (h, s, e)
+  item-user x y z b c h s e = rw (h, s, e)
 
-  item-user-variables : (x y z a q b : List ℕ) (n j i : ℕ) (c f : F) → p w-name x ≡ got i c y → str y ≡ (b, z) → int z ≡ (n, a) → p (w-pairs n) a ≡ got j f q → Then q
-      → item p w (head INSTANCE-VARIABLES) (USER-DEFINED ∷ x) ≡ got 0 (fBox (header-of 8 0 b n true) c f r) u
-  unfolding item head pick begins varied
-  item-user-variables x y z a q b n j i c f g s o h e = rw (g, s, o, h, e)
+  item-user-variables : (x y z a q b : List ℕ) (n j : ℕ) (c f : F) → one x ≡ (c, y) → str y ≡ (b, z) → int z ≡ (n, a) → p (w-pairs n) a ≡ got j f q → Then q
+      → item p w false fEnd (head INSTANCE-VARIABLES) (USER-DEFINED ∷ x) ≡ got 0 (fBox (header-of 8 0 b n true false) c f r) u
+  unfolding item head pick begins varied front front-by
+  item-user-variables x y z a q b n j c f g s o h e = rw (g, s, o, h, e)
 
 -- ---- parts of a text
 
@@ -315,9 +351,13 @@ str-of b x y h e = ap str e ∙ str-back b y h
 
 module _ (l : ℕ) where
   module _ (m : Mode) (v : IsValue m) (r : F) (x : List ℕ) (h : Reads (after m) l r x) where
-    -- a value's turn, by its item
-    turn : (b : ℕ) (g : F) (y u : List ℕ) → trees g ≡ suc (trees r) → item (parse l) (want (after m) r) (head b) y ≡ got 0 g u → parse (suc l) (want m g) (b ∷ y) ≡ got (num m) g u
-    turn b g y u e i = value-turn m l b g r y u v e i
+    -- a value's turn, by its item: after a class or none, which q tells; and without one
+    class-turn : {c : Bool} {q : F} {z : List ℕ} → Class c q z → Bounded q → (b : ℕ) (g : F) (x y u : List ℕ) → eqb b USER-CLASS ≡ false → x ≡ z ++ (b ∷ y) → trees g ≡ suc (trees r)
+        → item (parse l) (want (after m) r) c q (head b) y ≡ got 0 g u → parse (suc l) (want m g) x ≡ got (num m) g u
+    class-turn {c} {q} cl bd b g x y u o e t i = value-turn m l b c q g r x y u v t (ap front e ∙ front-back cl bd b y o) i
+
+    turn : (b : ℕ) (g : F) (y u : List ℕ) → eqb b USER-CLASS ≡ false → trees g ≡ suc (trees r) → item (parse l) (want (after m) r) false fEnd (head b) y ≡ got 0 g u → parse (suc l) (want m g) (b ∷ y) ≡ got (num m) g u
+    turn b g y u o e i = class-turn no-class tt b g (b ∷ y) y u o refl e i
 
     abbrev w : Want
     w = want (after m) r
@@ -326,91 +366,95 @@ module _ (l : ℕ) where
     k = num (after m)
 
     reads-nil : Reads m (suc l) (fLeaf 0 0 r) (NIL ∷ x)
-    reads-nil u = turn NIL (fLeaf 0 0 r) (x ++ u) u refl (item-nil (parse l) w k r u (x ++ u) (h u))
+    reads-nil u = turn NIL (fLeaf 0 0 r) (x ++ u) u refl refl (item-nil (parse l) w k r u (x ++ u) (h u))
 
     reads-false : Reads m (suc l) (fLeaf 1 0 r) (FALSE ∷ x)
-    reads-false u = turn FALSE (fLeaf 1 0 r) (x ++ u) u refl (item-false (parse l) w k r u (x ++ u) (h u))
+    reads-false u = turn FALSE (fLeaf 1 0 r) (x ++ u) u refl refl (item-false (parse l) w k r u (x ++ u) (h u))
 
     reads-true : Reads m (suc l) (fLeaf 1 1 r) (TRUE ∷ x)
-    reads-true u = turn TRUE (fLeaf 1 1 r) (x ++ u) u refl (item-true (parse l) w k r u (x ++ u) (h u))
+    reads-true u = turn TRUE (fLeaf 1 1 r) (x ++ u) u refl refl (item-true (parse l) w k r u (x ++ u) (h u))
 
     reads-fixnum : (n : ℕ) → n < 4294967296 → Reads m (suc l) (fLeaf 2 n r) (FIXNUM ∷ integer-bytes n ++ x)
     reads-fixnum n o u =
         let y = integer-bytes n ++ x ++ u in
-        turn FIXNUM (fLeaf 2 n r) y u refl (item-fixnum (parse l) w k r u y (x ++ u) n (int-of n y (x ++ u) o (append-assoc (integer-bytes n) x u)) (h u))
+        turn FIXNUM (fLeaf 2 n r) y u refl refl (item-fixnum (parse l) w k r u y (x ++ u) n (int-of n y (x ++ u) o (append-assoc (integer-bytes n) x u)) (h u))
 
     reads-symbol : (b : List ℕ) → length b < 2147483648 → Reads m (suc l) (fSym true b r) (SYMBOL ∷ byte-string-bytes b ++ x)
     reads-symbol b o u =
         let y = byte-string-bytes b ++ x ++ u in
-        turn SYMBOL (fSym true b r) y u refl (item-symbol (parse l) w k r u y (x ++ u) b (str-of b y (x ++ u) o (append-assoc (byte-string-bytes b) x u)) (h u))
+        turn SYMBOL (fSym true b r) y u refl refl (item-symbol (parse l) w k r u y (x ++ u) b (str-of b y (x ++ u) o (append-assoc (byte-string-bytes b) x u)) (h u))
 
     reads-symbol-link : (n : ℕ) → n < 2147483648 → Reads m (suc l) (fSymref true n r) (SYMBOL-LINK ∷ integer-bytes n ++ x)
     reads-symbol-link n o u =
         let y = integer-bytes n ++ x ++ u in
-        turn SYMBOL-LINK (fSymref true n r) y u refl (item-symbol-link (parse l) w k r u y (x ++ u) n (int-of n y (x ++ u) (omega arith) (append-assoc (integer-bytes n) x u)) (h u))
+        turn SYMBOL-LINK (fSymref true n r) y u refl refl (item-symbol-link (parse l) w k r u y (x ++ u) n (int-of n y (x ++ u) (omega arith) (append-assoc (integer-bytes n) x u)) (h u))
 
     reads-object-link : (n : ℕ) → n < 2147483648 → Reads m (suc l) (fRef n r) (OBJECT-LINK ∷ integer-bytes n ++ x)
     reads-object-link n o u =
         let y = integer-bytes n ++ x ++ u in
-        turn OBJECT-LINK (fRef n r) y u refl (item-object-link (parse l) w k r u y (x ++ u) n (int-of n y (x ++ u) (omega arith) (append-assoc (integer-bytes n) x u)) (h u))
+        turn OBJECT-LINK (fRef n r) y u refl refl (item-object-link (parse l) w k r u y (x ++ u) n (int-of n y (x ++ u) (omega arith) (append-assoc (integer-bytes n) x u)) (h u))
 
-    reads-array : (n : ℕ) (f : F) (y : List ℕ) → n < 2147483648 → trees f ≡ n → Reads values l f y → Reads m (suc l) (fBox (header-of 4 0 [] n false) fEnd f r) (ARRAY ∷ integer-bytes n ++ y ++ x)
-    reads-array n f y o e t u =
+    reads-array : {c : Bool} {q : F} {d : List ℕ} → Class c q d → Bounded q → (n : ℕ) (f : F) (y : List ℕ) → n < 2147483648 → trees f ≡ n → Reads values l f y
+        → Reads m (suc l) (fBox (header-of 4 0 [] n false c) q f r) (d ++ (ARRAY ∷ integer-bytes n ++ y ++ x))
+    reads-array {c} {q} {d} cl bd n f y o e t u =
         let z = integer-bytes n ++ y ++ x ++ u in
-        let c : parse l (w-values n) (y ++ (x ++ u)) ≡ got 0 f (x ++ u) = rw (← e) (t (x ++ u)) in
-        turn ARRAY _ z u refl (item-array (parse l) w k r u z (y ++ (x ++ u)) (x ++ u) n 0 f (int-of n z (y ++ (x ++ u)) (omega arith) (three (integer-bytes n) y x u)) c (h u))
+        let p : parse l (w-values (n)) (y ++ (x ++ u)) ≡ got 0 f (x ++ u) = rw (← e) (t (x ++ u)) in
+        class-turn cl bd ARRAY _ _ z u refl (append-assoc d _ u) refl (item-array (parse l) w k r u c q z (y ++ (x ++ u)) (x ++ u) n 0 f (int-of n z (y ++ (x ++ u)) (omega arith) (three (integer-bytes n) y x u)) p (h u))
 
-    reads-hash : (n : ℕ) (f : F) (y : List ℕ) → n < 2147483648 → trees f ≡ n * 2 → Reads values l f y → Reads m (suc l) (fBox (header-of 5 0 [] n false) fEnd f r) (HASH ∷ integer-bytes n ++ y ++ x)
-    reads-hash n f y o e t u =
+    reads-hash : {c : Bool} {q : F} {d : List ℕ} → Class c q d → Bounded q → (n : ℕ) (f : F) (y : List ℕ) → n < 2147483648 → trees f ≡ n * 2 → Reads values l f y
+        → Reads m (suc l) (fBox (header-of 5 0 [] n false c) q f r) (d ++ (HASH ∷ integer-bytes n ++ y ++ x))
+    reads-hash {c} {q} {d} cl bd n f y o e t u =
         let z = integer-bytes n ++ y ++ x ++ u in
-        let c : parse l (w-values (n * 2)) (y ++ (x ++ u)) ≡ got 0 f (x ++ u) = rw (← e) (t (x ++ u)) in
-        turn HASH _ z u refl (item-hash (parse l) w k r u z (y ++ (x ++ u)) (x ++ u) n 0 f (int-of n z (y ++ (x ++ u)) (omega arith) (three (integer-bytes n) y x u)) c (h u))
+        let p : parse l (w-values (n * 2)) (y ++ (x ++ u)) ≡ got 0 f (x ++ u) = rw (← e) (t (x ++ u)) in
+        class-turn cl bd HASH _ _ z u refl (append-assoc d _ u) refl (item-hash (parse l) w k r u c q z (y ++ (x ++ u)) (x ++ u) n 0 f (int-of n z (y ++ (x ++ u)) (omega arith) (three (integer-bytes n) y x u)) p (h u))
 
-    reads-hash-default : (n : ℕ) (f : F) (y : List ℕ) → n < 2147483648 → trees f ≡ n * 2 + 1 → Reads values l f y → Reads m (suc l) (fBox (header-of 5 0 [] n true) fEnd f r) (HASH-DEFAULT ∷ integer-bytes n ++ y ++ x)
-    reads-hash-default n f y o e t u =
+    reads-hash-default : {c : Bool} {q : F} {d : List ℕ} → Class c q d → Bounded q → (n : ℕ) (f : F) (y : List ℕ) → n < 2147483648 → trees f ≡ n * 2 + 1 → Reads values l f y
+        → Reads m (suc l) (fBox (header-of 5 0 [] n true c) q f r) (d ++ (HASH-DEFAULT ∷ integer-bytes n ++ y ++ x))
+    reads-hash-default {c} {q} {d} cl bd n f y o e t u =
         let z = integer-bytes n ++ y ++ x ++ u in
-        let c : parse l (w-values (n * 2 + 1)) (y ++ (x ++ u)) ≡ got 0 f (x ++ u) = rw (← e) (t (x ++ u)) in
-        turn HASH-DEFAULT _ z u refl (item-hash-default (parse l) w k r u z (y ++ (x ++ u)) (x ++ u) n 0 f (int-of n z (y ++ (x ++ u)) (omega arith) (three (integer-bytes n) y x u)) c (h u))
+        let p : parse l (w-values (n * 2 + 1)) (y ++ (x ++ u)) ≡ got 0 f (x ++ u) = rw (← e) (t (x ++ u)) in
+        class-turn cl bd HASH-DEFAULT _ _ z u refl (append-assoc d _ u) refl (item-hash-default (parse l) w k r u c q z (y ++ (x ++ u)) (x ++ u) n 0 f (int-of n z (y ++ (x ++ u)) (omega arith) (three (integer-bytes n) y x u)) p (h u))
 
-    reads-object : (n : ℕ) (f : F) (y : List ℕ) → Reads (name-pairs n) l f y → Reads m (suc l) (fBox (header-of 6 0 [] n false) fEnd f r) (OBJECT ∷ y ++ x)
+    reads-object : (n : ℕ) (f : F) (y : List ℕ) → Reads (name-pairs n) l f y → Reads m (suc l) (fBox (header-of 6 0 [] n false false) fEnd f r) (OBJECT ∷ y ++ x)
     reads-object n f y t u =
-        turn OBJECT _ (y ++ x ++ u) u refl (item-object (parse l) w k r u (y ++ x ++ u) (x ++ u) n f (ap (parse l w-name-pairs) (append-assoc y x u) ∙ t (x ++ u)) (h u))
+        turn OBJECT _ (y ++ x ++ u) u refl refl (item-object (parse l) w k r u (y ++ x ++ u) (x ++ u) n f (ap (parse l w-name-pairs) (append-assoc y x u) ∙ t (x ++ u)) (h u))
 
-    reads-text : {d n : ℕ} → Texted d n → (b : List ℕ) → length b < 2147483648 → Reads m (suc l) (fBox (header-of n 0 b 0 false) fEnd fEnd r) (d ∷ byte-string-bytes b ++ x)
-    reads-text {d} q b o u =
+    reads-text : {i n : ℕ} {c : Bool} {q : F} {d : List ℕ} → Texted i n c → eqb i USER-CLASS ≡ false → Class c q d → Bounded q → (b : List ℕ) → length b < 2147483648
+        → Reads m (suc l) (fBox (header-of n 0 b 0 false c) q fEnd r) (d ++ (i ∷ byte-string-bytes b ++ x))
+    reads-text {i} {q = q} {d = d} s e cl bd b o u =
         let y = byte-string-bytes b ++ x ++ u in
-        turn d _ y u refl (item-text (parse l) w k r u q y (x ++ u) b (str-of b y (x ++ u) o (append-assoc (byte-string-bytes b) x u)) (h u))
+        class-turn cl bd i _ _ y u e (append-assoc d _ u) refl (item-text (parse l) w k r u s q y (x ++ u) b (str-of b y (x ++ u) o (append-assoc (byte-string-bytes b) x u)) (h u))
 
-    reads-bignum : (n : ℕ) (minus : Bool) → fits n ≡ true → Reads m (suc l) (fBox (header-of 10 n [] 0 minus) fEnd fEnd r) (BIGNUM ∷ bignum-bytes minus n ++ x)
+    reads-bignum : (n : ℕ) (minus : Bool) → fits n ≡ true → Reads m (suc l) (fBox (header-of 10 n [] 0 minus false) fEnd fEnd r) (BIGNUM ∷ bignum-bytes minus n ++ x)
     unfolding bignum-bytes
     reads-bignum n minus o u =
         let c = integer-bytes (fewest-units n) in
-        turn BIGNUM _ (sign-byte minus ∷ (c ++ unit-bytes n ++ x ++ u)) u refl
+        turn BIGNUM _ (sign-byte minus ∷ (c ++ unit-bytes n ++ x ++ u)) u refl refl
         (item-bignum (parse l) w k r u _ (x ++ u) n minus (ap units (append-assoc (c ++ unit-bytes n) x u) ∙ units-back n (x ++ u) o) (h u))
 
-    reads-string-variables : (n : ℕ) (b : List ℕ) (f : F) (y : List ℕ) → n < 2147483648 → length b < 2147483648 → Reads (pairs n) l f y
-        → Reads m (suc l) (fBox (header-of 7 0 b n true) fEnd f r) (INSTANCE-VARIABLES ∷ STRING ∷ byte-string-bytes b ++ integer-bytes n ++ y ++ x)
-    reads-string-variables n b f y o q t u =
+    reads-string-variables : {c : Bool} {q : F} {d : List ℕ} → Class c q d → Bounded q → (n : ℕ) (b : List ℕ) (f : F) (y : List ℕ) → n < 2147483648 → length b < 2147483648 → Reads (pairs n) l f y
+        → Reads m (suc l) (fBox (header-of 7 0 b n true c) q f r) (INSTANCE-VARIABLES ∷ d ++ (STRING ∷ byte-string-bytes b ++ integer-bytes n ++ y ++ x))
+    reads-string-variables {c} {q} {d} cl bd n b f y o j t u =
         let z = byte-string-bytes b ++ integer-bytes n ++ y ++ x ++ u in
         let a = y ++ (x ++ u) in
-        turn INSTANCE-VARIABLES _ (STRING ∷ z) u refl
-        (item-string-variables (parse l) w k r u z (integer-bytes n ++ a) a (x ++ u) b n 0 f
-        (str-of b z (integer-bytes n ++ a) q (four (byte-string-bytes b) (integer-bytes n) y x u)) (int-back n a (omega arith)) (t (x ++ u)) (h u))
+        turn INSTANCE-VARIABLES _ _ u refl refl
+        (item-string-variables (parse l) w k r u c q _ z (integer-bytes n ++ a) a (x ++ u) b n 0 f (ap front (append-assoc d _ u) ∙ front-back cl bd STRING z refl)
+        (str-of b z (integer-bytes n ++ a) j (four (byte-string-bytes b) (integer-bytes n) y x u)) (int-back n a (omega arith)) (t (x ++ u)) (h u))
 
-    reads-user : (b : List ℕ) (c : F) (z : List ℕ) → length b < 2147483648 → Reads name l c z → Reads m (suc l) (fBox (header-of 8 0 b 0 false) c fEnd r) (USER-DEFINED ∷ z ++ byte-string-bytes b ++ x)
-    reads-user b c z q t u =
+    reads-user : (b : List ℕ) (c : F) (z : List ℕ) → length b < 2147483648 → OneName c z → Bounded c → Reads m (suc l) (fBox (header-of 8 0 b 0 false false) c fEnd r) (USER-DEFINED ∷ z ++ byte-string-bytes b ++ x)
+    reads-user b c z q s bd u =
         let y = byte-string-bytes b ++ (x ++ u) in
-        turn USER-DEFINED _ (z ++ byte-string-bytes b ++ x ++ u) u refl
-        (item-user (parse l) w k r u _ y (x ++ u) b 0 c (ap (parse l w-name) (three z (byte-string-bytes b) x u) ∙ t y) (str-back b (x ++ u) q) (h u))
+        turn USER-DEFINED _ (z ++ byte-string-bytes b ++ x ++ u) u refl refl
+        (item-user (parse l) w k r u _ y (x ++ u) b c (ap one (three z (byte-string-bytes b) x u) ∙ one-back s bd y) (str-back b (x ++ u) q) (h u))
 
-    reads-user-variables : (n : ℕ) (b : List ℕ) (c f : F) (z y : List ℕ) → n < 2147483648 → length b < 2147483648 → Reads name l c z → Reads (pairs n) l f y
-        → Reads m (suc l) (fBox (header-of 8 0 b n true) c f r) (INSTANCE-VARIABLES ∷ USER-DEFINED ∷ z ++ byte-string-bytes b ++ integer-bytes n ++ y ++ x)
-    reads-user-variables n b c f z y o q t s u =
+    reads-user-variables : (n : ℕ) (b : List ℕ) (c f : F) (z y : List ℕ) → n < 2147483648 → length b < 2147483648 → OneName c z → Bounded c → Reads (pairs n) l f y
+        → Reads m (suc l) (fBox (header-of 8 0 b n true false) c f r) (INSTANCE-VARIABLES ∷ USER-DEFINED ∷ z ++ byte-string-bytes b ++ integer-bytes n ++ y ++ x)
+    reads-user-variables n b c f z y o q i bd s u =
         let a = y ++ (x ++ u) in
         let d = byte-string-bytes b ++ (integer-bytes n ++ a) in
-        turn INSTANCE-VARIABLES _ (USER-DEFINED ∷ (z ++ byte-string-bytes b ++ integer-bytes n ++ y ++ x ++ u)) u refl
-        (item-user-variables (parse l) w k r u _ d (integer-bytes n ++ a) a (x ++ u) b n 0 0 c f
-        (ap (parse l w-name) (five z (byte-string-bytes b) (integer-bytes n) y x u) ∙ t d) (str-back b (integer-bytes n ++ a) q) (int-back n a (omega arith)) (s (x ++ u)) (h u))
+        turn INSTANCE-VARIABLES _ (USER-DEFINED ∷ (z ++ byte-string-bytes b ++ integer-bytes n ++ y ++ x ++ u)) u refl refl
+        (item-user-variables (parse l) w k r u _ d (integer-bytes n ++ a) a (x ++ u) b n 0 c f
+        (ap one (five z (byte-string-bytes b) (integer-bytes n) y x u) ∙ one-back i bd d) (str-back b (integer-bytes n ++ a) q) (int-back n a (omega arith)) (s (x ++ u)) (h u))
 
   -- ---- names
 
@@ -430,31 +474,23 @@ module _ (l : ℕ) where
   unfolding parse body begins
   reads-name-link n j x r o h u = name-link-turn (w-value-pairs n) 0 r j _ (x ++ u) u (int-of j _ (x ++ u) (omega arith) (append-assoc (integer-bytes j) x u)) (h u)
 
-  reads-one-name : (b : List ℕ) → length b < 2147483648 → Reads values l fEnd [] → Reads name (suc l) (fSym false b fEnd) (SYMBOL ∷ byte-string-bytes b)
-  unfolding parse body begins
-  reads-one-name b o h u = name-turn (w-values 0) 0 fEnd b _ u u (str-back b u o) (h u)
-
-  reads-one-link : (j : ℕ) → j < 2147483648 → Reads values l fEnd [] → Reads name (suc l) (fSymref false j fEnd) (SYMBOL-LINK ∷ integer-bytes j)
-  unfolding parse body begins
-  reads-one-link j o h u = name-link-turn (w-values 0) 0 fEnd j _ u u (int-back j u (omega arith)) (h u)
-
-  class-turn : (r : F) (n : ℕ) (b x y z u : List ℕ) → str x ≡ (b, y) → int y ≡ (n, z) → parse l (w-pairs n) z ≡ got 0 r u → class (parse l) (eqb SYMBOL SYMBOL) x ≡ got n (fSym false b r) u
+  object-turn : (r : F) (n : ℕ) (b x y z u : List ℕ) → str x ≡ (b, y) → int y ≡ (n, z) → parse l (w-pairs n) z ≡ got 0 r u → class (parse l) (eqb SYMBOL SYMBOL) x ≡ got n (fSym false b r) u
   unfolding class
-  class-turn r n b x y z u s i e = rw (s, i, e)
+  object-turn r n b x y z u s i e = rw (s, i, e)
 
-  class-link-turn : (r : F) (n j : ℕ) (x y z u : List ℕ) → int x ≡ (j, y) → int y ≡ (n, z) → parse l (w-pairs n) z ≡ got 0 r u → class (parse l) (eqb SYMBOL-LINK SYMBOL) x ≡ got n (fSymref false j r) u
+  object-link-turn : (r : F) (n j : ℕ) (x y z u : List ℕ) → int x ≡ (j, y) → int y ≡ (n, z) → parse l (w-pairs n) z ≡ got 0 r u → class (parse l) (eqb SYMBOL-LINK SYMBOL) x ≡ got n (fSymref false j r) u
   unfolding class
-  class-link-turn r n j x y z u s i e = rw (s, i, e)
+  object-link-turn r n j x y z u s i e = rw (s, i, e)
 
   reads-class : (n : ℕ) (b x : List ℕ) (r : F) → n < 2147483648 → length b < 2147483648 → Reads (pairs n) l r x → Reads (name-pairs n) (suc l) (fSym false b r) (SYMBOL ∷ byte-string-bytes b ++ integer-bytes n ++ x)
   unfolding parse body begins
   reads-class n b x r o q h u =
-      class-turn r n b _ (integer-bytes n ++ (x ++ u)) (x ++ u) u (str-of b _ (integer-bytes n ++ (x ++ u)) q (three (byte-string-bytes b) (integer-bytes n) x u)) (int-back n (x ++ u) (omega arith)) (h u)
+      object-turn r n b _ (integer-bytes n ++ (x ++ u)) (x ++ u) u (str-of b _ (integer-bytes n ++ (x ++ u)) q (three (byte-string-bytes b) (integer-bytes n) x u)) (int-back n (x ++ u) (omega arith)) (h u)
 
   reads-class-link : (n j : ℕ) (x : List ℕ) (r : F) → n < 2147483648 → j < 2147483648 → Reads (pairs n) l r x → Reads (name-pairs n) (suc l) (fSymref false j r) (SYMBOL-LINK ∷ integer-bytes j ++ integer-bytes n ++ x)
   unfolding parse body begins
   reads-class-link n j x r o q h u =
-      class-link-turn r n j _ (integer-bytes n ++ (x ++ u)) (x ++ u) u (int-of j _ (integer-bytes n ++ (x ++ u)) (omega arith) (three (integer-bytes j) (integer-bytes n) x u)) (int-back n (x ++ u) (omega arith)) (h u)
+      object-link-turn r n j _ (integer-bytes n ++ (x ++ u)) (x ++ u) u (int-of j _ (integer-bytes n ++ (x ++ u)) (omega arith) (three (integer-bytes j) (integer-bytes n) x u)) (int-back n (x ++ u) (omega arith)) (h u)
 
   reads-end : Reads values (suc l) fEnd []
   unfolding parse body
@@ -479,8 +515,11 @@ after-bounded : (m : Mode) → IsValue m → BoundedMode (after m)
 after-bounded values v = tt
 after-bounded (pairs n) v = tt
 after-bounded (value-pairs n) v = tt
-after-bounded name v = absurd v
 after-bounded (name-pairs n) v = absurd v
+
+no-class-byte : {i n : ℕ} {c : Bool} → Texted i n c → eqb i USER-CLASS ≡ false
+no-class-byte text-string = refl
+no-class-byte text-float = refl
 
 no-turn : {C : Type 0} (g : F) → need g ≤ 0 → C
 no-turn g h = absurd (omega (arith, need-some g))
@@ -491,8 +530,6 @@ reads (suc l) o c b tEnd = reads-end l
 reads (suc l) o c b tEndPairs = reads-end-pairs l
 reads (suc l) o c b (tName {n = n} {b = s} {x = x} {r = r} t) = reads-name l n s x r (b .0) (reads l (omega arith) tt (b .1) t)
 reads (suc l) o c b (tNameLink {n = n} {k = k} {x = x} {r = r} t) = reads-name-link l n k x r (b .0) (reads l (omega arith) tt (b .1) t)
-reads (suc l) o c b (tOneName {b = s}) = reads-one-name l s (b .0) (reads {lv = 0} l (omega arith) tt tt tEnd)
-reads (suc l) o c b (tOneLink {k = k}) = reads-one-link l k (b .0) (reads {lv = 0} l (omega arith) tt tt tEnd)
 reads (suc l) o c b (tClass {n = n} {b = s} {x = x} {r = r} t) = reads-class l n s x r c (b .0) (reads l (omega arith) tt (b .1) t)
 reads (suc l) o c b (tClassLink {n = n} {k = k} {x = x} {r = r} t) = reads-class-link l n k x r c (b .0) (reads l (omega arith) tt (b .1) t)
 reads (suc l) o c b (tNil {m = m} {x = x} {r = r} v t) = reads-nil l m v r x (reads l (omega arith) (after-bounded m v) (b .1) t)
@@ -502,22 +539,22 @@ reads (suc l) o c b (tFixnum {m = m} {w = w} {x = x} {r = r} v h t) = reads-fixn
 reads (suc l) o c b (tSymbol {m = m} {b = s} {x = x} {r = r} v t) = reads-symbol l m v r x (reads l (omega arith) (after-bounded m v) (b .1) t) s (b .0)
 reads (suc l) o c b (tSymbolLink {m = m} {k = k} {x = x} {r = r} v t) = reads-symbol-link l m v r x (reads l (omega arith) (after-bounded m v) (b .1) t) k (b .0)
 reads (suc l) o c b (tObjectLink {m = m} {k = k} {x = x} {r = r} v t) = reads-object-link l m v r x (reads l (omega arith) (after-bounded m v) (b .1) t) k (b .0)
-reads (suc l) o c b (tArray {m = m} {n = n} {x = x} {y = y} {f = f} {r = r} v e s t) =
-    reads-array l m v r x (reads l (omega arith) (after-bounded m v) (b .4) t) n f y (b .0) e (reads l (omega arith) tt (b .3) s)
-reads (suc l) o c b (tHash {m = m} {n = n} {x = x} {y = y} {f = f} {r = r} v e s t) =
-    reads-hash l m v r x (reads l (omega arith) (after-bounded m v) (b .4) t) n f y (b .0) e (reads l (omega arith) tt (b .3) s)
-reads (suc l) o c b (tHashDefault {m = m} {n = n} {x = x} {y = y} {f = f} {r = r} v e s t) =
-    reads-hash-default l m v r x (reads l (omega arith) (after-bounded m v) (b .4) t) n f y (b .0) e (reads l (omega arith) tt (b .3) s)
+reads (suc l) o c b (tArray {m = m} {n = n} {x = x} {y = y} {f = f} {r = r} v cl e s t) =
+    reads-array l m v r x (reads l (omega arith) (after-bounded m v) (b .4) t) cl (b .2) n f y (b .0) e (reads l (omega arith) tt (b .3) s)
+reads (suc l) o c b (tHash {m = m} {n = n} {x = x} {y = y} {f = f} {r = r} v cl e s t) =
+    reads-hash l m v r x (reads l (omega arith) (after-bounded m v) (b .4) t) cl (b .2) n f y (b .0) e (reads l (omega arith) tt (b .3) s)
+reads (suc l) o c b (tHashDefault {m = m} {n = n} {x = x} {y = y} {f = f} {r = r} v cl e s t) =
+    reads-hash-default l m v r x (reads l (omega arith) (after-bounded m v) (b .4) t) cl (b .2) n f y (b .0) e (reads l (omega arith) tt (b .3) s)
 reads (suc l) o c b (tObject {m = m} {n = n} {x = x} {y = y} {f = f} {r = r} v s t) =
     reads-object l m v r x (reads l (omega arith) (after-bounded m v) (b .4) t) n f y (reads l (omega arith) (b .0) (b .3) s)
-reads (suc l) o c b (tText {m = m} {b = s} {x = x} {r = r} q v t) = reads-text l m v r x (reads l (omega arith) (after-bounded m v) (b .4) t) q s (b .1)
+reads (suc l) o c b (tText {m = m} {b = s} {x = x} {r = r} q v cl t) = reads-text l m v r x (reads l (omega arith) (after-bounded m v) (b .4) t) q (no-class-byte q) cl (b .2) s (b .1)
 reads (suc l) o c b (tBignum {m = m} {n = n} {minus = minus} {x = x} {r = r} v q t) = reads-bignum l m v r x (reads l (omega arith) (after-bounded m v) (b .4) t) n minus (q .0)
-reads (suc l) o c b (tStringVars {m = m} {n = n} {b = a} {x = x} {y = y} {f = f} {r = r} v s t) =
-    reads-string-variables l m v r x (reads l (omega arith) (after-bounded m v) (b .4) t) n a f y (b .0) (b .1) (reads l (omega arith) tt (b .3) s)
+reads (suc l) o c b (tStringVars {m = m} {n = n} {b = a} {x = x} {y = y} {f = f} {r = r} v cl s t) =
+    reads-string-variables l m v r x (reads l (omega arith) (after-bounded m v) (b .4) t) cl (b .2) n a f y (b .0) (b .1) (reads l (omega arith) tt (b .3) s)
 reads (suc l) o c b (tUser {m = m} {b = a} {x = x} {z = z} {p = p} {r = r} v s t) =
-    reads-user l m v r x (reads l (omega arith) (after-bounded m v) (b .4) t) a p z (b .1) (reads l (omega arith) tt (b .2) s)
+    reads-user l m v r x (reads l (omega arith) (after-bounded m v) (b .4) t) a p z (b .1) s (b .2)
 reads (suc l) o c b (tUserVars {m = m} {n = n} {b = a} {x = x} {y = y} {z = z} {p = p} {f = f} {r = r} v q s t) =
-    reads-user-variables l m v r x (reads l (omega arith) (after-bounded m v) (b .4) t) n a p f z y (b .0) (b .1) (reads l (omega arith) tt (b .2) q) (reads l (omega arith) tt (b .3) s)
+    reads-user-variables l m v r x (reads l (omega arith) (after-bounded m v) (b .4) t) n a p f z y (b .0) (b .1) q (b .2) (reads l (omega arith) tt (b .3) s)
 
 -- ---- print is injective
 
@@ -525,7 +562,6 @@ same-want : (m : Mode) (g f : F) → trees g ≡ trees f → want m g ≡ want m
 same-want values g f e = ap w-values e
 same-want (pairs n) g f e = refl
 same-want (value-pairs n) g f e = refl
-same-want name g f e = refl
 same-want (name-pairs n) g f e = refl
 
 bounded-injective : (m : Mode) (l k : ℕ) (g f : F) (x y u v : List ℕ) → Text m l g x → Text m k f y → BoundedMode m → Bounded g → Bounded f → trees g ≡ trees f → x ++ u ≡ y ++ v → (g ≡ f) × (u ≡ v)
@@ -583,7 +619,6 @@ pub print-injective : (m : Mode) (l k : ℕ) (g f : F) (x y u v : List ℕ) → 
 print-injective values l k g f x y u v s t a b e z = bounded-injective values l k g f x y u v s t tt a b e z
 print-injective (pairs n) l k g f x y u v s t a b e z = bounded-injective (pairs n) l k g f x y u v s t tt a b e z
 print-injective (value-pairs n) l k g f x y u v s t a b e z = bounded-injective (value-pairs n) l k g f x y u v s t tt a b e z
-print-injective name l k g f x y u v s t a b e z = bounded-injective name l k g f x y u v s t tt a b e z
 print-injective (name-pairs n) l k g f x y u v s t a b e z = class-injective u v s t a b e z
 
 -- one text, one forest

@@ -69,6 +69,7 @@ pub use value_arena::get;
 pub use value_arena::get_symbol;
 pub use value_arena::kind;
 pub use value_arena::new;
+pub use value_arena::replace_class;
 pub use value_arena::replace_root;
 pub use value_arena::root;
 pub use weight::reading;

@@ -81,7 +81,7 @@ module _ {room : Room} {no re by : List ℕ} {sy : Symbols} {ob : List ℕ} (inp
 
 module _ {room : Room} {no re by : List ℕ} {sy : Symbols} {ob : List ℕ} (input c : List ℕ) (limit levels : ℕ) (some : levels ≡ 0 → ⊥) (ten : length c ≡ COUNTS) (l : at-of c + 6 ≤ length input) (k : getD input (at-of c) 0 ≡ FIXNUM) (d : dumped-at input (at-of c + 1) ≡ true) (h : nodes-of c < space-of c) where
   -- the integer, after the kind byte
-  pub integer-goes : {no' : List ℕ} → word-at input (at-of c + 1) < REFUSED → no' ≡ sets no (nodes-of c * width) (2 ∷ word-at input (at-of c + 1) ∷ 0 ∷ 0 ∷ 0 ∷ 0 ∷ 0 ∷ []) → Goes input room (read-value input room limit levels) (lent no re by sy ob) c (pure (nodes-of c)) (lent no' re by sy ob) (set (set c NODES (nodes-of c + 1)) 0 (at-of c + 1 + size-at input (at-of c + 1)))
+  pub integer-goes : {no' : List ℕ} → word-at input (at-of c + 1) < REFUSED → no' ≡ sets no (nodes-of c * width) (2 ∷ word-at input (at-of c + 1) ∷ 0 ∷ 0 ∷ 0 ∷ 0 ∷ 0 ∷ 0 ∷ []) → Goes input room (read-value input room limit levels) (lent no re by sy ob) c (pure (nodes-of c)) (lent no' re by sy ob) (set (set c NODES (nodes-of c + 1)) 0 (at-of c + 1 + size-at input (at-of c + 1)))
   unfolding head value-of read-fixnum pick words kind
   integer-goes {no'} fits f =
       let c₁ = set c AT (at-of c + 1) in
@@ -97,7 +97,7 @@ module _ {room : Room} {no re by : List ℕ} {sy : Symbols} {ob : List ℕ} (inp
       let node : Goes input room (add-node room (fixnum (word-at input (at-of c + 1)))) (lent no re by sy ob) c₂ (pure (nodes-of c)) (lent no' re by sy ob) (set (set c NODES (nodes-of c + 1)) 0 (at-of c + 1 + size-at input (at-of c + 1))) =
       subst (λ x. Goes input room (add-node room (fixnum (word-at input (at-of c + 1)))) (lent no re by sy ob) c₂ (pure (nodes-of c)) (lent no' re by sy ob) x) (set-comm c 0 1 (at-of c + 1 + size-at input (at-of c + 1)) (nodes-of c + 1) (omega arith))
       (subst (λ n. Goes input room (add-node room (fixnum (word-at input (at-of c + 1)))) (lent no re by sy ob) c₂ (pure n) (lent no' re by sy ob) (set c₂ 1 (n + 1))) r
-      (row-goes (fixnum (word-at input (at-of c + 1))) _ refl (other-kind (fixnum 0) refl) (omega (arith, r, getD-set-other c AT ROOM (at-of c + 1 + size-at input (at-of c + 1)) 0 (omega arith))) (f ∙ ap (λ (n : ℕ). sets no (n * width) (2 ∷ word-at input (at-of c + 1) ∷ 0 ∷ 0 ∷ 0 ∷ 0 ∷ 0 ∷ [])) (sym r)))) in
+      (row-goes (fixnum (word-at input (at-of c + 1))) _ refl (other-kind (fixnum 0) refl) (omega (arith, r, getD-set-other c AT ROOM (at-of c + 1 + size-at input (at-of c + 1)) 0 (omega arith))) (f ∙ ap (λ (n : ℕ). sets no (n * width) (2 ∷ word-at input (at-of c + 1) ∷ 0 ∷ 0 ∷ 0 ∷ 0 ∷ 0 ∷ 0 ∷ [])) (sym r)))) in
       then (goes-to (ap (λ (x : ℕ). value-of input room (read-value input room limit (levels - 1)) x (head x)) k) (kind-read limit levels some (omega arith)))
       (then (goes-first (λ w. add-node room (fixnum w)) number) node)
 
@@ -223,7 +223,7 @@ module _ {input no₀ re₀ sy c₀ : List ℕ} {start end names levels : ℕ} {
       subst (λ x. Goes input room (slot (read-symbol-like input room) (read-value input room limit levels) names to) (lent no re by (by-buckets sy bu) ob) c₁ (pure (getD sy i 0)) (lent no re by (by-buckets sy bu) ob) x) (set-set c 0 at (at-of c₁ + 2) ∙ ap (λ (x : ℕ). set c AT (x + 2)) p)
       (link-goes input c₁ limit levels some (R .held .3 .holds .fixed .ten) i (rw p h) (ap (λ (x : ℕ). getD input x 0) p ∙ k) (ap (λ (x : ℕ). form-at input (x + 1)) p ∙ e) (d ∙ ap (λ (x : ℕ). getD input (x + 1) 0 ∷ []) (sym p)) (omega (arith, R .known)) z (eqb (to % 2) names)))
 
-  pub run-integer : {no' : List ℕ} (n : ℕ) → (levels ≡ 0 → ⊥) → to < end → at + 6 ≤ length input → getD input at 0 ≡ FIXNUM → dumped-at input (at + 1) ≡ true → (to % 2 ≡ names → ⊥) → nodes-of c < space-of c → n ≡ size-at input (at + 1) → word-at input (at + 1) < REFUSED → no' ≡ sets no (nodes-of c * width) (2 ∷ word-at input (at + 1) ∷ 0 ∷ 0 ∷ 0 ∷ 0 ∷ 0 ∷ []) → length no' ≡ length no → Running input no₀ re₀ sy c₀ start end names levels no' (set re to (nodes-of c)) (set c NODES (nodes-of c + 1)) (at + 1 + n) (to + 1)
+  pub run-integer : {no' : List ℕ} (n : ℕ) → (levels ≡ 0 → ⊥) → to < end → at + 6 ≤ length input → getD input at 0 ≡ FIXNUM → dumped-at input (at + 1) ≡ true → (to % 2 ≡ names → ⊥) → nodes-of c < space-of c → n ≡ size-at input (at + 1) → word-at input (at + 1) < REFUSED → no' ≡ sets no (nodes-of c * width) (2 ∷ word-at input (at + 1) ∷ 0 ∷ 0 ∷ 0 ∷ 0 ∷ 0 ∷ 0 ∷ []) → length no' ≡ length no → Running input no₀ re₀ sy c₀ start end names levels no' (set re to (nodes-of c)) (set c NODES (nodes-of c + 1)) (at + 1 + n) (to + 1)
   run-integer {no'} n some l h k d e y z fits f sized =
       let p = is-at in
       let q : nodes-of c₁ ≡ nodes-of c = getD-set-other c 0 1 at 0 (omega arith) in
@@ -248,4 +248,4 @@ module _ {input no₀ re₀ sy c₀ : List ℕ} {start end names levels : ℕ} {
           subst (λ m. Goes input room (read-value input room limit levels) (lent no re by (by-buckets sy bu) ob) c₁ (pure m) (lent no' re by (by-buckets sy bu) ob) (set (set c NODES (nodes-of c + 1)) 0 (at + 1 + n))) q
           (subst (λ m. Goes input room (read-value input room limit levels) (lent no re by (by-buckets sy bu) ob) c₁ (pure (nodes-of c₁)) (lent no' re by (by-buckets sy bu) ob) m) t
           (integer-goes input c₁ limit levels some (R .held .3 .holds .fixed .ten) (rw p h) (ap (λ (m : ℕ). getD input m 0) p ∙ k) (ap (λ (m : ℕ). dumped-at input (m + 1)) p ∙ d) (omega (arith, q, y, getD-set-other c 0 9 at 0 (omega arith))) (rw p fits)
-          (f ∙ λ j. sets no (sym q j * width) (2 ∷ word-at input (sym p j + 1) ∷ 0 ∷ 0 ∷ 0 ∷ 0 ∷ 0 ∷ []))))
+          (f ∙ λ j. sets no (sym q j * width) (2 ∷ word-at input (sym p j + 1) ∷ 0 ∷ 0 ∷ 0 ∷ 0 ∷ 0 ∷ 0 ∷ []))))

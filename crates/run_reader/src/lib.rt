@@ -57,7 +57,7 @@ fn takes_integer(k: u8, to: usize, names: usize, node: usize, room: usize) -> bo
 // Node `node` becomes the integer at `at`, whose bytes are all there, if dump writes it so: how many they are. Else 0.
 fn put_integer(input: &[u8], nodes: &mut [u32], at: usize, node: usize) -> usize
     requires { ⌜ (at + size-at (now input) at ≤ length (now input)) × (node * width + width ≤ length (now nodes)) ⌝ }
-    ensures { λ r. ⌜ ((r ≡ 0 → ⊥) → now (nodes .exit) ≡ sets (now (nodes .entry)) (node * width) (2 ∷ word-at (now (input .entry)) at ∷ 0 ∷ 0 ∷ 0 ∷ 0 ∷ 0 ∷ [])) ⌝ }
+    ensures { λ r. ⌜ ((r ≡ 0 → ⊥) → now (nodes .exit) ≡ sets (now (nodes .entry)) (node * width) (2 ∷ word-at (now (input .entry)) at ∷ 0 ∷ 0 ∷ 0 ∷ 0 ∷ 0 ∷ 0 ∷ [])) ⌝ }
     ensures { λ r. ⌜ ((r ≡ 0 → ⊥) → (r ≡ size-at (now (input .entry)) at) × (dumped-at (now (input .entry)) at ≡ true)) ⌝ }
     ensures { λ r. ⌜ (r ≡ 0 → (now (nodes .exit) ≡ now (nodes .entry)) × (dumped-at (now (input .entry)) at ≡ false)) ⌝ }
     ensures { λ r. ⌜ word-at (now (input .entry)) at < 4294967296 ⌝ }
@@ -67,7 +67,7 @@ fn put_integer(input: &[u8], nodes: &mut [u32], at: usize, node: usize) -> usize
     if !in_form(b, w) {
         return 0;
     }
-    put_node(nodes, node * Node::WIDTH, Node::FIXNUM, w, 0, 0, 0, 0, 0);
+    put_node(nodes, node * Node::WIDTH, Node::FIXNUM, w, 0, 0, 0, 0, 0, 0);
     integer_size(b)
 }
 

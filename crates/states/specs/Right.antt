@@ -8,27 +8,26 @@ use lib.ListN.{length}
 use native.Mathlib.Omega.{arith}
 use borrow.Author.Tests.{eqb-true, eq-eqb, le-leb, lt-ltb}
 use Rattle.definition.specs.Run.{pick}
-use Rattle.definition.specs.Node.{Row, Vars, nil, bool, fixnum, symbol, array, hash, object, string, user, float, bignum, absent, present, kind}
+use Rattle.definition.specs.Node.{Row, Vars, nil, bool, fixnum, symbol, array, hash, object, string, user, float, bignum, absent, present, NAME, CLASS, kind, word, words, optional-node}
 use Rattle.definition.specs.Magnitude.{fits, sign, magnitude}
-use Rattle.definition.specs.Arena.{Arena, range, firsts, all-below, is-name, all-names, bytes-right, list-right, pairs-right, vars-right, number-right, row-right}
-use Rattle.definition.specs.Graph.{links, vars-links, default-link}
+use Rattle.definition.specs.Arena.{Arena, range, firsts, all-below, is-name, all-names, bytes-right, list-right, pairs-right, vars-right, class-right, number-right, row-right}
+use Rattle.definition.specs.Graph.{links, vars-links}
 use Rattle.lists.specs.Joined.{yes-and}
 use Rattle.lists.specs.Lists.{At, at-app, apart, Below}
 use Rattle.well_formed.specs.Nodes.{node-at, Name}
 use Rattle.well_formed.specs.Right.{NumberRight}
 use Rattle.states.specs.Rows.{bytes-start, bytes-length, list-start, list-length, vars-start, vars-length, row-words, Within, links-same, ranges}
 
--- the names among an object's or a user-defined node's links: the first, and then the first of each pair
-unfoldable pub own-names : List ℕ → List ℕ
-own-names [] = []
-own-names (c ∷ ls) = c ∷ firsts ls
+-- a row's name, or its class where it has one
+unfoldable pub own-names : Row → List ℕ
+own-names r = pick (eqb (kind r) 6 || eqb (kind r) 8) (word r NAME ∷ []) (optional-node (word r CLASS))
 
--- the names among the links of a row, by its kind: an object's or a user-defined node's, a string's
-unfoldable pub names-by-kind : ℕ → List ℕ → List ℕ
-names-by-kind k ls = pick (eqb k 7) (firsts ls) (pick (eqb k 6 || eqb k 8) (own-names ls) [])
+-- the names of its variables: the first of each pair of its list
+unfoldable pub pair-names : ℕ → List ℕ → List ℕ
+pair-names k ls = pick (eqb k 6 || eqb k 7 || eqb k 8) (firsts ls) []
 
 unfoldable pub row-names : Arena → Row → List ℕ
-row-names A r = names-by-kind (kind r) (links A r)
+row-names A r = own-names r ++ pair-names (kind r) (row-words A r)
 
 -- a row that is a Bignum has a right number
 abbrev pub Numbered : Row → Type 0
@@ -40,16 +39,27 @@ pub record RightIn (A : Arena) (r : Row) : Type 0 where
   pub names : (k c : ℕ) → At (row-names A r) k c → Name A c
   pub number : Numbered r
 
--- a name, and names after it
+-- names, and names after them
 pub names-first : (A : Arena) (c : ℕ) (ns : List ℕ) → Name A c → ((k d : ℕ) → At ns k d → Name A d) → (k d : ℕ) → At (c ∷ ns) k d → Name A d
 names-first A c ns n h zero d a = let z : c ≡ d = cc in rw (← z) n
 names-first A c ns n h (suc k) d a = h k d a
+
+pub names-join : (A : Arena) (l m : List ℕ) → ((k d : ℕ) → At l k d → Name A d) → ((k d : ℕ) → At m k d → Name A d) → (k d : ℕ) → At (l ++ m) k d → Name A d
+names-join A [] m f g k d a = g k d a
+names-join A (c ∷ l) m f g k d a = names-first A c (l ++ m) (f 0 c refl) (names-join A l m (λ j e b. f (suc j) e b) g) k d a
+
+pub names-left : (A : Arena) (l m : List ℕ) → ((k d : ℕ) → At (l ++ m) k d → Name A d) → (k d : ℕ) → At l k d → Name A d
+names-left A l m f k d a = f k d (at-app l m k d a)
+
+pub names-right : (A : Arena) (l m : List ℕ) → ((k d : ℕ) → At (l ++ m) k d → Name A d) → (k d : ℕ) → At m k d → Name A d
+names-right A [] m f k d a = f k d a
+names-right A (c ∷ l) m f k d a = names-right A l m (λ j e b. f (suc j) e b) k d a
 
 -- ---- a row is right in a later arena, where its words are the same
 
 names-same : (A B : Arena) (r : Row) → row-words B r ≡ row-words A r → row-names B r ≡ row-names A r
 unfolding row-names
-names-same A B r e = ap (names-by-kind (kind r)) (links-same A B r e)
+names-same A B r e = ap (λ (l : List ℕ). own-names r ++ pair-names (kind r) l) e
 
 -- from A to B nodes are only added, names stay names, and bytes and words are only added
 pub record Onward (A B : Arena) : Type 0 where
@@ -95,13 +105,13 @@ unfolding pairs-right
 pairs-right-yes A p n h b m = yes-and _ _ (list-right-yes A p (n * 2) h b) (all-names-yes A _ m)
 
 vars-right-yes : (A : Arena) (v : Vars) → vars-start v + vars-length v ≤ length (A .references) → Below (length (A .nodes)) (vars-links A v)
-    → ((k c : ℕ) → At (firsts (vars-links A v)) k c → Name A c) → vars-right A v ≡ true
+    → ((k c : ℕ) → At (firsts (range (A .references) (vars-start v) (vars-length v))) k c → Name A c) → vars-right A v ≡ true
 unfolding vars-right vars-links vars-start vars-length
 vars-right-yes A absent h b m = refl
 vars-right-yes A (present p n) h b m = pairs-right-yes A p n h b m
 
-default-most : (A : Arena) (d : ℕ) → Below (length (A .nodes)) (default-link d) → d ≤ length (A .nodes)
-unfolding default-link
+default-most : (A : Arena) (d : ℕ) → Below (length (A .nodes)) (optional-node d) → d ≤ length (A .nodes)
+unfolding optional-node
 default-most A zero b = omega arith
 default-most A (suc d) b = b 0 d refl
 
@@ -133,23 +143,34 @@ unfolding number-right sign
 number-right-yes m false h = yes-and _ _ (h .0) refl
 number-right-yes m true h = yes-and _ _ (h .0) (sign-kept m true h)
 
--- a hash's default
-default-below : (A : Arena) (p n d : ℕ) → RightIn A (hash p n d) → d ≤ length (A .nodes)
-unfolding links
-default-below A p n d f = default-most A d (above-left _ (range (A .references) p (n * 2)) (default-link d) (f .below))
+-- the words of a list, after a class
+list-below : (A : Arena) (w : ℕ) (l : List ℕ) → Below (length (A .nodes)) (optional-node w ++ l) → Below (length (A .nodes)) l
+list-below A w l b = above-left _ (optional-node w) l b
+
+class-right-yes : (A : Arena) (w : ℕ) → ((k c : ℕ) → At (optional-node w) k c → Name A c) → class-right A w ≡ true
+unfolding class-right
+class-right-yes A w h = all-names-yes A (optional-node w) h
 
 pub right-yes : (A : Arena) (r : Row) → RightIn A r → row-right A r ≡ true
-unfolding row-right bytes-right links row-names bytes-start bytes-length list-start list-length ranges names-by-kind own-names kind pick
+unfolding row-right bytes-right links row-names bytes-start bytes-length list-start list-length ranges pair-names own-names kind words pick
 right-yes A nil f = refl
 right-yes A (bool b) f = refl
 right-yes A (fixnum w) f = refl
 right-yes A (symbol s l) f = le-leb _ _ (f .inside .bytes-inside)
-right-yes A (array s n) f = list-right-yes A s n (f .inside .list-inside) (f .below)
-right-yes A (hash s n d) f =
-    yes-and _ _ (list-right-yes A s (n * 2) (f .inside .list-inside) (below-left _ (range (A .references) s (n * 2)) (default-link d) (f .below))) (le-leb _ _ (default-below A s n d f))
+right-yes A (array s n w) f =
+    yes-and _ _ (list-right-yes A s n (f .inside .list-inside) (list-below A w _ (f .below))) (class-right-yes A w (names-left A (optional-node w) [] (f .names)))
+right-yes A (hash s n d w) f =
+    let b = list-below A w (range (A .references) s (n * 2) ++ optional-node d) (f .below) in
+    yes-and _ _
+    (yes-and _ _ (list-right-yes A s (n * 2) (f .inside .list-inside) (below-left _ (range (A .references) s (n * 2)) (optional-node d) b))
+    (le-leb _ _ (default-most A d (above-left _ (range (A .references) s (n * 2)) (optional-node d) b))))
+    (class-right-yes A w (names-left A (optional-node w) [] (f .names)))
 right-yes A (object s n c) f =
     yes-and _ _ (is-name-yes A c (f .names 0 c refl)) (pairs-right-yes A s n (f .inside .list-inside) (λ k v e. f .below (suc k) v e) (λ k v e. f .names (suc k) v e))
-right-yes A (string s l v) f = yes-and _ _ (le-leb _ _ (f .inside .bytes-inside)) (vars-right-yes A v (f .inside .list-inside) (f .below) (f .names))
+right-yes A (string s l v w) f =
+    yes-and _ _
+    (yes-and _ _ (le-leb _ _ (f .inside .bytes-inside)) (vars-right-yes A v (f .inside .list-inside) (list-below A w (vars-links A v) (f .below)) (names-right A (optional-node w) _ (f .names))))
+    (class-right-yes A w (names-left A (optional-node w) _ (f .names)))
 right-yes A (user s l c v) f =
     yes-and _ _ (yes-and _ _ (le-leb _ _ (f .inside .bytes-inside)) (is-name-yes A c (f .names 0 c refl)))
     (vars-right-yes A v (f .inside .list-inside) (λ k w e. f .below (suc k) w e) (λ k w e. f .names (suc k) w e))

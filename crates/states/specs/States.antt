@@ -260,10 +260,10 @@ pub inside-symbol : (s : State) (a l : ℕ) → a + l ≤ length (s .bytes) → 
 unfolding bytes-start bytes-length list-start list-length ranges
 inside-symbol s a l h = record { bytes-inside = h; list-inside = omega arith }
 
-pub inside-text : {k n : ℕ} (q : Texted k n) (s : State) (a l : ℕ) → a + l ≤ length (s .bytes) → Inside s (text-row q a l)
+pub inside-text : {k n : ℕ} {c : Bool} (q : Texted k n c) (s : State) (a l w : ℕ) → a + l ≤ length (s .bytes) → Inside s (text-row q a l w)
 unfolding bytes-start bytes-length list-start list-length vars-start vars-length ranges
-inside-text text-string s a l h = record { bytes-inside = h; list-inside = omega arith }
-inside-text text-float s a l h = record { bytes-inside = h; list-inside = omega arith }
+inside-text text-string s a l w h = record { bytes-inside = h; list-inside = omega arith }
+inside-text text-float s a l w h = record { bytes-inside = h; list-inside = omega arith }
 
 pub inside-bignum : (low high : ℕ) (m : Bool) (s : State) → Inside s (bignum low high m)
 unfolding bytes-start bytes-length list-start list-length ranges
@@ -275,12 +275,12 @@ inside-user s a l c h = record { bytes-inside = h; list-inside = omega arith }
 
 pub inside-listed : {p : ℕ} (s : State) (r : Row) → Listed p r → p + list-length r ≤ length (s .references) → Inside s r
 unfolding bytes-start bytes-length list-start list-length ranges
-inside-listed s r (is-array n) h = record { bytes-inside = omega arith; list-inside = h }
-inside-listed s r (is-hash n) h = record { bytes-inside = omega arith; list-inside = h }
+inside-listed s r (is-array n w) h = record { bytes-inside = omega arith; list-inside = h }
+inside-listed s r (is-hash n w) h = record { bytes-inside = omega arith; list-inside = h }
 
-pub inside-hash : (s : State) (p n d : ℕ) → p + n * 2 ≤ length (s .references) → Inside s (hash p n d)
+pub inside-hash : (s : State) (p n d w : ℕ) → p + n * 2 ≤ length (s .references) → Inside s (hash p n d w)
 unfolding bytes-start bytes-length list-start list-length ranges
-inside-hash s p n d h = record { bytes-inside = omega arith; list-inside = h }
+inside-hash s p n d w h = record { bytes-inside = omega arith; list-inside = h }
 
 pub inside-object : (s : State) (p n c : ℕ) → p + n * 2 ≤ length (s .references) → Inside s (object p n c)
 unfolding bytes-start bytes-length list-start list-length ranges
@@ -402,10 +402,10 @@ pub above-symbol : (p a l : ℕ) → Above p (symbol a l)
 unfolding list-start list-length ranges
 above-symbol p a l = inl refl
 
-pub above-text : {k n : ℕ} (q : Texted k n) (p a l : ℕ) → Above p (text-row q a l)
+pub above-text : {k n : ℕ} {c : Bool} (q : Texted k n c) (p a l w : ℕ) → Above p (text-row q a l w)
 unfolding list-start list-length vars-start vars-length ranges
-above-text text-string p a l = inl refl
-above-text text-float p a l = inl refl
+above-text text-string p a l w = inl refl
+above-text text-float p a l w = inl refl
 
 pub above-bignum : (p low high : ℕ) (m : Bool) → Above p (bignum low high m)
 unfolding list-start list-length ranges
@@ -417,12 +417,12 @@ above-user p a l c = inl refl
 
 pub above-listed : {p : ℕ} (q : ℕ) (r : Row) → q ≤ p → Listed p r → Above q r
 unfolding list-start ranges
-above-listed q r h (is-array n) = inr h
-above-listed q r h (is-hash n) = inr h
+above-listed q r h (is-array n w) = inr h
+above-listed q r h (is-hash n w) = inr h
 
-pub above-hash : (q p n d : ℕ) → q ≤ p → Above q (hash p n d)
+pub above-hash : (q p n d w : ℕ) → q ≤ p → Above q (hash p n d w)
 unfolding list-start ranges
-above-hash q p n d h = inr h
+above-hash q p n d w h = inr h
 
 pub above-object : (q p n c : ℕ) → q ≤ p → Above q (object p n c)
 unfolding list-start ranges

@@ -19,9 +19,10 @@ pub fn put_node(
     n: u32,
     name: u32,
     last: u32,
+    class: u32,
 )
     requires { ⌜ base + width ≤ length (now nodes) ⌝ }
-    ensures { λ _. ⌜ now (nodes .exit) ≡ sets (now (nodes .entry)) base (kind ∷ a ∷ b ∷ list ∷ n ∷ name ∷ last ∷ []) ⌝ }
+    ensures { λ _. ⌜ now (nodes .exit) ≡ sets (now (nodes .entry)) base (kind ∷ a ∷ b ∷ list ∷ n ∷ name ∷ last ∷ class ∷ []) ⌝ }
 {
     nodes[base] = kind;
     nodes[base + Node::START] = a;
@@ -30,6 +31,7 @@ pub fn put_node(
     nodes[base + Node::COUNT] = n;
     nodes[base + Node::NAME] = name;
     nodes[base + Node::DEFAULT] = last;
+    nodes[base + Node::CLASS] = class;
 }
 
 // n bytes of `source` from `from` on, to `to` on.

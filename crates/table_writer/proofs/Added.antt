@@ -153,7 +153,7 @@ module _ {input : List ℕ} {room : Room} {limit : ℕ} {c : List ℕ} {no re by
   symbol-full h l = denied (NoSpace Slice.SYMBOLS) (omega arith) (at-space limit Slice.SYMBOLS (omega arith)) (record { refuses = λ s H. let le : room .symbols ≤ length (s .symbols) = omega arith in simp (le-ltb _ _ le) })
 
   -- a symbol's node, put on the symbol list
-  pub symbol-new : {no' : List ℕ} (start n l : ℕ) → l ≡ n → start + n ≤ bytes-of c → nodes-of c < space-of c → symbols-of c < length sy → no' ≡ sets no (nodes-of c * width) (3 ∷ start ∷ n ∷ 0 ∷ 0 ∷ 0 ∷ 0 ∷ []) → Meets input room limit (new-symbol room start l) (lent no re by (by-list sy) ob) c (nodes-of c) (lent no' re by (by-list (set sy (symbols-of c) (nodes-of c))) ob) (set (set c NODES (nodes-of c + 1)) 4 (symbols-of c + 1))
+  pub symbol-new : {no' : List ℕ} (start n l : ℕ) → l ≡ n → start + n ≤ bytes-of c → nodes-of c < space-of c → symbols-of c < length sy → no' ≡ sets no (nodes-of c * width) (3 ∷ start ∷ n ∷ 0 ∷ 0 ∷ 0 ∷ 0 ∷ 0 ∷ []) → Meets input room limit (new-symbol room start l) (lent no re by (by-list sy) ob) c (nodes-of c) (lent no' re by (by-list (set sy (symbols-of c) (nodes-of c))) ob) (set (set c NODES (nodes-of c + 1)) 4 (symbols-of c + 1))
   unfolding add-node add-symbol pick _>>=_ next kind words
   symbol-new {no'} start n l z b h u f = given (λ s H. omega arith) (record {
     goes = λ s H.
@@ -169,7 +169,7 @@ module _ {input : List ℕ} {room : Room} {limit : ℕ} {c : List ℕ} {no re by
         let jy = is SYMBOLS (symbols-of c + 1) c₁ (a .sized ∙ H .fixed .ten) (omega arith) in
         let m : nodes-of c + 1 ≡ length (s .nodes ++ (row ∷ [])) = simp length-append (omega arith) in
         let my : symbols-of c + 1 ≡ length (s .symbols ++ (length (s .nodes) ∷ [])) = simp length-append (omega arith) in
-        let ws : no' ≡ sets no (nodes-of c * width) (words row) = f ∙ ap (λ (x : ℕ). sets no (nodes-of c * width) (3 ∷ start ∷ x ∷ 0 ∷ 0 ∷ 0 ∷ 0 ∷ [])) (sym z) in
+        let ws : no' ≡ sets no (nodes-of c * width) (words row) = f ∙ ap (λ (x : ℕ). sets no (nodes-of c * width) (3 ∷ start ∷ x ∷ 0 ∷ 0 ∷ 0 ∷ 0 ∷ 0 ∷ [])) (sym z) in
         let p : Begins (room .nodes * width) (flat (s .nodes ++ (row ∷ []))) no' = rw (ws, k) (push-row (room .nodes) (s .nodes) row (H .laid .nodes) lt) in
         let q : Begins (room .symbols) (s .symbols ++ (length (s .nodes) ∷ [])) (set sy (symbols-of c) (nodes-of c)) = rw (ky, k) (push (length (s .nodes) ∷ []) (H .laid .symbols) (omega arith)) in
         went (symbol-changed H row a o p q (j ∙ m) (jy ∙ my) (simp length-append (omega arith)) (omega arith) (λ _. omega (arith, H .counted .count-bytes)) refl)

@@ -39,16 +39,17 @@ pub fn add_node(
     b: u32,
     n: u32,
     name: u32,
+    class: u32,
 ) -> u64
     requires { ⌜ (length (now nodes) ≤ greatest-length) × (space-of (now c) * width ≤ length (now nodes)) × (length (now c) ≡ COUNTS) ⌝ }
-    ensures { λ r. ⌜ ((input : List ℕ) (room : Room) (limit : ℕ) (row : Row) (re by : List ℕ) (sy : Symbols) (ob : List ℕ) → words row ≡ kind ∷ a ∷ b ∷ 0 ∷ n ∷ name ∷ 0 ∷ [] → Plain row → Meets input room limit (add-node room row) (lent (now (nodes .entry)) re by sy ob) (now (c .entry)) r (lent (now (nodes .exit)) re by sy ob) (now (c .exit))) ⌝ }
+    ensures { λ r. ⌜ ((input : List ℕ) (room : Room) (limit : ℕ) (row : Row) (re by : List ℕ) (sy : Symbols) (ob : List ℕ) → words row ≡ kind ∷ a ∷ b ∷ 0 ∷ n ∷ name ∷ 0 ∷ class ∷ [] → Plain row → Meets input room limit (add-node room row) (lent (now (nodes .entry)) re by sy ob) (now (c .entry)) r (lent (now (nodes .exit)) re by sy ob) (now (c .exit))) ⌝ }
     ensures { λ r. ⌜ (r < REFUSED → (r < nodes-of (now (c .exit))) × ((kind ≡ symbol-kind → ⊥) → Free (now (nodes .exit)) r)) ⌝ }
 {
     let at = c[NODES];
     if c[ROOM] <= at {
         return NO_NODES;
     }
-    put_node(nodes, at * Node::WIDTH, kind, a, b, 0, n, name, 0);
+    put_node(nodes, at * Node::WIDTH, kind, a, b, 0, n, name, 0, class);
     c[NODES] = at + 1;
     at as u64
 }
@@ -78,12 +79,13 @@ pub fn add_object_node(
     b: u32,
     n: u32,
     name: u32,
+    class: u32,
 ) -> u64
     requires { ⌜ (length (now nodes) ≤ greatest-length) × (space-of (now c) * width ≤ length (now nodes)) × (length (now c) ≡ COUNTS) ⌝ }
-    ensures { λ r. ⌜ ((input : List ℕ) (room : Room) (limit : ℕ) (row : Row) (re by : List ℕ) (sy : Symbols) → words row ≡ kind ∷ a ∷ b ∷ 0 ∷ n ∷ name ∷ 0 ∷ [] → Plain row → Meets input room limit (add-object-node room row) (lent (now (nodes .entry)) re by sy (now (objects .entry))) (now (c .entry)) r (lent (now (nodes .exit)) re by sy (now (objects .exit))) (now (c .exit))) ⌝ }
+    ensures { λ r. ⌜ ((input : List ℕ) (room : Room) (limit : ℕ) (row : Row) (re by : List ℕ) (sy : Symbols) → words row ≡ kind ∷ a ∷ b ∷ 0 ∷ n ∷ name ∷ 0 ∷ class ∷ [] → Plain row → Meets input room limit (add-object-node room row) (lent (now (nodes .entry)) re by sy (now (objects .entry))) (now (c .entry)) r (lent (now (nodes .exit)) re by sy (now (objects .exit))) (now (c .exit))) ⌝ }
     ensures { λ r. ⌜ (r < REFUSED → (r < nodes-of (now (c .exit))) × ((kind ≡ symbol-kind → ⊥) → Free (now (nodes .exit)) r)) ⌝ }
 {
-    let h = add_node(nodes, c, kind, a, b, n, name);
+    let h = add_node(nodes, c, kind, a, b, n, name, class);
     if REFUSED <= h {
         return h;
     }
@@ -142,7 +144,18 @@ pub fn add_symbol_node(
     if symbols.len() <= to {
         return NO_SYMBOLS;
     }
-    put_node(nodes, at * Node::WIDTH, Node::SYMBOL, start, n, 0, 0, 0, 0);
+    put_node(
+        nodes,
+        at * Node::WIDTH,
+        Node::SYMBOL,
+        start,
+        n,
+        0,
+        0,
+        0,
+        0,
+        0,
+    );
     c[NODES] = at + 1;
     symbols[to] = at as u32;
     c[SYMBOLS] = to + 1;

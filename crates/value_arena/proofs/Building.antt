@@ -1,21 +1,23 @@
 -- From the tests of a builder to its answer.
-use Prim.Native.Nat.{ℕ, zero, suc, _-_}
+use Prim.Native.Nat.{ℕ, zero, suc, _+_, _-_, _*_, _<_}
 use mathlib.Core.Bool.{Bool, true, false}
 use mathlib.Core.List.{List, [], _∷_}
 use mathlib.Core.Option.{Option, none, some}
 use mathlib.Core.Path.{_≡_, refl, sym, ap, _∙_}
-use lib.ListN.{getD, take}
+use lib.ListN.{getD, set, take}
 use Rattle.definition.specs.Run.{Run, ok, refused, pure, _>>=_, look}
-use Rattle.definition.specs.Node.{bool, bignum, words}
+use Rattle.definition.specs.Node.{bool, bignum, width, CLASS, words}
 use Rattle.definition.specs.Arena.{Tables, arena, find-symbol, zeroed}
-use Rattle.definition.specs.Build.{Lent, BuildCall, build-done, build-call, new-call, new-if, wrong, handles-checked, set-root, exchange-root, held, add-symbol, known-or-new, new-call-of}
+use Rattle.definition.specs.Build.{Lent, lent, BuildCall, build-call-of, build-done, build-call, new-call, new-if, wrong, handles-checked, set-root, exchange-root, check-class, set-class, held, add-symbol, known-or-new, new-call-of}
 use Rattle.definition.specs.declared.Answer.the-variants.{Accepted, Refused}
+use Rattle.definition.specs.declared.Counts.{Counts}
 use Rattle.definition.specs.declared.Created.{Created}
 use Rattle.definition.specs.declared.Refusal.{Refusal}
 use Rattle.definition.specs.declared.Refusal.the-variants.{BadTables}
 use Rattle.store.specs.Laws.{cleared, cleared-whole}
 use Rattle.node_adder.specs.Added.{refusal}
 use Rattle.call_check.proofs.Answers.{stop, on}
+use Rattle.call_check.proofs.Tests.{old-class}
 use Rattle.node_adder.proofs.Adding.{build-no}
 
 module _ (L : Lent) where
@@ -28,11 +30,24 @@ module _ (L : Lent) where
   unfolding _>>=_ exchange-root
   root-not-set h q p = stop _ p
 
+-- ---- replace_class
+
+module _ (nodes references bytes : List ℕ) (c : Counts) (h : ℕ) where
+  abbrev given : Lent
+  given = lent nodes references bytes c
+
+  pub class-set : (w x : ℕ) → x ≡ h → h < c .nodes → check-class h given ≡ ok tt given
+      → build-call-of (record { answer = Accepted; handle = getD nodes (x * width + CLASS) 0; counts = c }) (set nodes (x * width + CLASS) w) references bytes ≡ build-call (set-class h w) given
+  unfolding build-call build-done set-class
+  class-set w x q l e =
+      (λ i. build-call-of (record { answer = Accepted; handle = getD nodes (q i * width + CLASS) 0; counts = c }) (set nodes (q i * width + CLASS) w) references bytes)
+      ∙ λ i. build-call-of (record { answer = Accepted; handle = old-class given nodes (c .nodes) h refl refl l e i; counts = c }) (set nodes (h * width + CLASS) w) references bytes
+
 -- a Bignum's sign is a bool's word
-pub signed : (low high : ℕ) (minus : Bool) {w : ℕ} → words (bool minus) ≡ 1 ∷ w ∷ 0 ∷ 0 ∷ 0 ∷ 0 ∷ 0 ∷ [] → words (bignum low high minus) ≡ 10 ∷ low ∷ high ∷ 0 ∷ w ∷ 0 ∷ 0 ∷ []
+pub signed : (low high : ℕ) (minus : Bool) {w : ℕ} → words (bool minus) ≡ 1 ∷ w ∷ 0 ∷ 0 ∷ 0 ∷ 0 ∷ 0 ∷ 0 ∷ [] → words (bignum low high minus) ≡ 10 ∷ low ∷ high ∷ 0 ∷ w ∷ 0 ∷ 0 ∷ 0 ∷ []
 unfolding words
-signed low high true e = ap (λ (ws : List ℕ). 10 ∷ low ∷ high ∷ 0 ∷ getD ws 1 0 ∷ 0 ∷ 0 ∷ []) e
-signed low high false e = ap (λ (ws : List ℕ). 10 ∷ low ∷ high ∷ 0 ∷ getD ws 1 0 ∷ 0 ∷ 0 ∷ []) e
+signed low high true e = ap (λ (ws : List ℕ). 10 ∷ low ∷ high ∷ 0 ∷ getD ws 1 0 ∷ 0 ∷ 0 ∷ 0 ∷ []) e
+signed low high false e = ap (λ (ws : List ℕ). 10 ∷ low ∷ high ∷ 0 ∷ getD ws 1 0 ∷ 0 ∷ 0 ∷ 0 ∷ []) e
 
 -- ---- new
 

@@ -5,7 +5,7 @@ use mathlib.Core.List.{[], _∷_}
 use mathlib.Core.Path.{_≡_, sym, ap, _∙_}
 use lib.ListN.{length, getD, take, drop, replicate}
 use Rattle.definition.specs.Run.{ok, refused, pure, _>>=_, look}
-use Rattle.definition.specs.Node.{words, width, START, LENGTH, LIST, COUNT, NAME, DEFAULT}
+use Rattle.definition.specs.Node.{words, width, START, LENGTH, LIST, COUNT, NAME, DEFAULT, CLASS}
 use Rattle.definition.specs.Build.{Lent, number-done, words-done, name-done, check, check-names, handles-checked, words-at, get-words, get-kind, get-name, get-root}
 use Rattle.definition.specs.declared.Answer.the-variants.{Accepted, Refused}
 use Rattle.definition.specs.declared.Counts.{Counts}
@@ -35,15 +35,15 @@ module _ (L : Lent) where
   word h k = getD (L .tables .nodes) (h * width + k) 0
 
   -- a node's words, where it is below the table's end
-  words-are : (h : ℕ) → h * width + width ≤ length (L .tables .nodes) → words-at (L .tables .nodes) h ≡ getD (L .tables .nodes) (h * width) 0 ∷ word h START ∷ word h LENGTH ∷ word h LIST ∷ word h COUNT ∷ word h NAME ∷ word h DEFAULT ∷ []
+  words-are : (h : ℕ) → h * width + width ≤ length (L .tables .nodes) → words-at (L .tables .nodes) h ≡ getD (L .tables .nodes) (h * width) 0 ∷ word h START ∷ word h LENGTH ∷ word h LIST ∷ word h COUNT ∷ word h NAME ∷ word h DEFAULT ∷ word h CLASS ∷ []
   unfolding words-at
   words-are h l = node-words (L .tables .nodes) (h * width) l
 
   pub get-all : (h x : ℕ) → x ≡ h → h * width + width ≤ length (L .tables .nodes) → handles-checked (h ∷ []) L ≡ ok tt L
-      → record { answer = Accepted; words = getD (L .tables .nodes) (x * width) 0 ∷ word x START ∷ word x LENGTH ∷ word x LIST ∷ word x COUNT ∷ word x NAME ∷ word x DEFAULT ∷ [] } ≡ words-done (get-words h L)
+      → record { answer = Accepted; words = getD (L .tables .nodes) (x * width) 0 ∷ word x START ∷ word x LENGTH ∷ word x LIST ∷ word x COUNT ∷ word x NAME ∷ word x DEFAULT ∷ word x CLASS ∷ [] } ≡ words-done (get-words h L)
   unfolding words-done
   get-all h x e l p =
-      (λ i. record { answer = Accepted; words = getD (L .tables .nodes) (e i * width) 0 ∷ word (e i) START ∷ word (e i) LENGTH ∷ word (e i) LIST ∷ word (e i) COUNT ∷ word (e i) NAME ∷ word (e i) DEFAULT ∷ [] })
+      (λ i. record { answer = Accepted; words = getD (L .tables .nodes) (e i * width) 0 ∷ word (e i) START ∷ word (e i) LENGTH ∷ word (e i) LIST ∷ word (e i) COUNT ∷ word (e i) NAME ∷ word (e i) DEFAULT ∷ word (e i) CLASS ∷ [] })
       ∙ sym (ap words-done (get-ok h p) ∙ λ i. record { answer = Accepted; words = words-are h l i })
 
   pub get-none : (h : ℕ) (q : Refusal) → handles-checked (h ∷ []) L ≡ refused q → record { answer = Refused q; words = replicate width 0 } ≡ words-done (get-words h L)

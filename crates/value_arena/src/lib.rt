@@ -5,13 +5,16 @@ use bignum::magnitude_of;
 use bits::bits_of;
 pub use bits::signed;
 use call_check::begin;
+use call_check::begin_class;
 use call_check::begin_handle;
-use call_check::check_default;
+use call_check::check_class;
+use call_check::check_class_name;
 use call_check::check_handle;
 use call_check::check_handles_at;
 use call_check::check_magnitude;
 use call_check::check_name;
 use call_check::check_object_names;
+use call_check::check_optional;
 use call_check::wrong_bytes;
 use call_check::wrong_members;
 use call_check::wrong_pairs;
@@ -39,7 +42,7 @@ ghost use lib.ListN.{length};
 ghost use Rattle.definition.specs.Run.{Run};
 ghost use Rattle.definition.specs.Node.{Row, bool, words};
 ghost use Rattle.definition.specs.Arena.{tables-of};
-ghost use Rattle.definition.specs.Build.{Lent, lent, build-call, number-done, words-done, name-done, new-call, get-words, get-kind, get-name, get-root, exchange-root, create-nil, create-bool, create-fixnum, create-new-symbol, create-symbol, create-array, create-hash, create-object, create-string, create-user-defined, create-float, create-bignum, build-call-of, new-call-of};
+ghost use Rattle.definition.specs.Build.{Lent, lent, build-call, number-done, words-done, name-done, new-call, get-words, get-kind, get-name, get-root, exchange-root, exchange-class, create-nil, create-bool, create-fixnum, create-new-symbol, create-symbol, create-array, create-hash, create-object, create-string, create-user-defined, create-float, create-bignum, build-call-of, new-call-of};
 ghost use Rattle.call_check.specs.Tests.{Says};
 ghost use Rattle.value_arena.specs.Calls.{plain, text};
 
@@ -93,6 +96,7 @@ pub fn get(nodes: &[u32], references: &[u32], bytes: &[u8], counts: Counts, h: u
                 nodes[at + Node::COUNT],
                 nodes[at + Node::NAME],
                 nodes[at + Node::DEFAULT],
+                nodes[at + Node::CLASS],
             ];
             Words {
                 answer: Answer::Accepted,
@@ -167,6 +171,39 @@ pub fn replace_root(
     }
 }
 
+// The class is 0 for none, else its name's node + 1, as word 7 holds it; the old word is answered.
+pub fn replace_class(
+    nodes: &mut [u32],
+    references: &[u32],
+    bytes: &[u8],
+    counts: Counts,
+    h: u32,
+    class: u32,
+) -> Created
+    ensures { λ r. ⌜ build-call-of r (now (nodes .exit)) (now (references .entry)) (now (bytes .entry)) ≡ build-call (exchange-class h class) (lent (now (nodes .entry)) (now (references .entry)) (now (bytes .entry)) counts) ⌝ }
+{
+    let count = counts.nodes;
+    match begin_class(nodes, &references[..], &bytes[..], counts, h, class) {
+        Answer::Accepted => match check_class(nodes, count, h) {
+            Answer::Accepted => match check_class_name(nodes, count, class) {
+                Answer::Accepted => {
+                    let at = size(h) * Node::WIDTH + Node::CLASS;
+                    let old = nodes[at];
+                    nodes[at] = class;
+                    Created {
+                        answer: Answer::Accepted,
+                        handle: old,
+                        counts: counts,
+                    }
+                }
+                Answer::Refused(q) => refused(q, counts),
+            },
+            Answer::Refused(q) => refused(q, counts),
+        },
+        Answer::Refused(q) => refused(q, counts),
+    }
+}
+
 // ---- builder
 
 // An arena that holds nil.
@@ -202,7 +239,7 @@ pub fn new(nodes: &mut [u32], references: &mut [u32], bytes: &mut [u8]) -> Begun
 // ---- symbols by name
 
 fn word_of(value: bool) -> u32
-    ensures { λ r. ⌜ words (bool value) ≡ 1 ∷ r ∷ 0 ∷ 0 ∷ 0 ∷ 0 ∷ 0 ∷ [] ⌝ }
+    ensures { λ r. ⌜ words (bool value) ≡ 1 ∷ r ∷ 0 ∷ 0 ∷ 0 ∷ 0 ∷ 0 ∷ 0 ∷ [] ⌝ }
 {
     if value { 1 } else { 0 }
 }
@@ -221,7 +258,7 @@ fn create_plain(
     b: u32,
     n: u32,
 ) -> Created
-    ensures { λ r. ⌜ ((m : Run Lent (Unit {0})) (row : Row) → Says test m (lent (now (nodes .entry)) (now (references .entry)) (now (bytes .entry)) counts) → words row ≡ k ∷ a ∷ b ∷ 0 ∷ n ∷ 0 ∷ 0 ∷ [] → build-call-of r (now (nodes .exit)) (now (references .entry)) (now (bytes .entry)) ≡ build-call (plain m row) (lent (now (nodes .entry)) (now (references .entry)) (now (bytes .entry)) counts)) ⌝ }
+    ensures { λ r. ⌜ ((m : Run Lent (Unit {0})) (row : Row) → Says test m (lent (now (nodes .entry)) (now (references .entry)) (now (bytes .entry)) counts) → words row ≡ k ∷ a ∷ b ∷ 0 ∷ n ∷ 0 ∷ 0 ∷ 0 ∷ [] → build-call-of r (now (nodes .exit)) (now (references .entry)) (now (bytes .entry)) ≡ build-call (plain m row) (lent (now (nodes .entry)) (now (references .entry)) (now (bytes .entry)) counts)) ⌝ }
 {
     match begin(nodes, &references[..], &bytes[..], counts, 0) {
         Answer::Accepted => match test {
@@ -327,7 +364,7 @@ fn create_text(
     value: &[u8],
     k: u32,
 ) -> Created
-    ensures { λ r. ⌜ ((row : ℕ → ℕ → Row) → ((l : ℕ) → words (row (counts .bytes) l) ≡ k ∷ counts .bytes ∷ length (now (value .entry)) ∷ 0 ∷ 0 ∷ 0 ∷ 0 ∷ []) → build-call-of r (now (nodes .exit)) (now (references .entry)) (now (bytes .exit)) ≡ build-call (text (now (value .entry)) row) (lent (now (nodes .entry)) (now (references .entry)) (now (bytes .entry)) counts)) ⌝ }
+    ensures { λ r. ⌜ ((row : ℕ → ℕ → Row) → ((l : ℕ) → words (row (counts .bytes) l) ≡ k ∷ counts .bytes ∷ length (now (value .entry)) ∷ 0 ∷ 0 ∷ 0 ∷ 0 ∷ 0 ∷ []) → build-call-of r (now (nodes .exit)) (now (references .entry)) (now (bytes .exit)) ≡ build-call (text (now (value .entry)) row) (lent (now (nodes .entry)) (now (references .entry)) (now (bytes .entry)) counts)) ⌝ }
 {
     let more = wrong_bytes(value.len());
     match begin(nodes, &references[..], bytes, counts, more) {
@@ -425,7 +462,7 @@ pub fn create_hash(
     let count = counts.nodes;
     match begin(nodes, references, &bytes[..], counts, more) {
         Answer::Accepted => match check_handles_at(&pairs[..], count) {
-            Answer::Accepted => match check_default(default, count) {
+            Answer::Accepted => match check_optional(default, count) {
                 Answer::Accepted => add_list(
                     nodes,
                     references,

@@ -6,24 +6,27 @@ use mathlib.Core.Logic.{_⊎_, inl, inr}
 use mathlib.Core.Bool.{Bool, true, false}
 use mathlib.Core.List.{List}
 use lib.Dec.{eqb, ltb}
-use lib.ListN.{length, set}
+use lib.ListN.{length, getD, set}
 use borrow.Author.Tests.{eq-eqb, ne-eqb, ltb-true, ltb-false}
 use mir.Syntax.{w32}
 use mir.Val.{Fits}
 use Rattle.definition.specs.Run.{pure, pick, look, next, _>>=_}
-use Rattle.definition.specs.Kind.{HASH, HASH-DEFAULT, STRING}
+use Rattle.definition.specs.Kind.{INSTANCE-VARIABLES, ARRAY, HASH, HASH-DEFAULT, OBJECT, STRING}
 use Rattle.definition.specs.Node.{array, hash, object}
 use Rattle.definition.specs.State.{Room, Reader}
-use Rattle.definition.specs.Load.{Hash, HashDefault, note, head, value-of, read-hash, read-variables, read-instance-variables, read-elements, read-pairs, read-default, read-value, read-symbol-like, put-reference, fill, counted}
+use Rattle.definition.specs.Load.{note, read-byte, read-hash, read-variables, read-instance-variables, read-elements, read-pairs, read-default, read-value, read-symbol-like, put-reference, fill, counted}
 use Rattle.definition.specs.Slice.{greatest-length}
-use Rattle.load_state.specs.Holds.{Symbols, Lent, lent, Held, Goes, Leads, Meets, Free, nodes-of, references-of}
+use Rattle.load_state.specs.Holds.{Symbols, Lent, lent, Held, Goes, Leads, Meets, Free, at-of, nodes-of, references-of}
 use Rattle.leaf_reader.specs.Parts.{Leaf}
+use Rattle.leaf_reader.specs.Classes.{read-class, valued, Follows}
+use Rattle.leaf_reader.proofs.Classes.{kinded, class-first, hash-valued, default-valued, string-only, no-second}
 use Rattle.run_reader.specs.Run.{slot, slots, more-of, members}
 use Rattle.loader.specs.Parts.{settle, after-i}
-use Rattle.load_state.specs.Laws.{then, still, held, held-goes, goes-to, goes-part, grew-there, still-below, lead-first, lead-after, lead-stop, lead-as, gives, bind-assoc}
-use Rattle.input_reader.proofs.Heads.{headed}
+use Rattle.load_state.specs.Laws.{then, still, held, held-goes, goes-to, goes-part, goes-first, grew-there, still-below, lead-first, lead-after, lead-stop, lead-as, gives, bind-assoc}
+use Rattle.input_reader.proofs.Input.{byte-goes, byte-missing}
 use Rattle.run_reader.proofs.Run.{slot-put, slot-value}
-use Rattle.reader.specs.Answers.{REFUSED}
+use Rattle.reader.specs.Answers.{REFUSED, coded}
+use Rattle.load_state.specs.Places.{AT}
 
 -- ---- words as elements and as pairs
 
@@ -70,11 +73,11 @@ module _ {A : Type 0} (name inner : Reader ℕ) (names more : ℕ) where
 
 -- what comes after the count, by the kind: the members, and then the node
 module _ (name inner : Reader ℕ) (h : ℕ) where
-  abbrev pub array-of : ℕ → ℕ → Reader ℕ
-  array-of p n = read-elements inner n p >>= λ _. fill h (array p n)
+  abbrev pub array-of : ℕ → ℕ → ℕ → Reader ℕ
+  array-of class p n = read-elements inner n p >>= λ _. fill h (array p n class)
 
-  abbrev pub hash-of : ℕ → ℕ → ℕ → Reader ℕ
-  hash-of more p n = read-elements inner (n * 2) p >>= λ _. read-default (eqb more 1) inner h p n
+  abbrev pub hash-of : ℕ → ℕ → ℕ → ℕ → Reader ℕ
+  hash-of more class p n = read-elements inner (n * 2) p >>= λ _. read-default (eqb more 1) inner class h p n
 
   abbrev pub object-of : ℕ → ℕ → ℕ → Reader ℕ
   object-of w p n = read-pairs name inner n p >>= λ _. fill h (object p n w)
@@ -83,17 +86,17 @@ module _ (name inner : Reader ℕ) (h : ℕ) where
   variables-of p n = read-pairs name inner n p >>= λ _. settle h p n
 
   module _ (p n : ℕ) where
-    pub array-rest : array-of p n ≡ rest name inner 2 0 (λ _. fill h (array p n)) (n * 1) p
+    pub array-rest : (class : ℕ) → array-of class p n ≡ rest name inner 2 0 (λ _. fill h (array p n class)) (n * 1) p
     unfolding more-of pure _>>=_ next
-    array-rest =
+    array-rest class =
         let e : n ≡ n * 1 = omega arith in
-        ap (λ (m : Reader (Unit {0})). m >>= λ _. fill h (array p n)) (ap (λ (k : ℕ). read-elements inner k p) e ∙ sym (slots-elements name inner (n * 1) p))
+        ap (λ (m : Reader (Unit {0})). m >>= λ _. fill h (array p n class)) (ap (λ (k : ℕ). read-elements inner k p) e ∙ sym (slots-elements name inner (n * 1) p))
 
-    pub hash-rest : (more : ℕ) → more ≤ 1 → hash-of more p n ≡ rest name inner 2 more (λ d. fill h (hash p n (d + more))) (n * 2) p
+    pub hash-rest : (more class : ℕ) → more ≤ 1 → hash-of more class p n ≡ rest name inner 2 more (λ d. fill h (hash p n (d + more) class)) (n * 2) p
     unfolding more-of read-default pure _>>=_ next
-    hash-rest zero l = ap (λ (m : Reader (Unit {0})). m >>= λ _. fill h (hash p n 0)) (sym (slots-elements name inner (n * 2) p))
-    hash-rest (suc zero) l = ap (λ (m : Reader (Unit {0})). m >>= λ _. inner >>= λ d. fill h (hash p n (d + 1))) (sym (slots-elements name inner (n * 2) p))
-    hash-rest (suc (suc more)) l = absurd (omega arith)
+    hash-rest zero class l = ap (λ (m : Reader (Unit {0})). m >>= λ _. fill h (hash p n 0 class)) (sym (slots-elements name inner (n * 2) p))
+    hash-rest (suc zero) class l = ap (λ (m : Reader (Unit {0})). m >>= λ _. inner >>= λ d. fill h (hash p n (d + 1) class)) (sym (slots-elements name inner (n * 2) p))
+    hash-rest (suc (suc more)) class l = absurd (omega arith)
 
     pub object-rest : (names w : ℕ) → p % 2 ≡ names → object-of w p n ≡ rest name inner names 0 (λ _. fill h (object p n w)) (n * 2) p
     unfolding more-of pure _>>=_ next
@@ -171,16 +174,50 @@ module _ {k more : ℕ} (h : (k ≡ HASH) ⊎ (k ≡ HASH-DEFAULT)) (f : (k ≡ 
   pub defaults-one : more ≤ 1
   defaults-one = by-hash (λ e z. omega (arith, z)) (λ e z. omega (arith, z))
 
-  pub hash-headed : {input : List ℕ} {room : Room} {limit : ℕ} {T T' : Lent} {c c' : List ℕ} {r : ℕ} {m' : Reader ℕ} (inner : Reader ℕ) → Leads input room limit (read-hash (eqb more 1) input room inner) m' T c r T' c' → Leads input room limit (value-of input room inner k (head k)) m' T c r T' c'
-  unfolding head pick value-of
-  hash-headed {input} {room} inner m =
+  pub hash-headed : {input : List ℕ} {room : Room} {limit : ℕ} {T T' : Lent} {c c' : List ℕ} {r : ℕ} {m' : Reader ℕ} (inner : Reader ℕ) (w : ℕ) → Leads input room limit (read-hash (eqb more 1) input room inner w) m' T c r T' c' → Leads input room limit (valued input room inner k w) m' T c r T' c'
+  hash-headed {input} {room} inner w m =
       by-hash
-      (λ e z. headed inner k Hash (ap head e) (lead-as (ap (λ (x : ℕ). read-hash (eqb x 1) input room inner) (sym z)) m))
-      (λ e z. headed inner k HashDefault (ap head e) (lead-as (ap (λ (x : ℕ). read-hash (eqb x 1) input room inner) (sym z)) m))
+      (λ e z. lead-as (hash-valued input room inner w e ∙ ap (λ (x : ℕ). read-hash (eqb x 1) input room inner w) (sym z)) m)
+      (λ e z. lead-as (default-valued input room inner w e ∙ ap (λ (x : ℕ). read-hash (eqb x 1) input room inner w) (sym z)) m)
+
+-- ---- a value: its class, and its kind byte
+
+module _ {input : List ℕ} {room : Room} {limit : ℕ} {T T' : Lent} {c c' : List ℕ} (levels w : ℕ) (n : levels ≡ 0 → ⊥) (m : Meets input room limit (read-class input room) T c w T' c') where
+  abbrev next-level : Reader ℕ
+  next-level = read-value input room limit (levels - 1)
+
+  -- the class is read, and the kind byte is left
+  class-led : Leads input room limit (read-value input room limit levels) (kinded input room next-level w) T c w T' c'
+  unfolding read-value
+  class-led =
+      let a : levels ≡ suc (levels - 1) = omega arith in
+      subst (λ (x : ℕ). Leads input room limit (read-value input room limit x) (kinded input room next-level w) T c w T' c') (sym a)
+      (lead-as (λ i s. class-first input room next-level s i) (lead-first (kinded input room next-level) m))
+
+  pub class-refused : {m' : Reader ℕ} {T'' : Lent} {c'' : List ℕ} → REFUSED ≤ w → Leads input room limit (read-value input room limit levels) m' T c w T'' c''
+  class-refused l = lead-stop l class-led
+
+  pub no-kind : {m' : Reader ℕ} {T'' : Lent} {c'' : List ℕ} → w < REFUSED → length input ≤ at-of c' → Leads input room limit (read-value input room limit levels) m' T c (coded 4 0) T'' c''
+  no-kind l h = lead-after (class-led .goes l) (lead-stop {T' = T'} {c' = c'} (omega arith) (lead-first {a = 0} _ (byte-missing h)))
+
+  -- and the kind byte
+  pub kind-led : w < REFUSED → at-of c' < length input → Goes input room (read-value input room limit levels) T c (valued input room next-level (getD input (at-of c') 0) w) T' (set c' AT (at-of c' + 1))
+  kind-led l h = then (class-led .goes l) (goes-first _ (byte-goes h))
+
+-- a state is held after both
+pub kind-held : {input : List ℕ} {T T' : Lent} {c c' : List ℕ} {w : ℕ} → Held input T c → w < REFUSED → ((room : Room) → Meets input room 0 (read-class input room) T c w T' c') → at-of c' < length input → Held input T' (set c' AT (at-of c' + 1))
+kind-held H l m h = held-goes {m = λ room. read-byte _} {m' = λ room. _} (held {m = λ room. read-class _ room} {m' = λ room. _} H l m) (λ room. byte-goes h)
+
+-- another kind byte than those of values with members, and whether it can have the class
+pub leaf-kind : (w k : ℕ) → Follows w k → (k ≡ ARRAY → ⊥) → ((k ≡ HASH) ⊎ (k ≡ HASH-DEFAULT) → ⊥) → (k ≡ OBJECT → ⊥) → (k ≡ INSTANCE-VARIABLES → ⊥) → Leaf k × ((w ≡ 0) ⊎ (k ≡ STRING))
+leaf-kind w k f a h o i = (
+  record { array = a; hash = λ e. h (inl e); default = λ e. h (inr e); object = o; variables = i; class = no-second w k f },
+  string-only w k f a (λ e. h (inl e)) (λ e. h (inr e)),
+)
 
 -- a string's kind byte is no container's
 pub string-leaf : Leaf STRING
-string-leaf = record { array = omega arith; hash = omega arith; default = omega arith; object = omega arith; variables = omega arith }
+string-leaf = record { array = omega arith; hash = omega arith; default = omega arith; object = omega arith; variables = omega arith; class = omega arith }
 
 -- ---- a node whose members are read
 

@@ -5,6 +5,7 @@
 use definition::Node;
 use definition::ValueKind;
 use input_reader::read_header;
+use leaf_reader::read_class;
 use leaf_reader::read_leaf;
 use load_state::AT;
 use load_state::COUNTS;
@@ -116,9 +117,10 @@ fn read_array(
     buckets: &mut [u32],
     c: &mut [usize; COUNTS],
     levels: u32,
+    class: u32,
 ) -> u64
     requires { ⌜ Held (now input) (lent (now nodes) (now references) (now bytes) (by-buckets (now symbols) (now buckets)) (now objects)) (now c) ⌝ }
-    ensures { λ r. ⌜ ((room : Room) (limit : ℕ) → Meets (now (input .entry)) room limit (read-array (now (input .entry)) room (read-value (now (input .entry)) room limit levels)) (lent (now (nodes .entry)) (now (references .entry)) (now (bytes .entry)) (by-buckets (now (symbols .entry)) (now (buckets .entry))) (now (objects .entry))) (now (c .entry)) r (lent (now (nodes .exit)) (now (references .exit)) (now (bytes .exit)) (by-buckets (now (symbols .exit)) (now (buckets .exit))) (now (objects .exit))) (now (c .exit))) ⌝ }
+    ensures { λ r. ⌜ ((room : Room) (limit : ℕ) → Meets (now (input .entry)) room limit (read-array (now (input .entry)) room (read-value (now (input .entry)) room limit levels) class) (lent (now (nodes .entry)) (now (references .entry)) (now (bytes .entry)) (by-buckets (now (symbols .entry)) (now (buckets .entry))) (now (objects .entry))) (now (c .entry)) r (lent (now (nodes .exit)) (now (references .exit)) (now (bytes .exit)) (by-buckets (now (symbols .exit)) (now (buckets .exit))) (now (objects .exit))) (now (c .exit))) ⌝ }
     ensures { λ r. ⌜ (r < REFUSED → r < nodes-of (now (c .exit))) ⌝ }
 {
     let h = open_node(nodes, objects, c);
@@ -149,7 +151,7 @@ fn read_array(
     if REFUSED <= w {
         return w;
     }
-    fill_node(nodes, h, Node::ARRAY, start as u32, n as u32, 0, 0)
+    fill_node(nodes, h, Node::ARRAY, start as u32, n as u32, 0, 0, class)
 }
 
 // How many defaults come after the members, by the kind byte: one after `}`.
@@ -171,9 +173,10 @@ fn read_hash(
     c: &mut [usize; COUNTS],
     more: usize,
     levels: u32,
+    class: u32,
 ) -> u64
     requires { ⌜ (more ≤ 1) × Held (now input) (lent (now nodes) (now references) (now bytes) (by-buckets (now symbols) (now buckets)) (now objects)) (now c) ⌝ }
-    ensures { λ r. ⌜ ((room : Room) (limit : ℕ) → Meets (now (input .entry)) room limit (read-hash (eqb more 1) (now (input .entry)) room (read-value (now (input .entry)) room limit levels)) (lent (now (nodes .entry)) (now (references .entry)) (now (bytes .entry)) (by-buckets (now (symbols .entry)) (now (buckets .entry))) (now (objects .entry))) (now (c .entry)) r (lent (now (nodes .exit)) (now (references .exit)) (now (bytes .exit)) (by-buckets (now (symbols .exit)) (now (buckets .exit))) (now (objects .exit))) (now (c .exit))) ⌝ }
+    ensures { λ r. ⌜ ((room : Room) (limit : ℕ) → Meets (now (input .entry)) room limit (read-hash (eqb more 1) (now (input .entry)) room (read-value (now (input .entry)) room limit levels) class) (lent (now (nodes .entry)) (now (references .entry)) (now (bytes .entry)) (by-buckets (now (symbols .entry)) (now (buckets .entry))) (now (objects .entry))) (now (c .entry)) r (lent (now (nodes .exit)) (now (references .exit)) (now (bytes .exit)) (by-buckets (now (symbols .exit)) (now (buckets .exit))) (now (objects .exit))) (now (c .exit))) ⌝ }
     ensures { λ r. ⌜ (r < REFUSED → r < nodes-of (now (c .exit))) ⌝ }
 {
     let h = open_node(nodes, objects, c);
@@ -212,6 +215,7 @@ fn read_hash(
         n as u32,
         0,
         d as u32 + more as u32,
+        class,
     )
 }
 
@@ -270,6 +274,7 @@ fn read_object(
         n as u32,
         name as u32,
         0,
+        0,
     )
 }
 
@@ -304,6 +309,7 @@ fn read_inner(
                     buckets,
                     c,
                     ValueKind::STRING,
+                    0,
                 );
             }
         }
@@ -383,7 +389,7 @@ fn read_variables(
     set_variables(nodes, h, start as u32, n as u32)
 }
 
-// A value, while there are levels left.
+// A value, while there are levels left: its class, its kind byte, and the rest.
 fn read_value(
     input: &[u8],
     nodes: &mut [u32],
@@ -402,6 +408,10 @@ fn read_value(
     if levels == 0 {
         return TOO_DEEP;
     }
+    let class = read_class(&input[..], nodes, bytes, symbols, buckets, c);
+    if REFUSED <= class {
+        return class;
+    }
     let at = c[AT];
     if input.len() <= at {
         return SHORT_INPUT;
@@ -419,6 +429,7 @@ fn read_value(
             buckets,
             c,
             levels - 1,
+            class as u32,
         ),
         ValueKind::HASH | ValueKind::HASH_DEFAULT => read_hash(
             &input[..],
@@ -431,6 +442,7 @@ fn read_value(
             c,
             defaults(k),
             levels - 1,
+            class as u32,
         ),
         ValueKind::OBJECT => read_object(
             &input[..],
@@ -454,7 +466,17 @@ fn read_value(
             c,
             levels - 1,
         ),
-        _ => read_leaf(&input[..], nodes, bytes, symbols, objects, buckets, c, k),
+        _ => read_leaf(
+            &input[..],
+            nodes,
+            bytes,
+            symbols,
+            objects,
+            buckets,
+            c,
+            k,
+            class as u32,
+        ),
     }
 }
 

@@ -10,7 +10,7 @@ use Rattle.definition.specs.declared.Refusal.{Refusal}
 use Rattle.definition.specs.declared.Refusal.the-variants.{TooDeep}
 use Rattle.definition.specs.Run.{pure, refuse, _>>=_, look, pick}
 use Rattle.definition.specs.Integer.{Form, value, data-bytes, form}
-use Rattle.definition.specs.Node.{Row, nil, bool, fixnum, symbol, array, hash, object, string, user, float, bignum}
+use Rattle.definition.specs.Node.{Row, nil, fixnum, symbol}
 use Rattle.definition.specs.Arena.{find-symbol}
 use Rattle.definition.specs.State.{State, Room, Reader}
 use Rattle.definition.specs.Load.{Head, takes-variables}
@@ -176,18 +176,18 @@ module _ {R : Relation} {Inner : Reader ℕ → Reader ℕ → Type 0} {input in
     unfolding L.read-instance-variables
     read-instance-variables x = counted 2 λ start k. walk .then (read-pairs k start) λ _. x start k
 
-    read-array : R ℕ (L.read-array input room v) (L.read-array input′ room′ w)
+    read-array : (class : ℕ) → R ℕ (L.read-array input room v class) (L.read-array input′ room′ w class)
     unfolding L.read-array
-    read-array = walk .then (add-object-node nil) λ h. counted 1 λ start k. walk .then (read-elements k start) λ _. walk .fill h _
+    read-array class = walk .then (add-object-node nil) λ h. counted 1 λ start k. walk .then (read-elements k start) λ _. walk .fill h _
 
-    read-default : (b : Bool) (h start k : ℕ) → R ℕ (L.read-default b v h start k) (L.read-default b w h start k)
+    read-default : (b : Bool) (class h start k : ℕ) → R ℕ (L.read-default b v class h start k) (L.read-default b w class h start k)
     unfolding L.read-default
-    read-default true h start k = walk .then (walk .plain inner) λ d. walk .fill h _
-    read-default false h start k = walk .fill h _
+    read-default true class h start k = walk .then (walk .plain inner) λ d. walk .fill h _
+    read-default false class h start k = walk .fill h _
 
-    read-hash : (b : Bool) → R ℕ (L.read-hash b input room v) (L.read-hash b input′ room′ w)
+    read-hash : (b : Bool) (class : ℕ) → R ℕ (L.read-hash b input room v class) (L.read-hash b input′ room′ w class)
     unfolding L.read-hash
-    read-hash b = walk .then (add-object-node nil) λ h. counted 2 λ start k. walk .then (read-elements (k * 2) start) λ _. read-default b h start k
+    read-hash b class = walk .then (add-object-node nil) λ h. counted 2 λ start k. walk .then (read-elements (k * 2) start) λ _. read-default b class h start k
 
     read-object : R ℕ (L.read-object input room v) (L.read-object input′ room′ w)
     unfolding L.read-object
@@ -196,6 +196,10 @@ module _ {R : Relation} {Inner : Reader ℕ → Reader ℕ → Type 0} {input in
     read-variables : R ℕ (L.read-variables input room v) (L.read-variables input′ room′ w)
     unfolding L.read-variables
     read-variables = walk .ahead inner λ h. read-instance-variables λ start k. walk .looking λ u. set-variables h start k _
+
+    read-user-class : R ℕ (L.read-user-class input room v) (L.read-user-class input′ room′ w)
+    unfolding L.read-user-class L.read-wrapped L.read-string
+    read-user-class = walk .then read-symbol-like λ c. walk .then (walk .read-byte) λ k. either _ (read-text _) (either _ (read-array _) (either _ (read-hash false _) (either _ (read-hash true _) (walk .stop _))))
 
     value-of : (k : ℕ) (h : Head) → R ℕ (L.value-of input room v k h) (L.value-of input′ room′ w k h)
     unfolding L.value-of L.read-string L.read-float
@@ -207,14 +211,15 @@ module _ {R : Relation} {Inner : Reader ℕ → Reader ℕ → Type 0} {input in
     value-of k Head.SymbolLink = read-symbol-link
     value-of k Head.ObjectLink = read-object-link
     value-of k Head.InstanceVariables = read-variables
-    value-of k Head.Array = read-array
-    value-of k Head.Hash = read-hash false
-    value-of k Head.HashDefault = read-hash true
+    value-of k Head.Array = read-array 0
+    value-of k Head.Hash = read-hash false 0
+    value-of k Head.HashDefault = read-hash true 0
     value-of k Head.Object = read-object
     value-of k Head.String = read-text _
     value-of k Head.UserDefined = read-user-defined
     value-of k Head.Float = read-text _
     value-of k Head.Bignum = read-bignum
+    value-of k Head.UserClass = read-user-class
     value-of k Head.Unknown = walk .stop _
 
   pub read-value : (levels : ℕ) → R ℕ (L.read-value input room limit levels) (L.read-value input′ room′ limit′ (raised extra levels))

@@ -10,7 +10,7 @@ use lib.ListN.{length, getD, take}
 use borrow.Author.Tests.{ne-eqb}
 use Rattle.definition.specs.Run.{ok, pick}
 use Rattle.definition.specs.Refused.{signed}
-use Rattle.definition.specs.Node.{Row, fixnum, float, row, row-of, width, START, LENGTH, LIST, COUNT, NAME, DEFAULT, kind, words}
+use Rattle.definition.specs.Node.{Row, fixnum, float, row, row-of, width, START, LENGTH, LIST, COUNT, NAME, DEFAULT, CLASS, kind, words}
 use Rattle.definition.specs.Arena.{arena, node, range}
 use Rattle.definition.specs.Build.{Lent, held, words-at, check}
 use Rattle.definition.specs.Weight.{decimal, text-reading, row-reading}
@@ -40,17 +40,17 @@ module _ (t : List ℕ) (h : ℕ) where
   abbrev first : ℕ
   first = getD t (h * width) 0
 
-  said : row (words-at t h) ≡ row-of first (at START) (at LENGTH) (at LIST) (at COUNT) (at NAME) (at DEFAULT)
+  said : row (words-at t h) ≡ row-of first (at START) (at LENGTH) (at LIST) (at COUNT) (at NAME) (at DEFAULT) (at CLASS)
   unfolding words-at
   said = words-said t h
 
   is-fixnum : first ≡ 2 → row (words-at t h) ≡ fixnum (at START)
   unfolding row-of pick
-  is-fixnum e = said ∙ ap (λ (k : ℕ). row-of k (at START) (at LENGTH) (at LIST) (at COUNT) (at NAME) (at DEFAULT)) e
+  is-fixnum e = said ∙ ap (λ (k : ℕ). row-of k (at START) (at LENGTH) (at LIST) (at COUNT) (at NAME) (at DEFAULT) (at CLASS)) e
 
   is-float : first ≡ 9 → row (words-at t h) ≡ float (at START) (at LENGTH)
   unfolding row-of pick
-  is-float e = said ∙ ap (λ (k : ℕ). row-of k (at START) (at LENGTH) (at LIST) (at COUNT) (at NAME) (at DEFAULT)) e
+  is-float e = said ∙ ap (λ (k : ℕ). row-of k (at START) (at LENGTH) (at LIST) (at COUNT) (at NAME) (at DEFAULT) (at CLASS)) e
 
   pub reads-whole : (bs : List ℕ) → first ≡ 2 → Whole (signed (at START)) ≡ row-reading bs (row (words-at t h))
   unfolding row-reading kind words pick
@@ -64,7 +64,7 @@ module _ (t : List ℕ) (h : ℕ) where
   unfolding row-of row-reading kind words pick
   reads-other bs n m =
       let k = first in
-      let e : row-reading bs (row-of k (at START) (at LENGTH) (at LIST) (at COUNT) (at NAME) (at DEFAULT)) ≡ NotANumber =
+      let e : row-reading bs (row-of k (at START) (at LENGTH) (at LIST) (at COUNT) (at NAME) (at DEFAULT) (at CLASS)) ≡ NotANumber =
       either bs (eqb k 1) _ _ refl
       (second bs (eqb k 2) _ _ (ne-eqb k 2 n)
       (either bs (eqb k 3) _ _ refl

@@ -4,7 +4,7 @@ use mathlib.Core.Path.{_≡_, refl, ap, _∙_}
 use mathlib.Core.List.{List}
 use lib.ListN.{length, getD, List·getD-eq-default}
 use native.Mathlib.Omega.{arith}
-use Rattle.definition.specs.Node.{Row, nil, bool, fixnum, symbol, array, hash, object, string, user, float, bignum, width, START, LENGTH, LIST, COUNT, NAME, DEFAULT, symbol-kind, kind, row-of, rows}
+use Rattle.definition.specs.Node.{Row, nil, bool, fixnum, symbol, array, hash, object, string, user, float, bignum, width, START, LENGTH, LIST, COUNT, NAME, DEFAULT, CLASS, symbol-kind, kind, row-of, rows}
 use Rattle.definition.specs.Arena.{Arena, node}
 use Rattle.lists.specs.Lists.{At, getD-at, at-getD}
 use Rattle.lists.specs.Tables.{length-rows, words-row}
@@ -24,10 +24,10 @@ symbol-row nil e = absurd (omega arith)
 symbol-row (bool b) e = absurd (omega arith)
 symbol-row (fixnum w) e = absurd (omega arith)
 symbol-row (symbol s l) e = (s, l, refl)
-symbol-row (array s n) e = absurd (omega arith)
-symbol-row (hash s n d) e = absurd (omega arith)
+symbol-row (array s n w) e = absurd (omega arith)
+symbol-row (hash s n d w) e = absurd (omega arith)
 symbol-row (object s n c) e = absurd (omega arith)
-symbol-row (string s l v) e = absurd (omega arith)
+symbol-row (string s l v w) e = absurd (omega arith)
 symbol-row (user s l c v) e = absurd (omega arith)
 symbol-row (float s l) e = absurd (omega arith)
 symbol-row (bignum low high m) e = absurd (omega arith)
@@ -39,7 +39,7 @@ Name A c = (s : ℕ) × (l : ℕ) × At (A .nodes) c (symbol s l)
 -- ---- a node by the words of the table
 
 module _ (A : Arena) (count : ℕ) (t : List ℕ) (e : A .nodes ≡ rows count t) (i : ℕ) where
-  pub node-row : i < count → node A i ≡ row-of (getD t (i * width) 0) (getD t (i * width + START) 0) (getD t (i * width + LENGTH) 0) (getD t (i * width + LIST) 0) (getD t (i * width + COUNT) 0) (getD t (i * width + NAME) 0) (getD t (i * width + DEFAULT) 0)
+  pub node-row : i < count → node A i ≡ row-of (getD t (i * width) 0) (getD t (i * width + START) 0) (getD t (i * width + LENGTH) 0) (getD t (i * width + LIST) 0) (getD t (i * width + COUNT) 0) (getD t (i * width + NAME) 0) (getD t (i * width + DEFAULT) 0) (getD t (i * width + CLASS) 0)
   unfolding node
   node-row l = ap (λ (rs : List Row). getD rs i nil) e ∙ words-row count t i l
 

@@ -4,16 +4,16 @@ use mathlib.Core.Path.{_≡_, refl, ap}
 use mathlib.Core.Path.{sym as psym, _∙_}
 use mathlib.Core.Bool.{Bool, true, false, not, _&&_}
 use mathlib.Core.Option.{none, some}
-use mathlib.Core.List.{List, [], _∷_}
+use mathlib.Core.List.{List, [], _∷_, _++_}
 use lib.Dec.{ltb, leb, eqb, T}
 use lib.ListN.{length, getD}
 use lib.Seq.{length-take-le}
 use native.Mathlib.Omega.{arith}
 use borrow.Author.Tests.{eqb-true, eq-eqb, leb-true, ltb-true}
-use Rattle.definition.specs.Node.{Row, Vars, nil, bool, fixnum, symbol, array, hash, object, string, user, float, bignum, absent, present, width, symbol-kind, kind, row, rows, is-row}
+use Rattle.definition.specs.Node.{Row, Vars, nil, bool, fixnum, symbol, array, hash, object, string, user, float, bignum, absent, present, width, symbol-kind, kind, row, rows, is-row, optional-node}
 use Rattle.definition.specs.Magnitude.{fits, magnitude}
-use Rattle.definition.specs.Arena.{Tables, Arena, arena, node, range, firsts, all-below, is-name, all-names, bytes-right, list-right, pairs-right, vars-right, number-right, row-right, node-right, counts-fit, fault}
-use Rattle.definition.specs.Graph.{links, vars-links, default-link}
+use Rattle.definition.specs.Arena.{Tables, Arena, arena, node, range, firsts, all-below, is-name, all-names, bytes-right, list-right, pairs-right, vars-right, class-right, number-right, row-right, node-right, counts-fit, fault}
+use Rattle.definition.specs.Graph.{links, vars-links}
 use Rattle.definition.specs.declared.Counts.{Counts}
 use Rattle.lists.specs.Joined.{and-left, and-right, pick-true}
 use Rattle.lists.specs.Lists.{At, at-lt, no-at, apart, Below, below-join, below-first, getD-at}
@@ -50,6 +50,10 @@ abbrev pub VarsRight : Arena → Vars → Type 0
 VarsRight A absent = Unit {0}
 VarsRight A (present s n) = PairsIn A s n
 
+-- a class, where there is one, is a name
+abbrev pub ClassRight : Arena → ℕ → Type 0
+ClassRight A w = (k c : ℕ) → At (optional-node w) k c → Name A c
+
 -- a Bignum's magnitude fits, and zero is plus
 abbrev pub NumberRight : ℕ → Bool → Type 0
 NumberRight m minus = (fits m ≡ true) × (m ≡ 0 → minus ≡ false)
@@ -59,10 +63,10 @@ RowRight A nil = Unit {0}
 RowRight A (bool b) = Unit {0}
 RowRight A (fixnum w) = Unit {0}
 RowRight A (symbol s l) = BytesIn A s l
-RowRight A (array s n) = ListIn A s n
-RowRight A (hash s n d) = ListIn A s (n * 2) × (d ≤ length (A .nodes))
+RowRight A (array s n w) = ListIn A s n × ClassRight A w
+RowRight A (hash s n d w) = ListIn A s (n * 2) × (d ≤ length (A .nodes)) × ClassRight A w
 RowRight A (object s n c) = Name A c × PairsIn A s n
-RowRight A (string s l v) = BytesIn A s l × VarsRight A v
+RowRight A (string s l v w) = BytesIn A s l × VarsRight A v × ClassRight A w
 RowRight A (user s l c v) = BytesIn A s l × Name A c × VarsRight A v
 RowRight A (float s l) = BytesIn A s l
 RowRight A (bignum low high m) = NumberRight (magnitude low high) m
@@ -119,6 +123,10 @@ module _ (A : Arena) where
   vars-of absent e = tt
   vars-of (present s n) e = pairs-of s n e
 
+  pub class-of : (w : ℕ) → class-right A w ≡ true → ClassRight A w
+  unfolding class-right
+  class-of w e = names-of (optional-node w) e
+
   number-of : (m : ℕ) (minus : Bool) → number-right m minus ≡ true → NumberRight m minus
   unfolding number-right
   number-of m minus e = (and-left (fits m) (not (minus && eqb m 0)) e, λ z. plus minus (eq-eqb m 0 z) (and-right (fits m) (not (minus && eqb m 0)) e))
@@ -133,19 +141,26 @@ module _ (A : Arena) where
   right-of (bool b) e = tt
   right-of (fixnum w) e = tt
   right-of (symbol s l) e = leb-true _ _ e
-  right-of (array s n) e = list-of s n e
-  right-of (hash s n d) e =
+  right-of (array s n w) e =
+      let p = list-right A s n in
+      let q = class-right A w in
+      (list-of s n (and-left p q e), class-of w (and-right p q e))
+  right-of (hash s n d w) e =
       let p = list-right A s (n * 2) in
       let q : Bool = leb d (length (A .nodes)) in
-      (list-of s (n * 2) (and-left p q e), leb-true _ _ (and-right p q e))
+      let r = class-right A w in
+      let h = and-left (p && q) r e in
+      (list-of s (n * 2) (and-left p q h), leb-true _ _ (and-right p q h), class-of w (and-right (p && q) r e))
   right-of (object s n c) e =
       let p = is-name A c in
       let q = pairs-right A s n in
       (name-of-test c (and-left p q e), pairs-of s n (and-right p q e))
-  right-of (string s l v) e =
+  right-of (string s l v w) e =
       let p = bytes-right A s l in
       let q = vars-right A v in
-      (leb-true _ _ (and-left p q e), vars-of v (and-right p q e))
+      let r = class-right A w in
+      let h = and-left (p && q) r e in
+      (leb-true _ _ (and-left p q h), vars-of v (and-right p q h), class-of w (and-right (p && q) r e))
   right-of (user s l c v) e =
       let p = bytes-right A s l in
       let q = is-name A c in
@@ -216,10 +231,13 @@ module _ (A : Arena) where
   vars-below absent h k u e = apart (cc)
   vars-below (present s n) h k u e = h .list .below k u e
 
-  pub default-below : (d : ℕ) → d ≤ length (A .nodes) → Below (length (A .nodes)) (default-link d)
-  unfolding default-link
+  pub default-below : (d : ℕ) → d ≤ length (A .nodes) → Below (length (A .nodes)) (optional-node d)
+  unfolding optional-node
   default-below zero h k u e = apart (cc)
   default-below (suc d) h k u e = below-first (length (A .nodes)) d [] h (λ j w a. apart (cc)) k u e
+
+  pub class-below : (w : ℕ) → ClassRight A w → Below (length (A .nodes)) (optional-node w)
+  class-below w h k u e = name-below A u (h k u e)
 
   pub links-below : (r : Row) → RowRight A r → Below (length (A .nodes)) (links A r)
   unfolding links
@@ -227,10 +245,12 @@ module _ (A : Arena) where
   links-below (bool b) h k v e = apart (cc)
   links-below (fixnum w) h k v e = apart (cc)
   links-below (symbol s l) h k v e = apart (cc)
-  links-below (array s n) h k v e = h .below k v e
-  links-below (hash s n d) h k v e = below-join _ (range (A .references) s (n * 2)) (default-link d) (h .0 .below) (default-below d (h .1)) k v e
+  links-below (array s n w) h k v e = below-join _ (optional-node w) (range (A .references) s n) (class-below w (h .1)) (h .0 .below) k v e
+  links-below (hash s n d w) h k v e =
+      below-join _ (optional-node w) (range (A .references) s (n * 2) ++ optional-node d) (class-below w (h .2))
+      (below-join _ (range (A .references) s (n * 2)) (optional-node d) (h .0 .below) (default-below d (h .1))) k v e
   links-below (object s n c) h k v e = below-first _ c (range (A .references) s (n * 2)) (name-below A c (h .0)) (h .1 .list .below) k v e
-  links-below (string s l v) h k u e = vars-below v (h .1) k u e
+  links-below (string s l v w) h k u e = below-join _ (optional-node w) (vars-links A v) (class-below w (h .2)) (vars-below v (h .1)) k u e
   links-below (user s l c v) h k u e = below-first _ c (vars-links A v) (name-below A c (h .1)) (vars-below v (h .2)) k u e
   links-below (float s l) h k v e = apart (cc)
   links-below (bignum low high m) h k v e = apart (cc)

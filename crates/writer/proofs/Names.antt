@@ -1,21 +1,22 @@
 -- Byte strings and symbols: the definition's bytes are the table's.
-use Prim.Native.Nat.{ℕ, _+_, _-_, _*_, _≤_, _<_}
+use Prim.Native.Nat.{ℕ, suc, _+_, _-_, _*_, _≤_, _<_}
 use native.Mathlib.Omega.{arith}
 use mathlib.Core.Path.{_≡_, refl, sym, ap, _∙_, subst}
 use mathlib.Core.List.{List, _∷_, _++_}
 use lib.ListN.{length, getD, set, take, drop, length-drop}
 use lib.Seq.{sets, length-take-le}
-use Rattle.definition.specs.Run.{look, pick}
+use Rattle.definition.specs.Run.{pure, look, pick}
 use Rattle.definition.specs.Integer.{integer-bytes}
-use Rattle.definition.specs.Kind.{SYMBOL, SYMBOL-LINK}
-use Rattle.definition.specs.Node.{width, Row, symbol, kind, row-of, START, LENGTH, words}
+use Rattle.definition.specs.Kind.{SYMBOL, SYMBOL-LINK, USER-CLASS}
+use Rattle.definition.specs.Node.{width, Row, symbol, kind, row-of, START, LENGTH, words, optional-node}
 use Rattle.definition.specs.Arena.{Arena, node, range, name-of}
-use Rattle.definition.specs.Dump.{_>>_, write, number-symbol, link-or, byte-string-bytes, write-symbol, write-name}
+use Rattle.definition.specs.Dump.{_>>_, write, number-symbol, link-or, byte-string-bytes, write-symbol, write-name, write-class}
 use Rattle.lists.specs.Ranges.{length-range, range-front}
 use Rattle.lists.specs.Rows.{kind-is, row-3}
-use Rattle.well_formed.specs.Nodes.{at-node}
-use Rattle.well_formed.specs.Right.{BytesIn, RowRight}
-use Rattle.writer.specs.Held.{Buffers, buffers, Lent, IsSymbol, Goes, Meets}
+use Rattle.lists.specs.Lists.{at-lt}
+use Rattle.well_formed.specs.Nodes.{at-node, node-at, Name}
+use Rattle.well_formed.specs.Right.{BytesIn, RowRight, ClassRight}
+use Rattle.writer.specs.Held.{Buffers, buffers, Lent, IsSymbol, named, Goes, Meets}
 use Rattle.writer.specs.Laws.{then, went}
 use Rattle.writer.proofs.Steps.{chunk, no-chunk, symbol-numbered, word-none, word-some}
 
@@ -49,8 +50,8 @@ module _ {A : Arena} {room limit : ℕ} {sc out c : List ℕ} (by : List ℕ) (s
 pub right-row : {A : Arena} {no by : List ℕ} → Lent A no by → (v : ℕ) → v < length (A .nodes) → (r : Row) → node A v ≡ r → RowRight A r
 right-row {A} L v below r e = subst (RowRight A) e (L .right .rows-right v (node A v) (at-node A v below))
 
-is-three : (k a b s n c f : ℕ) → kind (row-of k a b s n c f) ≡ 3 → k ≡ 3
-is-three k a b s n c f e = kind-is k a b s n c f 3 e (omega arith)
+is-three : (k a b s n c f w : ℕ) → kind (row-of k a b s n c f w) ≡ 3 → k ≡ 3
+is-three k a b s n c f w e = kind-is k a b s n c f w 3 e (omega arith)
 
 module _ {A : Arena} {no by : List ℕ} {v : ℕ} (L : Lent A no by) (S : IsSymbol A v) where
   abbrev start : ℕ
@@ -62,8 +63,8 @@ module _ {A : Arena} {no by : List ℕ} {v : ℕ} (L : Lent A no by) (S : IsSymb
   symbol-row : node A v ≡ symbol (getD no (v * width + START) 0) (getD no (v * width + LENGTH) 0)
   symbol-row =
       let e = L .noded .row-at v (S .below) in
-      let k : getD no (v * width) 0 ≡ 3 = is-three _ _ _ _ _ _ _ (ap kind (sym e) ∙ S .kind-three) in
-      e ∙ row-3 _ _ _ _ _ _ _ k
+      let k : getD no (v * width) 0 ≡ 3 = is-three _ _ _ _ _ _ _ _ (ap kind (sym e) ∙ S .kind-three) in
+      e ∙ row-3 _ _ _ _ _ _ _ _ k
 
   symbol-inside : BytesIn A (getD no (v * width + START) 0) (getD no (v * width + LENGTH) 0)
   symbol-inside = right-row L v (S .below) _ symbol-row
@@ -86,3 +87,26 @@ module _ {A : Arena} {no by : List ℕ} {v : ℕ} (L : Lent A no by) (S : IsSymb
 pub name-linked : {A : Arena} {room v : ℕ} {sc out c : List ℕ} → IsSymbol A v → (getD sc v 0 ≡ 0 → ⊥) → Goes A room (write-name room A v) (buffers sc out) c (write room (SYMBOL-LINK ∷ integer-bytes (getD sc v 0 - 1))) (buffers sc out) c
 unfolding write-name write-symbol look link-or
 name-linked {v = v} S n = record { goes = λ s H. record { state = s; holds = H; same = rw (word-some _ _ (H .symbol-words v (S .below) (S .kind-three)) n) refl } }
+
+-- ---- a class
+
+pub is-symbol : {A : Arena} (c : ℕ) → Name A c → IsSymbol A c
+unfolding kind
+is-symbol {A} c (s, l, e) = record { below = at-lt (A .nodes) c (symbol s l) e; kind-three = ap kind (node-at A c (symbol s l) e) }
+
+pub no-class : (room : ℕ) (A : Arena) (w : ℕ) → w ≡ 0 → write-class room A w ≡ pure tt
+unfolding write-class
+no-class room A w e = ap (write-class room A) e
+
+-- v is the node of a class that there is
+module _ (w v : ℕ) (some : w ≡ 0 → ⊥) (is : v ≡ w - 1) where
+  class-is : w ≡ suc v
+  class-is = omega arith
+
+  pub class-named : (room : ℕ) (A : Arena) → write-class room A w ≡ named room A USER-CLASS v
+  unfolding write-class
+  class-named room A = ap (write-class room A) class-is
+
+  pub class-symbol : (A : Arena) → ClassRight A w → IsSymbol A v
+  unfolding optional-node
+  class-symbol A right = is-symbol v (subst (ClassRight A) class-is right 0 v refl)

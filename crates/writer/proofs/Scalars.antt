@@ -21,23 +21,23 @@ module _ {A : Arena} {no : List ℕ} (N : Noded A no) (v : ℕ) (below : v < len
   w i = getD no (v * width + i) 0
 
   pub fixnum-row : getD no (v * width) 0 ≡ 2 → node A v ≡ fixnum (w 1)
-  fixnum-row e = N .row-at v below ∙ row-2 _ _ _ _ _ _ _ e
+  fixnum-row e = N .row-at v below ∙ row-2 _ _ _ _ _ _ _ _ e
 
   pub bool-row : getD no (v * width) 0 ≡ 1 → node A v ≡ bool (eqb (w 1) 1)
-  bool-row e = N .row-at v below ∙ row-1 _ _ _ _ _ _ _ e
+  bool-row e = N .row-at v below ∙ row-1 _ _ _ _ _ _ _ _ e
 
   pub symbol-here : getD no (v * width) 0 ≡ 3 → IsSymbol A v
   unfolding kind
-  symbol-here e = record { below = below; kind-three = ap kind (N .row-at v below ∙ row-3 _ _ _ _ _ _ _ e) }
+  symbol-here e = record { below = below; kind-three = ap kind (N .row-at v below ∙ row-3 _ _ _ _ _ _ _ _ e) }
 
   pub symbol-row-here : getD no (v * width) 0 ≡ 3 → node A v ≡ symbol (w 1) (w 2)
-  symbol-row-here e = N .row-at v below ∙ row-3 _ _ _ _ _ _ _ e
+  symbol-row-here e = N .row-at v below ∙ row-3 _ _ _ _ _ _ _ _ e
 
   pub nil-row : (getD no (v * width) 0 ≡ 1 → ⊥) → (getD no (v * width) 0 ≡ 2 → ⊥) → (getD no (v * width) 0 ≡ 3 → ⊥) → kind (node A v) ≤ 3 → node A v ≡ nil
   nil-row a b c h =
       let e = N .row-at v below in
       let q = ap kind e in
-      e ∙ row-nil _ _ _ _ _ _ _ a b c (omega arith)
+      e ∙ row-nil _ _ _ _ _ _ _ _ a b c (omega arith)
 
 -- ---- their writers
 

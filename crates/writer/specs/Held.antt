@@ -6,9 +6,9 @@ use mathlib.Core.Option.{Option, none, some}
 use mathlib.Core.List.{List, [], _∷_}
 use lib.ListN.{length, getD, set, take}
 use Rattle.definition.specs.Run.{Outcome, refused, pure}
-use Rattle.definition.specs.Node.{width, kind, row-of, START, LENGTH, LIST, COUNT, NAME, DEFAULT}
+use Rattle.definition.specs.Node.{width, kind, row-of, START, LENGTH, LIST, COUNT, NAME, DEFAULT, CLASS}
 use Rattle.definition.specs.Arena.{Arena, node}
-use Rattle.definition.specs.Dump.{Written, Writer, number-in}
+use Rattle.definition.specs.Dump.{Written, Writer, _>>_, write, write-name, number-in}
 use Rattle.definition.specs.Slice.{OUTPUT, greatest-length}
 use Rattle.definition.specs.declared.Refusal.{Refusal}
 use Rattle.definition.specs.declared.Refusal.the-variants.{TooDeep, NoSpace}
@@ -40,7 +40,7 @@ marks (x ∷ l) = marked x + marks l
 pub record Noded (A : Arena) (no : List ℕ) : Type 0 where
   pub nodes-small : length no ≤ greatest-length
   pub nodes-fit : length (A .nodes) * width ≤ length no
-  pub row-at : (i : ℕ) → i < length (A .nodes) → node A i ≡ row-of (getD no (i * width) 0) (getD no (i * width + START) 0) (getD no (i * width + LENGTH) 0) (getD no (i * width + LIST) 0) (getD no (i * width + COUNT) 0) (getD no (i * width + NAME) 0) (getD no (i * width + DEFAULT) 0)
+  pub row-at : (i : ℕ) → i < length (A .nodes) → node A i ≡ row-of (getD no (i * width) 0) (getD no (i * width + START) 0) (getD no (i * width + LENGTH) 0) (getD no (i * width + LIST) 0) (getD no (i * width + COUNT) 0) (getD no (i * width + NAME) 0) (getD no (i * width + DEFAULT) 0) (getD no (i * width + CLASS) 0)
 
 -- A is well formed, and its rows and bytes are those of the tables
 pub record Lent (A : Arena) (no by : List ℕ) : Type 0 where
@@ -83,6 +83,10 @@ pub record Ready (P : Arena → Type 0) (B : Buffers) (c : List ℕ) : Type 0 wh
 pub record IsSymbol (A : Arena) (v : ℕ) : Type 0 where
   pub below : v < length (A .nodes)
   pub kind-three : kind (node A v) ≡ 3
+
+-- byte k, and the name of node v
+abbrev pub named : ℕ → Arena → ℕ → ℕ → Writer
+named room A k v = write room (k ∷ []) >> write-name room A v
 
 -- the outcome o is that of m' at a state that is held
 pub record Went (A : Arena) (room : ℕ) (o : Outcome Written (Unit {0})) (m' : Writer) (B' : Buffers) (c' : List ℕ) : Type 0 where

@@ -15,9 +15,9 @@ ghost use Rattle.definition.specs.Integer.{integer-bytes, low-bytes, fewest};
 ghost use Rattle.definition.specs.Magnitude.{magnitude, sign-byte, bignum-bytes};
 ghost use Rattle.definition.specs.Node.{width, kind};
 ghost use Rattle.definition.specs.Arena.{Arena, node, range};
-ghost use Rattle.definition.specs.Dump.{Writer, write, write-name, write-elements, write-row, write-value};
-ghost use Rattle.well_formed.specs.Right.{ListIn};
-ghost use Rattle.writer.specs.Held.{buffers, Noded, Lent, Listed, Ready, IsSymbol, Meets, Shorts, Short, Goes};
+ghost use Rattle.definition.specs.Dump.{Writer, write, write-name, write-class, write-elements, write-row, write-value};
+ghost use Rattle.well_formed.specs.Right.{ListIn, ClassRight};
+ghost use Rattle.writer.specs.Held.{buffers, Noded, Lent, Listed, Ready, IsSymbol, named, Meets, Shorts, Short, Goes};
 
 // The places of the three counts: bytes written, symbols and objects numbered.
 pub const WRITTEN: usize = 0;
@@ -191,6 +191,25 @@ pub fn write_byte_string(
     FULL
 }
 
+// Byte k, and a byte string.
+pub fn write_text(
+    bytes: &[u8],
+    output: &mut [u8],
+    c: &mut [usize; 3],
+    k: u8,
+    start: u32,
+    n: u32,
+) -> u32
+    requires { ⌜ start + n ≤ length (now bytes) ⌝ }
+    ensures { λ r. ⌜ ((A : Arena) (room limit : ℕ) (sc : List ℕ) → Meets A room limit (write room (k ∷ (integer-bytes n ++ take n (drop start (now (bytes .entry)))))) (buffers sc (now (output .entry))) (now (c .entry)) r (buffers sc (now (output .exit))) (now (c .exit))) ⌝ }
+{
+    let w = write_byte(output, c, k);
+    if w != DONE {
+        return w;
+    }
+    write_byte_string(&bytes[..], output, c, start, n)
+}
+
 // ---- a Bignum's number
 
 // A unit from byte `at` on: its low byte, then its high one.
@@ -283,16 +302,59 @@ pub fn write_symbol(
     let number = c[SYMBOLS] + 1;
     scratch[v] = number as u32;
     c[SYMBOLS] = number;
-    let w = write_byte(output, c, ValueKind::SYMBOL);
-    if w != DONE {
-        return w;
-    }
-    write_byte_string(
+    write_text(
         &bytes[..],
         output,
         c,
+        ValueKind::SYMBOL,
         nodes[v * Node::WIDTH + Node::START],
         nodes[v * Node::WIDTH + Node::LENGTH],
+    )
+}
+
+// Byte k, and a name.
+pub fn write_named(
+    nodes: &[u32],
+    bytes: &[u8],
+    scratch: &mut [u32],
+    output: &mut [u8],
+    c: &mut [usize; 3],
+    k: u8,
+    v: usize,
+) -> u32
+    requires { ⌜ Ready (λ A. Lent A (now nodes) (now bytes) × IsSymbol A v) (buffers (now scratch) (now output)) (now c) ⌝ }
+    ensures { λ r. ⌜ ((A : Arena) (room limit : ℕ) → Lent A (now (nodes .entry)) (now (bytes .entry)) → IsSymbol A v → Meets A room limit (named room A k v) (buffers (now (scratch .entry)) (now (output .entry))) (now (c .entry)) r (buffers (now (scratch .exit)) (now (output .exit))) (now (c .exit))) ⌝ }
+{
+    let w = write_byte(output, c, k);
+    if w != DONE {
+        return w;
+    }
+    write_symbol(&nodes[..], &bytes[..], scratch, output, c, v)
+}
+
+// A class, where there is one.
+pub fn write_class(
+    nodes: &[u32],
+    bytes: &[u8],
+    scratch: &mut [u32],
+    output: &mut [u8],
+    c: &mut [usize; 3],
+    class: u32,
+) -> u32
+    requires { ⌜ Ready (λ A. Lent A (now nodes) (now bytes) × ClassRight A class) (buffers (now scratch) (now output)) (now c) ⌝ }
+    ensures { λ r. ⌜ ((A : Arena) (room limit : ℕ) → Lent A (now (nodes .entry)) (now (bytes .entry)) → ClassRight A class → Meets A room limit (write-class room A class) (buffers (now (scratch .entry)) (now (output .entry))) (now (c .entry)) r (buffers (now (scratch .exit)) (now (output .exit))) (now (c .exit))) ⌝ }
+{
+    if class == 0 {
+        return DONE;
+    }
+    write_named(
+        &nodes[..],
+        &bytes[..],
+        scratch,
+        output,
+        c,
+        ValueKind::USER_CLASS,
+        size(class - 1),
     )
 }
 

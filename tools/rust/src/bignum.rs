@@ -12,7 +12,7 @@ pub struct Bignum {
 impl Bignum {
     /// What a node's words say, if they are a Bignum's.
     pub fn of_words(words: &[u32]) -> Option<Bignum> {
-        let &[10, low, high, 0, sign @ (0 | 1), 0, 0] = words else { return None };
+        let &[10, low, high, 0, sign @ (0 | 1), 0, 0, 0] = words else { return None };
         Some(Bignum { minus: sign == 1, magnitude: u64::from(high) << 32 | u64::from(low) })
     }
 

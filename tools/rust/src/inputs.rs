@@ -46,10 +46,10 @@ fn list(size: usize, member: impl Fn(i32, &mut Vec<u8>)) -> Vec<u8> {
     out
 }
 
-// Eight ingredients of a recipe.
-fn ingredients(count: i32, members: &mut Vec<u8>) {
+// Eight ingredients of a recipe, after so many other names.
+fn ingredients(others: usize, count: i32, members: &mut Vec<u8>) {
     for (i, name) in ["sand", "cement", "water", "gravel", "lime", "ash", "fibre", "dye"].iter().enumerate() {
-        named(name, i, count, members);
+        named(name, others + i, count, members);
         members.push(b'i');
         integer((count * 37 + i as i32 * 1001) % 70000, members);
     }
@@ -60,7 +60,18 @@ pub fn recipes(size: usize) -> Vec<u8> {
     list(size, |count, members| {
         members.push(b'{');
         integer(8, members);
-        ingredients(count, members);
+        ingredients(0, count, members);
+    })
+}
+
+/// The same in a class of their own.
+pub fn classes(size: usize) -> Vec<u8> {
+    list(size, |count, members| {
+        members.push(b'C');
+        named("IngredientList", 0, count, members);
+        members.push(b'{');
+        integer(8, members);
+        ingredients(1, count, members);
     })
 }
 
@@ -69,7 +80,7 @@ pub fn batches(size: usize) -> Vec<u8> {
     list(size, |count, members| {
         members.push(b'{');
         integer(9, members);
-        ingredients(count, members);
+        ingredients(0, count, members);
         named("text", 8, count, members);
         members.extend(b"I\"");
         integer(12, members);

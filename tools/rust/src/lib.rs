@@ -6,7 +6,7 @@ pub mod random;
 pub mod room;
 pub mod walk;
 
-use ruby_marshal_tables::{calls, Arena, Counts, Measures, Refusal};
+use ruby_marshal_tables::{calls, Arena, Counts, Measures, Refusal, NODE_WORDS};
 
 /// An answer: 0 or the refusal's number, and its details.
 #[derive(Clone, Copy, Debug, PartialEq, Eq)]
@@ -53,7 +53,7 @@ impl Tables {
     /// With an entry of each list, a word of the bucket table and one of scratch for each node.
     pub fn new(nodes: usize, references: usize, bytes: usize, output: usize) -> Tables {
         Tables {
-            nodes: vec![0; nodes * 7],
+            nodes: vec![0; nodes * NODE_WORDS],
             references: vec![0; references],
             bytes: vec![0; bytes],
             symbols: vec![0; nodes],

@@ -210,11 +210,21 @@ impl<'a> Walk<'a> {
         if level > self.limit {
             return None;
         }
-        match self.byte()? {
+        let kind = self.byte()?;
+        self.value_of(kind, level)
+    }
+
+    fn value_of(&mut self, kind: u8, level: u32) -> Option<bool> {
+        match kind {
             b'0' | b'T' | b'F' => Some(false),
             b'i' => self.integer(Role::Fixnum).map(|_| false),
             kind @ (b':' | b';') => self.name(kind).map(|()| false),
             b'@' => self.index(self.objects.len()).map(|i| self.objects[i]),
+            b'C' => {
+                self.named()?;
+                let kind = self.byte().filter(|kind| b"\"[{}".contains(kind))?;
+                self.value_of(kind, level)
+            }
             b'"' => self.text(true),
             b'f' => self.text(false),
             b'l' => self.bignum(),

@@ -1,7 +1,7 @@
 // Random inputs, the same in every run: values from a grammar, deep chains, and damage.
 
 /// The kind bytes and bytes that are integers of interest.
-pub const ALPHABET: &[u8] = b"0TFi:;@I[{}o\"ufl+-\x00\x01\x05\x06\x07\x08\xFA\xFB\xFF";
+pub const ALPHABET: &[u8] = b"0TFi:;@IC[{}o\"ufl+-\x00\x01\x05\x06\x07\x08\xFA\xFB\xFF";
 
 const NAMES: &[&[u8]] = &[b"a", b"b", b"ab", b"E", b"@x", b"", b"encoding", &[b'n'; 130]];
 const FLOATS: &[&[u8]] = &[b"1.25", b"0.35", b"1", b"1e2", b"-0", b"inf", b"nan", b""];
@@ -168,6 +168,17 @@ impl Maker<'_> {
         self.objects.push(false);
     }
 
+    // A class's name, and what may be in one; seldom what may not.
+    fn user_class(&mut self, depth: usize) {
+        self.out.push(b'C');
+        self.name();
+        match self.random.below(60) {
+            0 => self.value(depth),
+            1..=20 => self.string(),
+            _ => self.list(depth),
+        }
+    }
+
     fn user_defined(&mut self) {
         self.out.push(b'u');
         self.name();
@@ -192,6 +203,14 @@ impl Maker<'_> {
         }
     }
 
+    // An array or a hash.
+    fn list(&mut self, depth: usize) {
+        let kind = self.random.pick(b"[[{}");
+        self.open(kind);
+        let n = self.count();
+        self.values(if kind == b'[' { n } else { 2 * n + (kind == b'}') as usize }, depth);
+    }
+
     fn pairs(&mut self, depth: usize) {
         for _ in 0..self.count() {
             self.name();
@@ -212,6 +231,7 @@ impl Maker<'_> {
                 self.integer(i as i32);
             }
             11..=18 => self.user_defined(),
+            19..=22 if self.later.contains(&b'C') => self.user_class(depth),
             _ => self.string(),
         }
         self.pairs(depth);
@@ -219,10 +239,14 @@ impl Maker<'_> {
 
     fn value(&mut self, depth: usize) {
         if !self.later.is_empty() && self.random.one_in(6) {
-            return if self.random.pick(self.later) == b'f' { self.float() } else { self.bignum() };
+            return match self.random.pick(self.later) {
+                b'f' => self.float(),
+                b'C' => self.user_class(depth.saturating_sub(1)),
+                _ => self.bignum(),
+            };
         }
         let leaf = depth == 0 || self.out.len() > 600;
-        let kind = self.random.pick(if leaf { b"0TFi:;@\"u" } else { b"0Fi:@\"uII[[[{{}}oo" });
+        let kind = self.random.pick(if leaf { b"0TFi:;@\"u" } else { b"0Fi:@\"uII[[[[[[[oo" });
         let depth = depth.saturating_sub(1);
         match kind {
             b'i' => {
@@ -234,16 +258,7 @@ impl Maker<'_> {
             b'"' => self.string(),
             b'u' => self.user_defined(),
             b'I' => self.with_variables(depth),
-            b'[' => {
-                self.open(kind);
-                let n = self.count();
-                self.values(n, depth);
-            }
-            b'{' | b'}' => {
-                self.open(kind);
-                let n = self.count();
-                self.values(2 * n + (kind == b'}') as usize, depth);
-            }
+            b'[' => self.list(depth),
             b'o' => {
                 self.open(kind);
                 self.name();
@@ -296,7 +311,8 @@ impl Maker<'_> {
     }
 }
 
-/// A value from the grammar, with Floats (`f`) and Bignums (`l`) where they are given as later kinds; one in 32 is deep.
+/// A value from the grammar, with Floats (`f`), Bignums (`l`) and classes (`C`) where they are given as later kinds; one in 32 is
+/// deep.
 pub fn value(random: &mut Random, later: &'static [u8]) -> Vec<u8> {
     let mut maker = Maker { random, out: vec![4, 8], symbols: 0, objects: vec![], later };
     if maker.random.one_in(32) {

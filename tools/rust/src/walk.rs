@@ -1,4 +1,4 @@
-// The same walk over both arenas: every value from the root down, names, defaults and variables too, each time it is met.
+// The same walk over both arenas: every value from the root down, names, classes, defaults and variables too, each time it is met.
 // What is still to be met stands in a vector that is kept for the next walk. The inputs hold no cycle.
 use ruby_marshal::{Value as Theirs, ValueArena, ValueHandle};
 use ruby_marshal_tables::{Arena, Handle, Node, Pairs, Value as Ours};
@@ -30,7 +30,9 @@ pub fn ours(arena: &Arena, open: &mut Vec<Handle>) -> Met {
     open.push(arena.root().handle());
     while let Some(handle) = open.pop() {
         met.values += 1;
-        match arena.node(handle).expect("a node").value() {
+        let node = arena.node(handle).expect("a node");
+        open.extend(node.class_node().map(Node::handle));
+        match node.value() {
             Ours::Nil => {}
             Ours::Bool(value) => met.sum += u64::from(value),
             Ours::Fixnum(value) => met.sum += u64::from(value as u32),

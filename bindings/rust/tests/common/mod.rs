@@ -168,13 +168,9 @@ impl Case {
         (number.number() as u32, first.number(), second.number() as u64)
     }
 
-    /// The answer's. Of BAD-ARENA any faulty node may be named, and the lowest is.
+    /// The answer's.
     pub fn answer(&self) -> (u32, i64, u64) {
-        let (number, mut first, second) = self.three("answer");
-        if number == 2 && first >= 0 && self.has("faulty") {
-            first = self.field("faulty").list().iter().map(Json::number).min().expect("a faulty node");
-        }
-        (number, first, second)
+        self.three("answer")
     }
 }
 
@@ -189,55 +185,19 @@ pub fn numbers<A>(answer: &Result<A, Refusal>) -> (u32, i64, u64) {
     }
 }
 
-// The cases of one file; none where it is not there.
-fn cases(path: &Path) -> Vec<Case> {
-    if !path.exists() {
+/// The cases of a file in the corpus's folder, which RUBY_MARSHAL_CORPUS names; none where it is not set.
+pub fn corpus(file: &str) -> Vec<Case> {
+    let Some(folder) = std::env::var_os("RUBY_MARSHAL_CORPUS") else {
+        println!("{file}: RUBY_MARSHAL_CORPUS is not set");
         return Vec::new();
-    }
-    let text = std::fs::read_to_string(path).unwrap_or_else(|e| panic!("{}: {e}", path.display()));
+    };
+    let path = Path::new(&folder).join(format!("{file}.jsonl"));
+    let text = std::fs::read_to_string(&path).unwrap_or_else(|e| panic!("{}: {e}", path.display()));
     let case = |line: &str| match Json::read(line) {
         Json::Object(fields) => Case(fields),
         other => panic!("no object: {other:?}"),
     };
     text.lines().map(case).collect()
-}
-
-/// The file that only folders after the first have, and those that only the folder of document 02's functions has.
-pub const LATER: &str = "load";
-pub const WEIGHINGS: &str = "weigh";
-pub const COSTS: &str = "cost";
-
-/// The cases of a file in the corpus's folders, which RUBY_MARSHAL_CORPUS names; none where it is not set.
-///
-/// A folder's cases are added to those of the folders before it, of which its changed.jsonl replaces some, or removes (`gone`),
-/// and so does the file of its name in tools/changed, with cases of the folders between.
-pub fn corpus(file: &str) -> Vec<Case> {
-    let Some(folders) = std::env::var_os("RUBY_MARSHAL_CORPUS") else {
-        println!("{file}: RUBY_MARSHAL_CORPUS is not set");
-        return Vec::new();
-    };
-    let (mut all, mut names): (Vec<Case>, Vec<String>) = (Vec::new(), Vec::new());
-    for folder in std::env::split_paths(&folders) {
-        let name = folder.file_name().expect("a folder's name").to_string_lossy().into_owned();
-        let own = Path::new(env!("CARGO_MANIFEST_DIR")).join(format!("../../tools/changed/{name}.jsonl"));
-        for changed in cases(&folder.join("changed.jsonl")).into_iter().chain(cases(&own)) {
-            let of = changed.field("file").text();
-            if of != file && !names.iter().any(|name| of == format!("{name}/{file}")) {
-                continue;
-            }
-            let at = all.iter().position(|case| case.id() == changed.id());
-            let at = at.unwrap_or_else(|| panic!("{file}: no case {} to change", changed.id()));
-            if changed.has("gone") {
-                all.remove(at);
-            } else {
-                all[at] = changed;
-            }
-        }
-        all.extend(cases(&folder.join(format!("{file}.jsonl"))));
-        names.push(name);
-    }
-    assert!(!all.is_empty() || [LATER, WEIGHINGS, COSTS].contains(&file), "{file}: no cases in {folders:?}");
-    all
 }
 
 /// Words and bytes that are no zeros.

@@ -37,9 +37,15 @@ wide-requires-6 c κs = search needs
 add-result-5 : tie.Need-add-result-5
 add-result-5 c = search needs
 
+wide-requires-7 : tie.Need-wide-requires-7
+wide-requires-7 c κs = search needs
+
+add-result-6 : tie.Need-add-result-6
+add-result-6 c = search needs
+
 returns : tie.Need-returns
 returns c =
-    sum-same (c .before .before .before .before .before .wide .ensures) (c .before .before .before .before .wide2 .ensures) (c .before .before .before .wide3 .ensures) (c .before .before .wide4 .ensures) (c .before .wide5 .ensures) (c .wide6 .ensures)
+    sum-same (c .before .before .before .before .before .before .wide .ensures) (c .before .before .before .before .before .wide2 .ensures) (c .before .before .before .before .wide3 .ensures) (c .before .before .before .wide4 .ensures) (c .before .before .wide5 .ensures) (c .before .wide6 .ensures) (c .wide7 .ensures)
 
 pub all-zero-spec : {M : Type 1} → statement M
 all-zero-spec =
@@ -56,4 +62,6 @@ all-zero-spec =
     add-result-4
     wide-requires-6
     add-result-5
+    wide-requires-7
+    add-result-6
     returns)

@@ -71,14 +71,23 @@ mul-f c = search needs
 shared-slice-read-f : tie.Need-shared-slice-read-f
 shared-slice-read-f c = search needs
 
+add-w : tie.Need-add-w
+add-w c = search needs
+
+mul-w : tie.Need-mul-w
+mul-w c = search needs
+
+shared-slice-read-w : tie.Need-shared-slice-read-w
+shared-slice-read-w c = search needs
+
 all-zero-requires : tie.Need-all-zero-requires
 all-zero-requires c κs = search needs
 
 returns : tie.Need-returns
 returns c =
-    let start = c .before .before .before .before .before .before .before .before .before .before .before in
+    let start = c .before .before .before .before .before .before .before .before .before .before .before .before in
     let a = start .args in
-    λ A H. c .all-zero .ensures ∙ node-fixnum A _ _ _ _ _ _ _ _ (node-words (a .nodes .now) (a .i * width) (omega (arith, start .pre .0, start .pre .1))) (c .before .if1 .taken)
+    λ A H. c .all-zero .ensures ∙ node-fixnum A _ _ _ _ _ _ _ _ _ (node-words (a .nodes .now) (a .i * width) (omega (arith, start .pre .0, start .pre .1))) (c .before .if1 .taken)
 
 is-row-of-requires : tie.Need-is-row-of-requires
 is-row-of-requires c κs = c .if1 .left
@@ -88,15 +97,15 @@ row-right-at-requires c κs = search needs
 
 returns-2 : tie.Need-returns-2
 returns-2 c =
-    let start = c .before .before .before .before .before .before .before .before .before .before .before .before .before in
+    let start = c .before .before .before .before .before .before .before .before .before .before .before .before .before .before in
     let a = start .args in
-    λ A H. c .row-right-at .ensures A H ∙ node-in A _ _ _ _ _ _ _ _ (node-words (a .nodes .now) (a .i * width) (omega (arith, start .pre .0, start .pre .1))) (sym (c .before .if2 .taken) ∙ c .before .before .is-row-of .ensures)
+    λ A H. c .row-right-at .ensures A H ∙ node-in A _ _ _ _ _ _ _ _ _ (node-words (a .nodes .now) (a .i * width) (omega (arith, start .pre .0, start .pre .1))) (sym (c .before .if2 .taken) ∙ c .before .before .is-row-of .ensures)
 
 returns-3 : tie.Need-returns-3
 returns-3 c =
-    let start = c .before .before .before .before .before .before .before .before .before .before .before .before in
+    let start = c .before .before .before .before .before .before .before .before .before .before .before .before .before in
     let a = start .args in
-    λ A H. node-out A _ _ _ _ _ _ _ _ (node-words (a .nodes .now) (a .i * width) (omega (arith, start .pre .0, start .pre .1))) (sym (c .if2 .left) ∙ c .before .is-row-of .ensures)
+    λ A H. node-out A _ _ _ _ _ _ _ _ _ (node-words (a .nodes .now) (a .i * width) (omega (arith, start .pre .0, start .pre .1))) (sym (c .if2 .left) ∙ c .before .is-row-of .ensures)
 
 pub node-right-at-spec : {M : Type 1} → statement M
 node-right-at-spec =
@@ -123,6 +132,9 @@ node-right-at-spec =
     add-f
     mul-f
     shared-slice-read-f
+    add-w
+    mul-w
+    shared-slice-read-w
     all-zero-requires
     returns
     is-row-of-requires

@@ -10,8 +10,8 @@ abbrev place : tie.Start → Here
 place s =
     here (s .args .nodes .now) (s .args .references .now) (s .args .bytes .now) (s .args .v) (s .args .levels)
 
-open-object-requires : tie.Need-open-object-requires
-open-object-requires c κs =
+number-object-requires : tie.Need-number-object-requires
+number-object-requires c κs =
     let s = c .before .before .before .before .before .before .before .before in
     let h = place s in
     object-ready h 6 (s .pre .0) (omega arith) (omega arith) (s .pre .1)
@@ -26,8 +26,8 @@ returns : tie.Need-returns
 returns c =
     let s = c .before .before .before .before .before .before .before .before .before .before .before .before .before .before in
     let h = place s in
-    let open-object = c .before .before .before .before .before .open-object in
-    first-stops h 6 _ (object-first h (s .pre .0) _ refl (open-object .ensures)) (c .if1 .taken)
+    let number-object = c .before .before .before .before .before .number-object in
+    first-stops h 6 _ (object-first h (s .pre .0) _ refl (number-object .ensures)) (c .if1 .taken)
 
 mul-size : tie.Need-mul-size
 mul-size c = search needs
@@ -44,13 +44,13 @@ shared-slice-read-size c = search needs
 size-requires : tie.Need-size-requires
 size-requires c κs = search needs
 
-write-symbol-requires : tie.Need-write-symbol-requires
-write-symbol-requires c κs =
+write-named-requires : tie.Need-write-named-requires
+write-named-requires c κs =
     let s = c .before .before .before .before .before .before .before .before .before .before .before .before .before .before .before .before .before .before .before in
     let h = place s in
-    let open-object = c .before .before .before .before .before .before .before .before .before .before .open-object in
+    let number-object = c .before .before .before .before .before .before .before .before .before .before .number-object in
     let if1 = c .before .before .before .before .before .if1 in
-    name-ready h 6 (variables h) _ (object-first h (s .pre .0) _ (c .size .ensures) (open-object .ensures)) (if1 .left) (object-name h (s .pre .0) _ (c .size .ensures)) (s .pre .1)
+    name-ready h 6 (variables h) _ _ (object-first h (s .pre .0) _ (c .size .ensures) (number-object .ensures)) (if1 .left) (object-name h (s .pre .0) _ (c .size .ensures)) (s .pre .1)
 
 same-length-3 : tie.Need-same-length-3
 same-length-3 c = search needs
@@ -62,11 +62,11 @@ returns-2 : tie.Need-returns-2
 returns-2 c =
     let s = c .before .before .before .before .before .before .before .before .before .before .before .before .before .before .before .before .before .before .before .before .before .before .before .before .before in
     let h = place s in
-    let open-object = c .before .before .before .before .before .before .before .before .before .before .before .before .before .before .before .before .open-object in
+    let number-object = c .before .before .before .before .before .before .before .before .before .before .before .before .before .before .before .before .number-object in
     let if1 = c .before .before .before .before .before .before .before .before .before .before .before .if1 in
     let size = c .before .before .before .before .before .before .size in
-    let write-symbol = c .before .before .before .before .before .write-symbol in
-    name-stops h 6 (variables h) _ (object-first h (s .pre .0) _ (size .ensures) (open-object .ensures)) (if1 .left) (object-name h (s .pre .0) _ (size .ensures)) (write-symbol .ensures) (c .if2 .taken)
+    let write-named = c .before .before .before .before .before .write-named in
+    name-stops h 6 (variables h) _ _ (object-first h (s .pre .0) _ (size .ensures) (number-object .ensures)) (if1 .left) (object-name h (s .pre .0) _ (size .ensures)) (write-named .ensures) (c .if2 .taken)
 
 mul-open-variables : tie.Need-mul-open-variables
 mul-open-variables c = search needs
@@ -100,12 +100,12 @@ open-variables-requires : tie.Need-open-variables-requires
 open-variables-requires c κs =
     let s = c .before .before .before .before .before .before .before .before .before .before .before .before .before .before .before .before .before .before .before .before .before .before .before .before .before .before .before .before .before .before in
     let h = place s in
-    let open-object = c .before .before .before .before .before .before .before .before .before .before .before .before .before .before .before .before .before .before .before .before .before .open-object in
+    let number-object = c .before .before .before .before .before .before .before .before .before .before .before .before .before .before .before .before .before .before .before .before .before .number-object in
     let if1 = c .before .before .before .before .before .before .before .before .before .before .before .before .before .before .before .before .if1 in
     let size = c .before .before .before .before .before .before .before .before .before .before .before .size in
-    let write-symbol = c .before .before .before .before .before .before .before .before .before .before .write-symbol in
+    let write-named = c .before .before .before .before .before .before .before .before .before .before .write-named in
     let if2 = c .before .before .before .before .before .if2 in
-    let named = name-done h 6 (variables h) _ (object-first h (s .pre .0) _ (size .ensures) (open-object .ensures)) (if1 .left) (object-name h (s .pre .0) _ (size .ensures)) (write-symbol .ensures) (if2 .left) in
+    let named = name-done h 6 (variables h) _ _ (object-first h (s .pre .0) _ (size .ensures) (number-object .ensures)) (if1 .left) (object-name h (s .pre .0) _ (size .ensures)) (write-named .ensures) (if2 .left) in
     pairs-ready h _ (object-pairs h (s .pre .0)) named (s .pre .1)
 
 same-length-5 : tie.Need-same-length-5
@@ -118,20 +118,20 @@ returns-3 : tie.Need-returns-3
 returns-3 c =
     let s = c .before .before .before .before .before .before .before .before .before .before .before .before .before .before .before .before .before .before .before .before .before .before .before .before .before .before .before .before .before .before .before .before .before .before .before in
     let h = place s in
-    let open-object = c .before .before .before .before .before .before .before .before .before .before .before .before .before .before .before .before .before .before .before .before .before .before .before .before .before .before .open-object in
+    let number-object = c .before .before .before .before .before .before .before .before .before .before .before .before .before .before .before .before .before .before .before .before .before .before .before .before .before .before .number-object in
     let if1 = c .before .before .before .before .before .before .before .before .before .before .before .before .before .before .before .before .before .before .before .before .before .if1 in
     let size = c .before .before .before .before .before .before .before .before .before .before .before .before .before .before .before .before .size in
-    let write-symbol = c .before .before .before .before .before .before .before .before .before .before .before .before .before .before .before .write-symbol in
+    let write-named = c .before .before .before .before .before .before .before .before .before .before .before .before .before .before .before .write-named in
     let if2 = c .before .before .before .before .before .before .before .before .before .before .if2 in
     let open-variables = c .before .before .before .before .open-variables in
-    let named = name-done h 6 (variables h) _ (object-first h (s .pre .0) _ (size .ensures) (open-object .ensures)) (if1 .left) (object-name h (s .pre .0) _ (size .ensures)) (write-symbol .ensures) (if2 .left) in
+    let named = name-done h 6 (variables h) _ _ (object-first h (s .pre .0) _ (size .ensures) (number-object .ensures)) (if1 .left) (object-name h (s .pre .0) _ (size .ensures)) (write-named .ensures) (if2 .left) in
     variables-answer h 6 (s .pre .0) (omega arith) named (object-pairs h (s .pre .0)) (open-variables .ensures)
 
 pub open-named-spec : {M : Type 1} → statement M
 open-named-spec =
     tie.close
     (tie.spec
-    open-object-requires
+    number-object-requires
     same-length
     same-length-2
     returns
@@ -140,7 +140,7 @@ open-named-spec =
     mul-size-2
     shared-slice-read-size
     size-requires
-    write-symbol-requires
+    write-named-requires
     same-length-3
     same-length-4
     returns-2

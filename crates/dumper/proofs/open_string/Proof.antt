@@ -1,6 +1,6 @@
 -- The proof of open_string.
 use native.Mathlib.Omega.{arith}
-use Rattle.dumper.proofs.Bodies.{Here, here, pairs-ready, some-variables, first-stops, first-done, whole, variables-answer, text-ready, string-inside, string-pairs, string-first}
+use Rattle.dumper.proofs.Bodies.{Here, here, pairs-ready, some-variables, first-stops, first-done, whole, variables-answer, class-ready, string-inside, string-class, string-pairs, string-first}
 use borrow.Author.Needs.{needs}
 use Rattle.dumper.proofs.open_string.Statement.{statement}
 use Rattle.dumper.proofs.open_string.Tie as tie
@@ -21,12 +21,24 @@ mul-f-2 c = search needs
 shared-slice-read-f : tie.Need-shared-slice-read-f
 shared-slice-read-f c = search needs
 
+mul-open-text : tie.Need-mul-open-text
+mul-open-text c = search needs
+
+add-open-text : tie.Need-add-open-text
+add-open-text c = search needs
+
+mul-open-text-2 : tie.Need-mul-open-text-2
+mul-open-text-2 c = search needs
+
+shared-slice-read-open-text : tie.Need-shared-slice-read-open-text
+shared-slice-read-open-text c = search needs
+
 open-text-requires : tie.Need-open-text-requires
 open-text-requires c κs =
-    let s = c .before .before .before .before .before .before .before .before .before in
+    let s = c .before .before .before .before .before .before .before .before .before .before in
     let h = place s in
     let f = s .pre .1 .fact in
-    (string-inside h (s .pre .0) (s .pre .1 .arena) (f .0) (f .2), text-ready h 7 (s .pre .0) (omega arith) (omega arith) (s .pre .1))
+    (string-inside h (s .pre .0) (s .pre .1 .arena) (f .0) (f .2), class-ready h 7 (s .pre .0) (omega arith) _ (omega arith) (string-class h (s .pre .0)) (s .pre .1))
 
 same-length : tie.Need-same-length
 same-length c = search needs
@@ -36,7 +48,7 @@ same-length-2 c = search needs
 
 returns : tie.Need-returns
 returns c =
-    let s = c .before .before .before .before .before .before .before .before .before .before .before .before .before .before .before in
+    let s = c .before .before .before .before .before .before .before .before .before .before .before .before .before .before .before .before in
     let h = place s in
     let open-text = c .before .before .before .before .before .open-text in
     first-stops h 7 _ (string-first h (s .pre .0) (open-text .ensures)) (c .if1 .taken)
@@ -49,7 +61,7 @@ same-length-4 c = search needs
 
 returns-2 : tie.Need-returns-2
 returns-2 c =
-    let s = c .before .before .before .before .before .before .before .before .before .before .before .before .before .before .before .before in
+    let s = c .before .before .before .before .before .before .before .before .before .before .before .before .before .before .before .before .before in
     let h = place s in
     let if1 = c .before .if1 in
     let open-text = c .before .before .before .before .before .before .open-text in
@@ -81,7 +93,7 @@ shared-slice-read-open-variables-2 c = search needs
 
 open-variables-requires : tie.Need-open-variables-requires
 open-variables-requires c κs =
-    let s = c .before .before .before .before .before .before .before .before .before .before .before .before .before .before .before .before .before .before .before .before .before in
+    let s = c .before .before .before .before .before .before .before .before .before .before .before .before .before .before .before .before .before .before .before .before .before .before in
     let h = place s in
     let if2 = c .before .before .before .before .before .if2 in
     let if1 = c .before .before .before .before .before .before .if1 in
@@ -97,7 +109,7 @@ same-length-6 c = search needs
 
 returns-3 : tie.Need-returns-3
 returns-3 c =
-    let s = c .before .before .before .before .before .before .before .before .before .before .before .before .before .before .before .before .before .before .before .before .before .before .before .before .before .before in
+    let s = c .before .before .before .before .before .before .before .before .before .before .before .before .before .before .before .before .before .before .before .before .before .before .before .before .before .before .before in
     let h = place s in
     let open-variables = c .before .before .before .before .open-variables in
     let if2 = c .before .before .before .before .before .before .before .before .before .before .if2 in
@@ -114,6 +126,10 @@ open-string-spec =
     add-f
     mul-f-2
     shared-slice-read-f
+    mul-open-text
+    add-open-text
+    mul-open-text-2
+    shared-slice-read-open-text
     open-text-requires
     same-length
     same-length-2

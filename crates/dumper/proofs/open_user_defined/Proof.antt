@@ -56,13 +56,13 @@ shared-slice-read-size c = search needs
 size-requires : tie.Need-size-requires
 size-requires c κs = search needs
 
-write-symbol-requires : tie.Need-write-symbol-requires
-write-symbol-requires c κs =
+write-named-requires : tie.Need-write-named-requires
+write-named-requires c κs =
     let s = c .before .before .before .before .before .before .before .before .before .before .before .before .before .before .before .before .before .before .before .before in
     let h = place s in
     let open-marked = c .before .before .before .before .before .before .before .before .before .before .open-marked in
     let if1 = c .before .before .before .before .before .if1 in
-    name-ready h 8 (text-rest h) _ (user-first h (s .pre .0) _ (c .size .ensures) (open-marked .ensures)) (if1 .left) (user-name h (s .pre .0) _ (c .size .ensures)) (s .pre .1)
+    name-ready h 8 (text-rest h) _ _ (user-first h (s .pre .0) _ (c .size .ensures) (open-marked .ensures)) (if1 .left) (user-name h (s .pre .0) _ (c .size .ensures)) (s .pre .1)
 
 same-length-3 : tie.Need-same-length-3
 same-length-3 c = search needs
@@ -77,8 +77,8 @@ returns-2 c =
     let open-marked = c .before .before .before .before .before .before .before .before .before .before .before .before .before .before .before .before .open-marked in
     let if1 = c .before .before .before .before .before .before .before .before .before .before .before .if1 in
     let size = c .before .before .before .before .before .before .size in
-    let write-symbol = c .before .before .before .before .before .write-symbol in
-    name-stops h 8 (text-rest h) _ (user-first h (s .pre .0) _ (size .ensures) (open-marked .ensures)) (if1 .left) (user-name h (s .pre .0) _ (size .ensures)) (write-symbol .ensures) (c .if2 .taken)
+    let write-named = c .before .before .before .before .before .write-named in
+    name-stops h 8 (text-rest h) _ _ (user-first h (s .pre .0) _ (size .ensures) (open-marked .ensures)) (if1 .left) (user-name h (s .pre .0) _ (size .ensures)) (write-named .ensures) (c .if2 .taken)
 
 mul-write-byte-string : tie.Need-mul-write-byte-string
 mul-write-byte-string c = search needs
@@ -117,16 +117,16 @@ write-byte-string-requires c κs =
 
 same-length-5 : tie.Need-same-length-5
 same-length-5 c =
-    let write-symbol = c .before .before .before .before .before .before .before .before .before .before .before .before .before .write-symbol in
+    let write-named = c .before .before .before .before .before .before .before .before .before .before .before .before .before .write-named in
     let open-marked = c .before .before .before .before .before .before .before .before .before .before .before .before .before .before .before .before .before .before .before .before .before .before .before .before .open-marked in
-    write-symbol .kept .1 .1 .0 ∙ open-marked .kept .0
+    write-named .kept .1 .1 .0 ∙ open-marked .kept .0
 
 same-length-6 : tie.Need-same-length-6
 same-length-6 c =
     let write-byte-string = c .before .before .before .write-byte-string in
-    let write-symbol = c .before .before .before .before .before .before .before .before .before .before .before .before .before .write-symbol in
+    let write-named = c .before .before .before .before .before .before .before .before .before .before .before .before .before .write-named in
     let open-marked = c .before .before .before .before .before .before .before .before .before .before .before .before .before .before .before .before .before .before .before .before .before .before .before .before .open-marked in
-    write-byte-string .kept .1 .0 ∙ write-symbol .kept .1 .1 .1 .0 ∙ open-marked .kept .1 .0
+    write-byte-string .kept .1 .0 ∙ write-named .kept .1 .1 .1 .0 ∙ open-marked .kept .1 .0
 
 returns-3 : tie.Need-returns-3
 returns-3 c =
@@ -135,24 +135,24 @@ returns-3 c =
     let open-marked = c .before .before .before .before .before .before .before .before .before .before .before .before .before .before .before .before .before .before .before .before .before .before .before .before .open-marked in
     let if1 = c .before .before .before .before .before .before .before .before .before .before .before .before .before .before .before .before .before .before .before .if1 in
     let size = c .before .before .before .before .before .before .before .before .before .before .before .before .before .before .size in
-    let write-symbol = c .before .before .before .before .before .before .before .before .before .before .before .before .before .write-symbol in
+    let write-named = c .before .before .before .before .before .before .before .before .before .before .before .before .before .write-named in
     let if2 = c .before .before .before .before .before .before .before .before .if2 in
     let write-byte-string = c .before .before .before .write-byte-string in
-    let named = name-done h 8 (text-rest h) _ (user-first h (s .pre .0) _ (size .ensures) (open-marked .ensures)) (if1 .left) (user-name h (s .pre .0) _ (size .ensures)) (write-symbol .ensures) (if2 .left) in
+    let named = name-done h 8 (text-rest h) _ _ (user-first h (s .pre .0) _ (size .ensures) (open-marked .ensures)) (if1 .left) (user-name h (s .pre .0) _ (size .ensures)) (write-named .ensures) (if2 .left) in
     text-stops h 8 named (write-byte-string .ensures) (c .if3 .taken)
 
 same-length-7 : tie.Need-same-length-7
 same-length-7 c =
-    let write-symbol = c .before .before .before .before .before .before .before .before .before .before .before .before .before .before .write-symbol in
+    let write-named = c .before .before .before .before .before .before .before .before .before .before .before .before .before .before .write-named in
     let open-marked = c .before .before .before .before .before .before .before .before .before .before .before .before .before .before .before .before .before .before .before .before .before .before .before .before .before .open-marked in
-    write-symbol .kept .1 .1 .0 ∙ open-marked .kept .0
+    write-named .kept .1 .1 .0 ∙ open-marked .kept .0
 
 same-length-8 : tie.Need-same-length-8
 same-length-8 c =
     let write-byte-string = c .before .before .before .before .write-byte-string in
-    let write-symbol = c .before .before .before .before .before .before .before .before .before .before .before .before .before .before .write-symbol in
+    let write-named = c .before .before .before .before .before .before .before .before .before .before .before .before .before .before .write-named in
     let open-marked = c .before .before .before .before .before .before .before .before .before .before .before .before .before .before .before .before .before .before .before .before .before .before .before .before .before .open-marked in
-    write-byte-string .kept .1 .0 ∙ write-symbol .kept .1 .1 .1 .0 ∙ open-marked .kept .1 .0
+    write-byte-string .kept .1 .0 ∙ write-named .kept .1 .1 .1 .0 ∙ open-marked .kept .1 .0
 
 returns-4 : tie.Need-returns-4
 returns-4 c =
@@ -161,11 +161,11 @@ returns-4 c =
     let open-marked = c .before .before .before .before .before .before .before .before .before .before .before .before .before .before .before .before .before .before .before .before .before .before .before .before .before .open-marked in
     let if1 = c .before .before .before .before .before .before .before .before .before .before .before .before .before .before .before .before .before .before .before .before .if1 in
     let size = c .before .before .before .before .before .before .before .before .before .before .before .before .before .before .before .size in
-    let write-symbol = c .before .before .before .before .before .before .before .before .before .before .before .before .before .before .write-symbol in
+    let write-named = c .before .before .before .before .before .before .before .before .before .before .before .before .before .before .write-named in
     let if2 = c .before .before .before .before .before .before .before .before .before .if2 in
     let write-byte-string = c .before .before .before .before .write-byte-string in
     let if3 = c .before .if3 in
-    let named = name-done h 8 (text-rest h) _ (user-first h (s .pre .0) _ (size .ensures) (open-marked .ensures)) (if1 .left) (user-name h (s .pre .0) _ (size .ensures)) (write-symbol .ensures) (if2 .left) in
+    let named = name-done h 8 (text-rest h) _ _ (user-first h (s .pre .0) _ (size .ensures) (open-marked .ensures)) (if1 .left) (user-name h (s .pre .0) _ (size .ensures)) (write-named .ensures) (if2 .left) in
     let written = text-done h 8 named (write-byte-string .ensures) (if3 .left) in
     whole h 8 (c .if4 .taken) written
 
@@ -216,29 +216,29 @@ open-variables-requires c κs =
     let open-marked = c .before .before .before .before .before .before .before .before .before .before .before .before .before .before .before .before .before .before .before .before .before .before .before .before .before .before .before .before .before .before .open-marked in
     let if1 = c .before .before .before .before .before .before .before .before .before .before .before .before .before .before .before .before .before .before .before .before .before .before .before .before .before .if1 in
     let size = c .before .before .before .before .before .before .before .before .before .before .before .before .before .before .before .before .before .before .before .before .size in
-    let write-symbol = c .before .before .before .before .before .before .before .before .before .before .before .before .before .before .before .before .before .before .before .write-symbol in
+    let write-named = c .before .before .before .before .before .before .before .before .before .before .before .before .before .before .before .before .before .before .before .write-named in
     let if2 = c .before .before .before .before .before .before .before .before .before .before .before .before .before .before .if2 in
     let write-byte-string = c .before .before .before .before .before .before .before .before .before .write-byte-string in
     let if3 = c .before .before .before .before .before .before .if3 in
     let if4 = c .before .before .before .before .before .if4 in
-    let named = name-done h 8 (text-rest h) _ (user-first h (s .pre .0) _ (size .ensures) (open-marked .ensures)) (if1 .left) (user-name h (s .pre .0) _ (size .ensures)) (write-symbol .ensures) (if2 .left) in
+    let named = name-done h 8 (text-rest h) _ _ (user-first h (s .pre .0) _ (size .ensures) (open-marked .ensures)) (if1 .left) (user-name h (s .pre .0) _ (size .ensures)) (write-named .ensures) (if2 .left) in
     let written = text-done h 8 named (write-byte-string .ensures) (if3 .left) in
     pairs-ready h _ (user-pairs h (s .pre .0) (if4 .left)) written (s .pre .1)
 
 same-length-9 : tie.Need-same-length-9
 same-length-9 c =
     let open-variables = c .before .before .before .before .open-variables in
-    let write-symbol = c .before .before .before .before .before .before .before .before .before .before .before .before .before .before .before .before .before .before .before .before .before .before .before .before .write-symbol in
+    let write-named = c .before .before .before .before .before .before .before .before .before .before .before .before .before .before .before .before .before .before .before .before .before .before .before .before .write-named in
     let open-marked = c .before .before .before .before .before .before .before .before .before .before .before .before .before .before .before .before .before .before .before .before .before .before .before .before .before .before .before .before .before .before .before .before .before .before .before .open-marked in
-    open-variables .kept .1 .1 .1 .0 ∙ write-symbol .kept .1 .1 .0 ∙ open-marked .kept .0
+    open-variables .kept .1 .1 .1 .0 ∙ write-named .kept .1 .1 .0 ∙ open-marked .kept .0
 
 same-length-10 : tie.Need-same-length-10
 same-length-10 c =
     let open-variables = c .before .before .before .before .open-variables in
     let write-byte-string = c .before .before .before .before .before .before .before .before .before .before .before .before .before .before .write-byte-string in
-    let write-symbol = c .before .before .before .before .before .before .before .before .before .before .before .before .before .before .before .before .before .before .before .before .before .before .before .before .write-symbol in
+    let write-named = c .before .before .before .before .before .before .before .before .before .before .before .before .before .before .before .before .before .before .before .before .before .before .before .before .write-named in
     let open-marked = c .before .before .before .before .before .before .before .before .before .before .before .before .before .before .before .before .before .before .before .before .before .before .before .before .before .before .before .before .before .before .before .before .before .before .before .open-marked in
-    open-variables .kept .1 .1 .1 .1 .0 ∙ write-byte-string .kept .1 .0 ∙ write-symbol .kept .1 .1 .1 .0 ∙ open-marked .kept .1 .0
+    open-variables .kept .1 .1 .1 .1 .0 ∙ write-byte-string .kept .1 .0 ∙ write-named .kept .1 .1 .1 .0 ∙ open-marked .kept .1 .0
 
 returns-5 : tie.Need-returns-5
 returns-5 c =
@@ -247,13 +247,13 @@ returns-5 c =
     let open-marked = c .before .before .before .before .before .before .before .before .before .before .before .before .before .before .before .before .before .before .before .before .before .before .before .before .before .before .before .before .before .before .before .before .before .before .before .open-marked in
     let if1 = c .before .before .before .before .before .before .before .before .before .before .before .before .before .before .before .before .before .before .before .before .before .before .before .before .before .before .before .before .before .before .if1 in
     let size = c .before .before .before .before .before .before .before .before .before .before .before .before .before .before .before .before .before .before .before .before .before .before .before .before .before .size in
-    let write-symbol = c .before .before .before .before .before .before .before .before .before .before .before .before .before .before .before .before .before .before .before .before .before .before .before .before .write-symbol in
+    let write-named = c .before .before .before .before .before .before .before .before .before .before .before .before .before .before .before .before .before .before .before .before .before .before .before .before .write-named in
     let if2 = c .before .before .before .before .before .before .before .before .before .before .before .before .before .before .before .before .before .before .before .if2 in
     let write-byte-string = c .before .before .before .before .before .before .before .before .before .before .before .before .before .before .write-byte-string in
     let if3 = c .before .before .before .before .before .before .before .before .before .before .before .if3 in
     let if4 = c .before .before .before .before .before .before .before .before .before .before .if4 in
     let open-variables = c .before .before .before .before .open-variables in
-    let named = name-done h 8 (text-rest h) _ (user-first h (s .pre .0) _ (size .ensures) (open-marked .ensures)) (if1 .left) (user-name h (s .pre .0) _ (size .ensures)) (write-symbol .ensures) (if2 .left) in
+    let named = name-done h 8 (text-rest h) _ _ (user-first h (s .pre .0) _ (size .ensures) (open-marked .ensures)) (if1 .left) (user-name h (s .pre .0) _ (size .ensures)) (write-named .ensures) (if2 .left) in
     let written = text-done h 8 named (write-byte-string .ensures) (if3 .left) in
     variables-answer h 8 (s .pre .0) (omega arith) (some-variables h (if4 .left) written) (user-pairs h (s .pre .0) (if4 .left)) (open-variables .ensures)
 
@@ -274,7 +274,7 @@ open-user-defined-spec =
     mul-size-2
     shared-slice-read-size
     size-requires
-    write-symbol-requires
+    write-named-requires
     same-length-3
     same-length-4
     returns-2

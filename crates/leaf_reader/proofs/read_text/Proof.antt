@@ -88,7 +88,7 @@ returns-3 c =
       λ room limit row re sy ws pl.
           lead-after (lead-first _ (c-read-byte-string .ensures .0 room limit _) .goes (c-if1 .left))
           (lead-after (lead-first _ (c-add-bytes .ensures .0 room limit _ _ _ _) .goes (c8 .if2 .left))
-          (c-add-object-node .ensures .0 _ room limit (row st _) _ _ _ (ws st _ ∙ ap (λ (k : ℕ). a .kind ∷ st ∷ k ∷ 0 ∷ 0 ∷ a .name ∷ 0 ∷ []) e) (pl st _))),
+          (c-add-object-node .ensures .0 _ room limit (row st _) _ _ _ (ws st _ ∙ ap (λ (k : ℕ). a .kind ∷ st ∷ k ∷ 0 ∷ 0 ∷ a .name ∷ 0 ∷ a .class ∷ []) e) (pl st _))),
       λ l. c-add-object-node .ensures .1 l .0,
     )
 

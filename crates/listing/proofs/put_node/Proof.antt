@@ -1,8 +1,8 @@
 -- The proof of put_node.
 use borrow.Author.Needs.{needs}
 use native.Mathlib.Omega.{arith}
-use Prim.Native.Nat.{ℕ, _+_, _-_, _≤_, _<_}
-use mathlib.Core.Path.{_≡_, refl, sym}
+use Prim.Native.Nat.{_-_}
+use mathlib.Core.Path.{_≡_}
 use lib.ListN.{length}
 use Rattle.listing.proofs.put_node.Statement.{statement}
 use Rattle.listing.proofs.put_node.Tie as tie
@@ -18,7 +18,7 @@ Inv-loop out₀ at nodes i p₀ j₀ out p j =
 
 abbrev μ-loop : tie.MeasureT-loop
 μ-loop out₀ at nodes i p₀ j₀ out p j =
-    7 - j
+    8 - j
 
 put-number-requires : tie.Need-put-number-requires Inv-loop μ-loop
 put-number-requires c κs = search needs

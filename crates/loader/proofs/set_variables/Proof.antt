@@ -50,6 +50,15 @@ mul-name c = search needs
 slice-read-name : tie.Need-slice-read-name
 slice-read-name c = search needs
 
+add-class : tie.Need-add-class
+add-class c = search needs
+
+mul-class : tie.Need-mul-class
+mul-class c = search needs
+
+slice-read-class : tie.Need-slice-read-class
+slice-read-class c = search needs
+
 put-node-requires : tie.Need-put-node-requires
 put-node-requires c κs = search needs
 
@@ -58,7 +67,7 @@ same-length c = search needs
 
 returns-3 : tie.Need-returns-3
 returns-3 c =
-    let c7 = c .before .before .before .before .before .before .before in
+    let c7 = c .before .before .before .before .before .before .before .before in
     (λ input room limit re by sy ob k l. variables-set _ _ _ l (c7 .before .if1 .left) (c7 .if2 .left) (c .before .before .put-node .ensures), λ h. refl)
 
 pub set-variables-spec : {M : Type 1} → statement M
@@ -79,6 +88,9 @@ set-variables-spec =
     add-name
     mul-name
     slice-read-name
+    add-class
+    mul-class
+    slice-read-class
     put-node-requires
     same-length
     returns-3)

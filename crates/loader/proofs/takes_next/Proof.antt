@@ -1,7 +1,8 @@
 -- The proof of takes_next.
 use borrow.Author.Needs.{needs}
-use mathlib.Core.Path.{sym}
-use Rattle.loader.proofs.Variables.{takes-string, takes-other, takes-past}
+use mathlib.Core.Path.{refl, sym}
+use Rattle.definition.specs.Load.{takes-variables}
+use Rattle.loader.proofs.Variables.{takes-past}
 use Rattle.loader.proofs.takes_next.Statement.{statement}
 use Rattle.loader.proofs.takes_next.Tie as tie
 
@@ -14,10 +15,8 @@ shared-slice-read-k : tie.Need-shared-slice-read-k
 shared-slice-read-k c = search needs
 
 returns-2 : tie.Need-returns-2
-returns-2 c = sym (takes-string (c .if2 .taken))
-
-returns-3 : tie.Need-returns-3
-returns-3 c = sym (takes-other (c .if2 .left))
+unfolding takes-variables
+returns-2 c = refl
 
 pub takes-next-spec : {M : Type 1} → statement M
-takes-next-spec = tie.close (tie.spec returns shared-slice-read-k returns-2 returns-3)
+takes-next-spec = tie.close (tie.spec returns shared-slice-read-k returns-2)

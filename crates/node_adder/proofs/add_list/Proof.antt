@@ -53,7 +53,7 @@ same-length-2 c = search needs
 returns : tie.Need-returns
 returns c =
     let a = c .before .before .before .before .before .before .before .before .before .before .before .before .before .before .args in
-    λ by row e. list-in (a .nodes .now) (a .references .now) by (a .counts) (a .source .now) row _ _ _ (c .before .before .put-node .ensures) (c .before .before .before .before .before .before .before .copy-words .ensures) (e _ ∙ ap (λ (k : ℕ). a .k ∷ 0 ∷ 0 ∷ a .counts .references ∷ k ∷ a .name ∷ a .last ∷ []) (sym (c .before .before .before .entry-count .ensures .0))) (c .before .before .before .before .before .before .before .before .before .before .if1 .taken) (c .before .before .before .before .before .before .before .before .before .if2 .taken)
+    λ by row e. list-in (a .nodes .now) (a .references .now) by (a .counts) (a .source .now) row _ _ _ (c .before .before .put-node .ensures) (c .before .before .before .before .before .before .before .copy-words .ensures) (e _ ∙ ap (λ (k : ℕ). a .k ∷ 0 ∷ 0 ∷ a .counts .references ∷ k ∷ a .name ∷ a .default ∷ 0 ∷ []) (sym (c .before .before .before .entry-count .ensures .0))) (c .before .before .before .before .before .before .before .before .before .before .if1 .taken) (c .before .before .before .before .before .before .before .before .before .if2 .taken)
 
 returns-2 : tie.Need-returns-2
 returns-2 c =

@@ -27,6 +27,9 @@ cast-t17 c = search needs
 cast-t19 : tie.Need-cast-t19
 cast-t19 c = search needs
 
+cast-t21 : tie.Need-cast-t21
+cast-t21 c = search needs
+
 returns : tie.Need-returns
 unfolding refusal-at refusal-of pick
 returns c =
@@ -100,9 +103,15 @@ returns-12 c =
     rw e refl
 
 returns-13 : tie.Need-returns-13
+unfolding refusal-at refusal-of pick
 returns-13 c =
+    let e = c .match .keys13 in
+    rw e refl
+
+returns-14 : tie.Need-returns-14
+returns-14 c =
     let r = c .match .rest in
-    refusal-last _ _ (r .0 .0 .0 .0 .0 .0 .0 .0 .0 .0 .0 .1) (r .0 .0 .0 .0 .0 .0 .0 .0 .0 .0 .1) (r .0 .0 .0 .0 .0 .0 .0 .0 .0 .1) (r .0 .0 .0 .0 .0 .0 .0 .0 .1) (r .0 .0 .0 .0 .0 .0 .0 .1) (r .0 .0 .0 .0 .0 .0 .1) (r .0 .0 .0 .0 .0 .1) (r .0 .0 .0 .0 .1) (r .0 .0 .0 .1) (r .0 .0 .1) (r .0 .1) (r .1)
+    refusal-last _ _ (r .0 .0 .0 .0 .0 .0 .0 .0 .0 .0 .0 .0 .1) (r .0 .0 .0 .0 .0 .0 .0 .0 .0 .0 .0 .1) (r .0 .0 .0 .0 .0 .0 .0 .0 .0 .0 .1) (r .0 .0 .0 .0 .0 .0 .0 .0 .0 .1) (r .0 .0 .0 .0 .0 .0 .0 .0 .1) (r .0 .0 .0 .0 .0 .0 .0 .1) (r .0 .0 .0 .0 .0 .0 .1) (r .0 .0 .0 .0 .0 .1) (r .0 .0 .0 .0 .1) (r .0 .0 .0 .1) (r .0 .0 .1) (r .0 .1) (r .1)
 
 pub refusal-of-spec : {M : Type 1} → statement M
 refusal-of-spec =
@@ -115,6 +124,7 @@ refusal-of-spec =
     cast-t15
     cast-t17
     cast-t19
+    cast-t21
     returns
     returns-2
     returns-3
@@ -127,4 +137,5 @@ refusal-of-spec =
     returns-10
     returns-11
     returns-12
-    returns-13)
+    returns-13
+    returns-14)

@@ -59,11 +59,11 @@ enum-known-q-5 c = search needs
 plain-requires-6 : tie.Need-plain-requires-6
 plain-requires-6 c κs = search needs
 
-sub-t29 : tie.Need-sub-t29
-sub-t29 c = search needs
+sub-t30 : tie.Need-sub-t30
+sub-t30 c = search needs
 
-add-t30 : tie.Need-add-t30
-add-t30 c = search needs
+add-t31 : tie.Need-add-t31
+add-t31 c = search needs
 
 enum-known-q-6 : tie.Need-enum-known-q-6
 enum-known-q-6 c = search needs
@@ -163,6 +163,15 @@ enum-known-q-18 c = search needs
 
 plain-requires-21 : tie.Need-plain-requires-21
 plain-requires-21 c κs = search needs
+
+enum-known-q-19 : tie.Need-enum-known-q-19
+enum-known-q-19 c = search needs
+
+cast-plain-7 : tie.Need-cast-plain-7
+cast-plain-7 c = search needs
+
+plain-requires-22 : tie.Need-plain-requires-22
+plain-requires-22 c κs = search needs
 
 returns : tie.Need-returns
 unfolding numbers-told numbers told place below size
@@ -277,6 +286,11 @@ unfolding numbers-told numbers told place below size
 returns-23 c =
     c .plain21 .ensures ∙ ap numbers-told (sym (c .before .before .q18 .given .1))
 
+returns-24 : tie.Need-returns-24
+unfolding numbers-told numbers told place below size
+returns-24 c =
+    c .plain22 .ensures ∙ ap numbers-told (sym (c .before .before .q19 .given .1))
+
 pub numbers-of-spec : {M : Type 1} → statement M
 numbers-of-spec =
     tie.close
@@ -298,8 +312,8 @@ numbers-of-spec =
     plain-requires-5
     enum-known-q-5
     plain-requires-6
-    sub-t29
-    add-t30
+    sub-t30
+    add-t31
     enum-known-q-6
     plain-requires-7
     enum-known-q-7
@@ -333,6 +347,9 @@ numbers-of-spec =
     plain-requires-20
     enum-known-q-18
     plain-requires-21
+    enum-known-q-19
+    cast-plain-7
+    plain-requires-22
     returns
     returns-2
     returns-3
@@ -355,4 +372,5 @@ numbers-of-spec =
     returns-20
     returns-21
     returns-22
-    returns-23)
+    returns-23
+    returns-24)

@@ -9,29 +9,32 @@ use Rattle.reply.proofs.tell_words.Tie as tie
 tell-requires : tie.Need-tell-requires
 tell-requires c κs = search needs
 
-array-read-tell-seven : tie.Need-array-read-tell-seven
-array-read-tell-seven c = search needs
+array-read-tell-node : tie.Need-array-read-tell-node
+array-read-tell-node c = search needs
 
-array-read-tell-seven-2 : tie.Need-array-read-tell-seven-2
-array-read-tell-seven-2 c = search needs
+array-read-tell-node-2 : tie.Need-array-read-tell-node-2
+array-read-tell-node-2 c = search needs
 
-array-read-tell-seven-3 : tie.Need-array-read-tell-seven-3
-array-read-tell-seven-3 c = search needs
+array-read-tell-node-3 : tie.Need-array-read-tell-node-3
+array-read-tell-node-3 c = search needs
 
-array-read-tell-seven-4 : tie.Need-array-read-tell-seven-4
-array-read-tell-seven-4 c = search needs
+array-read-tell-node-4 : tie.Need-array-read-tell-node-4
+array-read-tell-node-4 c = search needs
 
-array-read-tell-seven-5 : tie.Need-array-read-tell-seven-5
-array-read-tell-seven-5 c = search needs
+array-read-tell-node-5 : tie.Need-array-read-tell-node-5
+array-read-tell-node-5 c = search needs
 
-array-read-tell-seven-6 : tie.Need-array-read-tell-seven-6
-array-read-tell-seven-6 c = search needs
+array-read-tell-node-6 : tie.Need-array-read-tell-node-6
+array-read-tell-node-6 c = search needs
 
-array-read-tell-seven-7 : tie.Need-array-read-tell-seven-7
-array-read-tell-seven-7 c = search needs
+array-read-tell-node-7 : tie.Need-array-read-tell-node-7
+array-read-tell-node-7 c = search needs
 
-tell-seven-requires : tie.Need-tell-seven-requires
-tell-seven-requires c κs = search needs
+array-read-tell-node-8 : tie.Need-array-read-tell-node-8
+array-read-tell-node-8 c = search needs
+
+tell-node-requires : tie.Need-tell-node-requires
+tell-node-requires c κs = search needs
 
 same-length : tie.Need-same-length
 same-length c = search needs
@@ -40,20 +43,21 @@ returns : tie.Need-returns
 unfolding node-words
 returns c =
     let tell = c .before .before .before .before .before .before .tell in
-    (tell .ensures .0, c .before .before .tell-seven .ensures ∙ then _ _ _ (tell .ensures .1))
+    (tell .ensures .0, c .before .before .tell-node .ensures ∙ then _ _ _ (tell .ensures .1))
 
 pub tell-words-spec : {M : Type 1} → statement M
 tell-words-spec =
     tie.close
     (tie.spec
     tell-requires
-    array-read-tell-seven
-    array-read-tell-seven-2
-    array-read-tell-seven-3
-    array-read-tell-seven-4
-    array-read-tell-seven-5
-    array-read-tell-seven-6
-    array-read-tell-seven-7
-    tell-seven-requires
+    array-read-tell-node
+    array-read-tell-node-2
+    array-read-tell-node-3
+    array-read-tell-node-4
+    array-read-tell-node-5
+    array-read-tell-node-6
+    array-read-tell-node-7
+    array-read-tell-node-8
+    tell-node-requires
     same-length
     returns)

@@ -49,7 +49,7 @@ returns-2 c =
     let w = c7 .integer-at .ensures in
     let n = c .integer-size .ensures in
     let t = sym (c3 .before .before .before .in-form .ensures _ (w .0) (w .1)) ∙ not-false _ (c3 .before .before .if1 .left) in
-    let put = c3 .put-node .ensures ∙ ap (λ (v : ℕ). sets (a .nodes .now) (a .node * width) (2 ∷ v ∷ 0 ∷ 0 ∷ 0 ∷ 0 ∷ 0 ∷ [])) (w .0) in
+    let put = c3 .put-node .ensures ∙ ap (λ (v : ℕ). sets (a .nodes .now) (a .node * width) (2 ∷ v ∷ 0 ∷ 0 ∷ 0 ∷ 0 ∷ 0 ∷ 0 ∷ [])) (w .0) in
     (λ m. put, (λ m. (n, t), (λ z. absurd (omega (arith, z, n, size-some (getD (a .input .now) (a .at) 0))), omega (arith, w .0))))
 
 pub put-integer-spec : {M : Type 1} → statement M

@@ -72,6 +72,16 @@ slice-write-nodes-7 : tie.Need-slice-write-nodes-7
 slice-write-nodes-7 c =
     simp length-set (omega arith)
 
+add-nodes-7 : tie.Need-add-nodes-7
+add-nodes-7 c = search needs
+
+mul-nodes-8 : tie.Need-mul-nodes-8
+mul-nodes-8 c = search needs
+
+slice-write-nodes-8 : tie.Need-slice-write-nodes-8
+slice-write-nodes-8 c =
+    simp length-set (omega arith)
+
 same-length : tie.Need-same-length
 same-length c = search needs
 
@@ -103,5 +113,8 @@ put-node-spec =
     add-nodes-6
     mul-nodes-7
     slice-write-nodes-7
+    add-nodes-7
+    mul-nodes-8
+    slice-write-nodes-8
     same-length
     returns)

@@ -49,7 +49,7 @@ returns-2 c =
       λ input room limit row re by sy ob e f. row-added row _ e f (c-if1 .left) (c-put-node .ensures),
       λ k. (
         omega (arith, is NODES (nodes-of l + 1) l (c7 .pre .2) (omega arith)),
-        λ n. stored-free (a .nodes .now) (nodes-of l) (a .kind) (a .a ∷ a .b ∷ 0 ∷ a .n ∷ a .name ∷ 0 ∷ []) (c-put-node .ensures) h n,
+        λ n. stored-free (a .nodes .now) (nodes-of l) (a .kind) (a .a ∷ a .b ∷ 0 ∷ a .n ∷ a .name ∷ 0 ∷ a .class ∷ []) (c-put-node .ensures) h n,
       ),
     )
 

@@ -53,7 +53,7 @@ unfolding create-array words
 returns c =
     let a = c .before .before .before .before .before .before .before .before .before .before .before .before .before .before .before .before .before .before .before .before .args in
     let L = lent (a .nodes .now) (a .references .now) (a .bytes .now) (a .counts) in
-    build-on (check (member-slice (a .members .now) ∷ [])) _ L (accepted (check (member-slice (a .members .now) ∷ [])) L (c .before .before .before .before .before .before .before .before .before .before .enum-told .given .1) (c .before .before .before .before .before .before .before .before .before .before .before .before .begin .ensures .0 (member-slice (a .members .now) ∷ []) (c .before .before .before .before .before .before .before .before .before .before .before .before .before .before .before .wrong-members .ensures (a .members .now) refl))) (build-on (check-handles (a .members .now)) _ L (accepted (check-handles (a .members .now)) L (c .before .before .before .before .before .before .before .enum-told2 .given .1) (c .before .before .before .before .before .before .before .before .before .check-handles-at .ensures L refl)) (c .before .before .before .before .add-list .ensures (a .bytes .now) (λ b r. array r (length (a .members .now))) (λ b. refl)))
+    build-on (check (member-slice (a .members .now) ∷ [])) _ L (accepted (check (member-slice (a .members .now) ∷ [])) L (c .before .before .before .before .before .before .before .before .before .before .enum-told .given .1) (c .before .before .before .before .before .before .before .before .before .before .before .before .begin .ensures .0 (member-slice (a .members .now) ∷ []) (c .before .before .before .before .before .before .before .before .before .before .before .before .before .before .before .wrong-members .ensures (a .members .now) refl))) (build-on (check-handles (a .members .now)) _ L (accepted (check-handles (a .members .now)) L (c .before .before .before .before .before .before .before .enum-told2 .given .1) (c .before .before .before .before .before .before .before .before .before .check-handles-at .ensures L refl)) (c .before .before .before .before .add-list .ensures (a .bytes .now) (λ b r. array r (length (a .members .now)) 0) (λ b. refl)))
 
 same-length-3 : tie.Need-same-length-3
 same-length-3 c = search needs

@@ -24,7 +24,7 @@ returns : tie.Need-returns
 unfolding create-fixnum plain words pure next _>>=_
 returns c =
     let a = c .before .before .before .before .before .before .before .before in
-    c .before .before .create-plain .ensures (pure tt) (fixnum (bits (a .args .value))) refl (ap (λ (w : ℕ). 2 ∷ w ∷ 0 ∷ 0 ∷ 0 ∷ 0 ∷ 0 ∷ []) (sym (c .before .before .before .bits-of .ensures ∙ ap bits (passed (a .fits .value)))))
+    c .before .before .create-plain .ensures (pure tt) (fixnum (bits (a .args .value))) refl (ap (λ (w : ℕ). 2 ∷ w ∷ 0 ∷ 0 ∷ 0 ∷ 0 ∷ 0 ∷ 0 ∷ []) (sym (c .before .before .before .bits-of .ensures ∙ ap bits (passed (a .fits .value)))))
 
 pub create-fixnum-spec : {M : Type 1} → statement M
 create-fixnum-spec = tie.close (tie.spec bits-of-requires create-plain-requires same-length returns)

@@ -4,8 +4,8 @@ use Prim.Native.Nat.{_/_}
 use mathlib.Core.Path.{refl, ap, _∙_}
 use mathlib.Core.List.{[], _∷_, _++_}
 use lib.ListN.{length}
-use Rattle.definition.specs.Node.{hash, words}
-use Rattle.definition.specs.Build.{lent, check, check-handles, pair-slice, default-handle, create-hash, build-call-of}
+use Rattle.definition.specs.Node.{hash, words, optional-node}
+use Rattle.definition.specs.Build.{lent, check, check-handles, pair-slice, create-hash, build-call-of}
 use Rattle.call_check.proofs.Tests.{handles-app, handles-stop}
 use Rattle.call_check.proofs.Answers.{accepted, not-accepted, fit-of}
 use Rattle.value_arena.proofs.Building.{build-on, build-stop}
@@ -27,8 +27,8 @@ check-handles-at-requires c κs = search needs
 enum-told-2 : tie.Need-enum-told-2
 enum-told-2 c = search needs
 
-check-default-requires : tie.Need-check-default-requires
-check-default-requires c κs = search needs
+check-optional-requires : tie.Need-check-optional-requires
+check-optional-requires c κs = search needs
 
 enum-told-3 : tie.Need-enum-told-3
 enum-told-3 c = search needs
@@ -67,7 +67,7 @@ unfolding create-hash words
 returns c =
     let a = c .before .before .before .before .before .before .before .before .before .before .before .before .before .before .before .before .before .before .before .before .before .before .before .args in
     let L = lent (a .nodes .now) (a .references .now) (a .bytes .now) (a .counts) in
-    build-on (check (pair-slice (a .pairs .now) ∷ [])) _ L (accepted (check (pair-slice (a .pairs .now) ∷ [])) L (c .before .before .before .before .before .before .before .before .before .before .before .before .before .enum-told .given .1) (c .before .before .before .before .before .before .before .before .before .before .before .before .before .before .before .begin .ensures .0 (pair-slice (a .pairs .now) ∷ []) (c .before .before .before .before .before .before .before .before .before .before .before .before .before .before .before .before .before .before .wrong-pairs .ensures .0 (a .pairs .now) refl))) (build-on (check-handles ((a .pairs .now) ++ (default-handle (a .default)))) _ L (handles-app (a .pairs .now) (default-handle (a .default)) L (accepted (check-handles (a .pairs .now)) L (c .before .before .before .before .before .before .before .before .before .before .enum-told2 .given .1) (c .before .before .before .before .before .before .before .before .before .before .before .before .check-handles-at .ensures L refl)) ∙ accepted (check-handles (default-handle (a .default))) L (c .before .before .before .before .before .before .before .enum-told3 .given .1) (c .before .before .before .before .before .before .before .before .before .check-default .ensures L refl)) (c .before .before .before .before .add-list .ensures (a .bytes .now) (λ b r. hash r (length (a .pairs .now) / 2) (a .default)) (λ b. refl)))
+    build-on (check (pair-slice (a .pairs .now) ∷ [])) _ L (accepted (check (pair-slice (a .pairs .now) ∷ [])) L (c .before .before .before .before .before .before .before .before .before .before .before .before .before .enum-told .given .1) (c .before .before .before .before .before .before .before .before .before .before .before .before .before .before .before .begin .ensures .0 (pair-slice (a .pairs .now) ∷ []) (c .before .before .before .before .before .before .before .before .before .before .before .before .before .before .before .before .before .before .wrong-pairs .ensures .0 (a .pairs .now) refl))) (build-on (check-handles ((a .pairs .now) ++ (optional-node (a .default)))) _ L (handles-app (a .pairs .now) (optional-node (a .default)) L (accepted (check-handles (a .pairs .now)) L (c .before .before .before .before .before .before .before .before .before .before .enum-told2 .given .1) (c .before .before .before .before .before .before .before .before .before .before .before .before .check-handles-at .ensures L refl)) ∙ accepted (check-handles (optional-node (a .default))) L (c .before .before .before .before .before .before .before .enum-told3 .given .1) (c .before .before .before .before .before .before .before .before .before .check-optional .ensures L refl)) (c .before .before .before .before .add-list .ensures (a .bytes .now) (λ b r. hash r (length (a .pairs .now) / 2) (a .default) 0) (λ b. refl)))
 
 same-length-3 : tie.Need-same-length-3
 same-length-3 c = search needs
@@ -80,7 +80,7 @@ unfolding create-hash
 returns-2 c =
     let a = c .before .before .before .before .before .before .before .before .before .before .before .before .before .before .before .before .before .before .args in
     let L = lent (a .nodes .now) (a .references .now) (a .bytes .now) (a .counts) in
-    ap (λ r. build-call-of r (a .nodes .now) (a .references .now) (a .bytes .now)) (c .refused .ensures) ∙ build-on (check (pair-slice (a .pairs .now) ∷ [])) _ L (accepted (check (pair-slice (a .pairs .now) ∷ [])) L (c .before .before .before .before .before .before .before .before .enum-told .given .1) (c .before .before .before .before .before .before .before .before .before .before .begin .ensures .0 (pair-slice (a .pairs .now) ∷ []) (c .before .before .before .before .before .before .before .before .before .before .before .before .before .wrong-pairs .ensures .0 (a .pairs .now) refl))) (build-stop (check-handles ((a .pairs .now) ++ (default-handle (a .default)))) _ L _ _ refl (handles-app (a .pairs .now) (default-handle (a .default)) L (accepted (check-handles (a .pairs .now)) L (c .before .before .before .before .before .enum-told2 .given .1) (c .before .before .before .before .before .before .before .check-handles-at .ensures L refl)) ∙ not-accepted (check-handles (default-handle (a .default))) L (c .before .before .q .given .1) (c .before .before .before .before .check-default .ensures L refl)))
+    ap (λ r. build-call-of r (a .nodes .now) (a .references .now) (a .bytes .now)) (c .refused .ensures) ∙ build-on (check (pair-slice (a .pairs .now) ∷ [])) _ L (accepted (check (pair-slice (a .pairs .now) ∷ [])) L (c .before .before .before .before .before .before .before .before .enum-told .given .1) (c .before .before .before .before .before .before .before .before .before .before .begin .ensures .0 (pair-slice (a .pairs .now) ∷ []) (c .before .before .before .before .before .before .before .before .before .before .before .before .before .wrong-pairs .ensures .0 (a .pairs .now) refl))) (build-stop (check-handles ((a .pairs .now) ++ (optional-node (a .default)))) _ L _ _ refl (handles-app (a .pairs .now) (optional-node (a .default)) L (accepted (check-handles (a .pairs .now)) L (c .before .before .before .before .before .enum-told2 .given .1) (c .before .before .before .before .before .before .before .check-handles-at .ensures L refl)) ∙ not-accepted (check-handles (optional-node (a .default))) L (c .before .before .q .given .1) (c .before .before .before .before .check-optional .ensures L refl)))
 
 same-length-5 : tie.Need-same-length-5
 same-length-5 c = search needs
@@ -93,7 +93,7 @@ unfolding create-hash
 returns-3 c =
     let a = c .before .before .before .before .before .before .before .before .before .before .before .before .before .before .before .args in
     let L = lent (a .nodes .now) (a .references .now) (a .bytes .now) (a .counts) in
-    ap (λ r. build-call-of r (a .nodes .now) (a .references .now) (a .bytes .now)) (c .refused2 .ensures) ∙ build-on (check (pair-slice (a .pairs .now) ∷ [])) _ L (accepted (check (pair-slice (a .pairs .now) ∷ [])) L (c .before .before .before .before .before .enum-told .given .1) (c .before .before .before .before .before .before .before .begin .ensures .0 (pair-slice (a .pairs .now) ∷ []) (c .before .before .before .before .before .before .before .before .before .before .wrong-pairs .ensures .0 (a .pairs .now) refl))) (build-stop (check-handles ((a .pairs .now) ++ (default-handle (a .default)))) _ L _ _ refl (handles-stop (a .pairs .now) (default-handle (a .default)) L _ (not-accepted (check-handles (a .pairs .now)) L (c .before .before .q2 .given .1) (c .before .before .before .before .check-handles-at .ensures L refl))))
+    ap (λ r. build-call-of r (a .nodes .now) (a .references .now) (a .bytes .now)) (c .refused2 .ensures) ∙ build-on (check (pair-slice (a .pairs .now) ∷ [])) _ L (accepted (check (pair-slice (a .pairs .now) ∷ [])) L (c .before .before .before .before .before .enum-told .given .1) (c .before .before .before .before .before .before .before .begin .ensures .0 (pair-slice (a .pairs .now) ∷ []) (c .before .before .before .before .before .before .before .before .before .before .wrong-pairs .ensures .0 (a .pairs .now) refl))) (build-stop (check-handles ((a .pairs .now) ++ (optional-node (a .default)))) _ L _ _ refl (handles-stop (a .pairs .now) (optional-node (a .default)) L _ (not-accepted (check-handles (a .pairs .now)) L (c .before .before .q2 .given .1) (c .before .before .before .before .check-handles-at .ensures L refl))))
 
 same-length-7 : tie.Need-same-length-7
 same-length-7 c = search needs
@@ -117,7 +117,7 @@ create-hash-spec =
     enum-told
     check-handles-at-requires
     enum-told-2
-    check-default-requires
+    check-optional-requires
     enum-told-3
     add-list-requires
     enum-known-q

@@ -21,7 +21,7 @@ returns : tie.Need-returns
 unfolding create-string text words
 returns c =
     let a = c .before .before .before .before .before .before .before .before .before .before .before .args in
-    c .before .before .before .before .create-text .ensures (λ b r. string b (length (a .value .now)) absent) (λ l. refl)
+    c .before .before .before .before .create-text .ensures (λ b r. string b (length (a .value .now)) absent 0) (λ l. refl)
 
 pub create-string-spec : {M : Type 1} → statement M
 create-string-spec = tie.close (tie.spec create-text-requires same-length same-length-2 returns)

@@ -95,14 +95,25 @@ shared-slice-read-t44 c =
     let l = inside (fit-of _ _ _ _ _ (c .before .before .before .before .before .before .before .before .enum-told .given .1) (c .before .before .before .before .before .before .before .before .before .before .begin-handle .ensures .1 .0)) (below-of _ _ (c .before .before .before .before .before .before .before .before .enum-told .given .1) (c .before .before .before .before .before .before .before .before .before .before .begin-handle .ensures .1 .1)) (c .before .before .before .before .before .before .before .size .ensures) in
     omega arith
 
+add-t45 : tie.Need-add-t45
+add-t45 c = search needs
+
+mul-t46 : tie.Need-mul-t46
+mul-t46 c = search needs
+
+shared-slice-read-t48 : tie.Need-shared-slice-read-t48
+shared-slice-read-t48 c =
+    let l = inside (fit-of _ _ _ _ _ (c .before .before .before .before .before .before .before .before .before .enum-told .given .1) (c .before .before .before .before .before .before .before .before .before .before .before .begin-handle .ensures .1 .0)) (below-of _ _ (c .before .before .before .before .before .before .before .before .before .enum-told .given .1) (c .before .before .before .before .before .before .before .before .before .before .before .begin-handle .ensures .1 .1)) (c .before .before .before .before .before .before .before .before .size .ensures) in
+    omega arith
+
 enum-known-q : tie.Need-enum-known-q
 enum-known-q c = search needs
 
 returns : tie.Need-returns
 returns c =
-    let a = c .before .before .before .before .before .before .before .before .before .before .before .before .before .before .args in
+    let a = c .before .before .before .before .before .before .before .before .before .before .before .before .before .before .before .args in
     let L = lent (a .nodes .now) (a .references .now) (a .bytes .now) (a .counts) in
-    get-all L (a .h) _ (c .before .before .before .before .before .before .before .size .ensures) (inside (fit-of _ _ _ _ _ (c .before .before .before .before .before .before .before .before .enum-told .given .1) (c .before .before .before .before .before .before .before .before .before .before .begin-handle .ensures .1 .0)) (below-of _ _ (c .before .before .before .before .before .before .before .before .enum-told .given .1) (c .before .before .before .before .before .before .before .before .before .before .begin-handle .ensures .1 .1)) refl) (accepted (handles-checked (a .h ∷ [])) L (c .before .before .before .before .before .before .before .before .enum-told .given .1) (c .before .before .before .before .before .before .before .before .before .before .begin-handle .ensures .0))
+    get-all L (a .h) _ (c .before .before .before .before .before .before .before .before .size .ensures) (inside (fit-of _ _ _ _ _ (c .before .before .before .before .before .before .before .before .before .enum-told .given .1) (c .before .before .before .before .before .before .before .before .before .before .before .begin-handle .ensures .1 .0)) (below-of _ _ (c .before .before .before .before .before .before .before .before .before .enum-told .given .1) (c .before .before .before .before .before .before .before .before .before .before .before .begin-handle .ensures .1 .1)) refl) (accepted (handles-checked (a .h ∷ [])) L (c .before .before .before .before .before .before .before .before .before .enum-told .given .1) (c .before .before .before .before .before .before .before .before .before .before .before .begin-handle .ensures .0))
 
 returns-2 : tie.Need-returns-2
 returns-2 c =
@@ -138,6 +149,9 @@ get-spec =
     add-t41
     mul-t42
     shared-slice-read-t44
+    add-t45
+    mul-t46
+    shared-slice-read-t48
     enum-known-q
     returns
     returns-2)

@@ -4,7 +4,7 @@
 // leave what load does, and count what a walk over the input finds; the bucket table, of just as many words as the node table has
 // nodes, must be zero then.
 //
-// usage: differential [CORPUS ..]    after tools/rust/build; a CORPUS is a folder with saved, load-list or load .jsonl
+// usage: differential [CORPUS]    after tools/rust/build; CORPUS is a folder with load.jsonl
 //
 // Allowed, and counted apart: ours refuses with 11 an input of more bytes than the limit has levels (the Rust has no limit),
 // or with 12 counts of more references than the larger table has, where the Rust refuses later. Left out of the comparison,
@@ -18,12 +18,19 @@
 // them: with strings for both such an input is compared, and ours must answer to both alike but for the node, the form of a
 // Bignum and `I`; with empty arrays for them, on which `I` is refused as on both, the Rust must give our answer; and where load
 // comes to a Bignum that is refused, ours must give the answer of a reader of Bignums written after the document.
+//
+// Other inputs in which load comes to a class (`C`), which the Rust refuses likewise. What can be asked of them: with a
+// user-defined value for a string in a class, which reads the name and the bytes alike, and without a class whose name is a link,
+// such an input is compared, and ours must answer to both alike but for the nodes. With the name as the first member of an array
+// or hash, where it is written out, the answer and the dump form must be the same; what may not be in a class must be refused
+// with 22.
 use beside_rust::bignum::{bignum, Bignum};
 use beside_rust::measure::{counted, integer, wrong_sign_met, Counted, Role};
 use beside_rust::random::{damaged, value, Random, ALPHABET};
 use beside_rust::room::Room;
 use beside_rust::{inputs, Answer, Tables};
 use ruby_marshal::{Error, SymbolValue, TypedValueHandle, Value, ValueArena, ValueHandle};
+use ruby_marshal_tables::NODE_WORDS;
 use std::collections::HashSet;
 use std::panic::{catch_unwind, AssertUnwindSafe};
 
@@ -44,6 +51,11 @@ const PIECES: &[&[u8]] = &[
 ];
 // A Bignum's bytes, and what may stand around it.
 const AROUND: &[u8] = b"l+-0[@I\x00\x01\x06\x07\x0A\xFA";
+// A class, names, and what may be in one or around it.
+const CLASSED: &[&[u8]] = &[
+    b"C", b":\x06a", b":\x06b", b";\x00", b";\x06", b"\"\x00", b"[\x00", b"[\x06", b"[\x07", b"{\x06", b"}\x00", b"I", b"@\x00",
+    b"@\x06", b"u", b"0", b"\x00",
+];
 // What stands before an integer: a Fixnum, the lengths, the counts, the indices.
 const PLACES: &[&[u8]] = &[
     b"i", b":", b"\"", b"u:\x06a", b"f", b"[", b"{", b"}", b"o:\x06a", b"I\"\x00", b"l+", b"l-", b";", b"@",
@@ -62,7 +74,7 @@ enum Outcome {
     Refused(u64),
     TooDeep,
     NoSpace,
-    /// load comes to a Float or a Bignum: the kind of the first, the number of our answer, and whether it is in dump form
+    /// load comes to a Float, a Bignum or a class: the kind of the first, the number of our answer, and whether it is in dump form
     Later(u8, u64, bool),
     /// load comes to a size byte of the other sign, and what it reads the integer for
     WrongSign(u8, Role),
@@ -94,7 +106,7 @@ fn number(handle: impl Into<ValueHandle>) -> Option<u32> {
 
 // A value of the Rust's arena as a node: its words, where a start is left 0, its bytes and the members of its list.
 struct Node<'a> {
-    words: [u32; 7],
+    words: [u32; NODE_WORDS],
     bytes: Option<&'a [u8]>,
     members: Option<Vec<ValueHandle>>,
 }
@@ -108,13 +120,13 @@ fn flat<A: Copy + Into<ValueHandle>>(pairs: &[Pair<A>]) -> Option<Vec<ValueHandl
 // A string or user-defined.
 fn text_node<'a>(kind: u32, bytes: &'a [u8], variables: Option<&[Pair<TypedValueHandle<SymbolValue>>]>, name: u32) -> Node<'a> {
     let count = variables.map_or(0, |v| v.len() as u32);
-    let words = [kind, 0, bytes.len() as u32, 0, count, name, variables.is_some() as u32];
+    let words = [kind, 0, bytes.len() as u32, 0, count, name, variables.is_some() as u32, 0];
     Node { words, bytes: Some(bytes), members: variables.and_then(flat) }
 }
 
 fn node(value: &Value) -> Option<Node<'_>> {
-    let plain = |kind, n| Node { words: [kind, n, 0, 0, 0, 0, 0], bytes: None, members: None };
-    let list = |kind, n: usize, name, default, members| Node { words: [kind, 0, 0, 0, n as u32, name, default], bytes: None, members };
+    let plain = |kind, n| Node { words: [kind, n, 0, 0, 0, 0, 0, 0], bytes: None, members: None };
+    let list = |kind, n: usize, name, default, members| Node { words: [kind, 0, 0, 0, n as u32, name, default, 0], bytes: None, members };
     Some(match value {
         Value::Nil(_) => plain(0, 0),
         Value::Bool(v) => plain(1, v.value() as u32),
@@ -134,7 +146,7 @@ fn node(value: &Value) -> Option<Node<'_>> {
 // Whether our node of that number is the Rust's: every word but the starts, the bytes, and the members by number.
 fn same_node(tables: &Tables, n: usize, theirs: &Node) -> bool {
     let [nodes, references, bytes, _] = tables.counts;
-    let Some(ours) = tables.nodes[..nodes * 7].chunks(7).nth(n) else { return false };
+    let Some(ours) = tables.nodes[..nodes * NODE_WORDS].chunks(NODE_WORDS).nth(n) else { return false };
     let mut words = theirs.words;
     if let Some(text) = theirs.bytes {
         words[1] = ours[1];
@@ -201,7 +213,7 @@ impl Held {
             counts: tables.counts,
             used: tables.used,
             dump_form: tables.dump_form,
-            nodes: tables.nodes[..nodes * 7].to_vec(),
+            nodes: tables.nodes[..nodes * NODE_WORDS].to_vec(),
             references: tables.references[..references].to_vec(),
             bytes: tables.bytes[..bytes].to_vec(),
             dumped,
@@ -209,13 +221,17 @@ impl Held {
         }
     }
 
-    // Strings for Floats and Bignums, as `with_strings` has them, in nodes, bytes and dump; how many they were. None where a
-    // node is not as load makes it: its bytes after those of the nodes before it.
-    fn exchange(&mut self) -> Option<[usize; 2]> {
-        self.written = with_strings(&self.written).ok()?.input;
-        let (mut bytes, mut at, mut count) = (Vec::new(), 0, [0; 2]);
-        for words in self.nodes.chunks_mut(7) {
+    // Strings for Floats and Bignums and user-defined values for strings in classes, as `with_strings` has them, in nodes, bytes
+    // and dump, and no other classes; how many they were. None where a node is not as load makes it: its bytes after those of the
+    // nodes before it.
+    fn exchange(&mut self) -> Option<[usize; 3]> {
+        let plain = with_strings(&self.written).ok()?;
+        self.written = if plain.alike { plain.input } else { vec![] };
+        let (mut bytes, mut at, mut count) = (Vec::new(), 0, [0; 3]);
+        for words in self.nodes.chunks_mut(NODE_WORDS) {
             let start = bytes.len() as u32;
+            let class = std::mem::take(&mut words[7]);
+            count[2] += (class > 0) as usize;
             match words[0] {
                 SYMBOL_NODE | STRING_NODE | USER_DEFINED_NODE | FLOAT_NODE => {
                     let end = at + words[2] as usize;
@@ -225,11 +241,13 @@ impl Held {
                     if words[0] == FLOAT_NODE {
                         words[0] = STRING_NODE;
                         count[0] += 1;
+                    } else if class > 0 {
+                        (words[0], words[5]) = (USER_DEFINED_NODE, class - 1);
                     }
                 }
                 BIGNUM_NODE => {
                     let text = Bignum::of_words(words)?.text();
-                    words.copy_from_slice(&[STRING_NODE, start, text.len() as u32, 0, 0, 0, 0]);
+                    words.copy_from_slice(&[STRING_NODE, start, text.len() as u32, 0, 0, 0, 0, 0]);
                     bytes.extend(text);
                     count[1] += 1;
                 }
@@ -242,35 +260,89 @@ impl Held {
     }
 }
 
-// An input with other values for its Floats and Bignums: how many they were, and whether each Bignum was as dump writes it.
+// An input with other values for its Floats, Bignums and classes: how many they were, whether each Bignum, link and count that is
+// not in it any more was as dump writes it, and whether the same nodes are made of it, in their order.
 struct Exchanged {
     input: Vec<u8>,
-    count: [usize; 2],
+    count: [usize; 3],
     form: bool,
+    alike: bool,
 }
 
-// The input, changed at each Float and Bignum that load comes to until there is none: the Rust stops right after the kind byte.
-// What load must answer, where it comes to a Bignum that is refused.
+// The input, changed at each Float, Bignum and class that load comes to until there is none: the Rust stops right after the kind
+// byte. What load must answer, where it comes to a Bignum or a class that is refused.
 fn exchanged(
     input: &[u8],
     float: impl Fn(&mut Vec<u8>, usize),
     other: impl Fn(Bignum) -> Vec<u8>,
 ) -> Result<Exchanged, Answer> {
-    let (mut out, mut count, mut form) = (input.to_vec(), [0; 2], true);
+    let mut made = Exchanged { input: input.to_vec(), count: [0; 3], form: true, alike: true };
     loop {
-        let mut rest = &out[..];
-        let Err(Error::InvalidValueKind { kind: kind @ (FLOAT | BIGNUM) }) = ruby_marshal::load(&mut rest) else {
-            return Ok(Exchanged { input: out, count, form });
+        let mut rest = &made.input[..];
+        let Err(Error::InvalidValueKind { kind: kind @ (FLOAT | BIGNUM | CLASS) }) = ruby_marshal::load(&mut rest) else {
+            return Ok(made);
         };
-        let place = out.len() - rest.len() - 1;
-        if kind == FLOAT {
-            float(&mut out, place);
-        } else {
-            let (found, end, in_form) = bignum(&out, place + 1)?;
-            out.splice(place..end, other(found));
-            form &= in_form;
+        let place = made.input.len() - rest.len() - 1;
+        match kind {
+            FLOAT => float(&mut made.input, place),
+            BIGNUM => {
+                let (found, end, in_form) = bignum(&made.input, place + 1)?;
+                made.input.splice(place..end, other(found));
+                made.form &= in_form;
+            }
+            _ => made.without_class(place)?,
         }
-        count[(kind == BIGNUM) as usize] += 1;
+        made.count[LATER.iter().position(|&later| later == kind).expect("a later kind")] += 1;
+    }
+}
+
+impl Exchanged {
+    // The class at a place is taken out: its string is made a user-defined value, its name is left out where it is a link, and is
+    // else the first member, of a hash with nil. A name that is refused is so as that of a user-defined value.
+    fn without_class(&mut self, place: usize) -> Result<(), Answer> {
+        self.input[place] = USER_DEFINED;
+        let Some(end) = name_end(&self.input, place + 1) else { return Ok(()) };
+        let mut named = &self.input[..end];
+        if !matches!(ruby_marshal::load(&mut named), Err(Error::Io { .. })) {
+            return Ok(());
+        }
+        let (name, linked) = (self.input[place + 1..end].to_vec(), self.input[place + 1] == SYMBOL_LINK);
+        match self.input.get(end).copied() {
+            None => (),
+            Some(STRING) => drop(self.input.remove(end)),
+            Some(b'[' | b'{' | b'}') if linked => {
+                self.form &= integer(&name, 1).is_some_and(|(n, _)| name == dumped(SYMBOL_LINK, n));
+                self.input.drain(place..end);
+            }
+            Some(kind @ (b'[' | b'{' | b'}')) => match integer(&self.input, end + 1) {
+                Some((n @ 0..0xFF_FFFF, after)) => {
+                    self.form &= self.input[end..after] == dumped(kind, n);
+                    let nil: &[u8] = if kind == b'[' { b"" } else { b"0" };
+                    self.input.splice(place..after, [&dumped(kind, n + 1), &name, nil].concat());
+                    self.alike = false;
+                }
+                // load ends at such a count
+                _ => drop(self.input.drain(place..end)),
+            },
+            Some(other) => return Err(Answer { number: 22, first: other.into(), second: 0 }),
+        }
+        Ok(())
+    }
+}
+
+// A kind byte and an integer from zero up as dump writes them.
+fn dumped(kind: u8, n: i32) -> Vec<u8> {
+    let mut out = vec![kind];
+    inputs::integer(n, &mut out);
+    out
+}
+
+// Where the name at a place ends, if it is whole.
+fn name_end(input: &[u8], place: usize) -> Option<usize> {
+    match *input.get(place)? {
+        SYMBOL => byte_string_end(input, place + 1),
+        SYMBOL_LINK => integer(input, place + 1).map(|(_, end)| end),
+        _ => None,
     }
 }
 
@@ -309,7 +381,13 @@ fn byte_string_end(input: &[u8], place: usize) -> Option<usize> {
 
 const FLOAT: u8 = b'f';
 const BIGNUM: u8 = b'l';
+const CLASS: u8 = b'C';
+// The kinds besides the Rust's.
+const LATER: [u8; 3] = [FLOAT, BIGNUM, CLASS];
 const STRING: u8 = b'"';
+const USER_DEFINED: u8 = b'u';
+const SYMBOL: u8 = b':';
+const SYMBOL_LINK: u8 = b';';
 const SYMBOL_NODE: u32 = 3;
 const STRING_NODE: u32 = 7;
 const USER_DEFINED_NODE: u32 = 8;
@@ -335,19 +413,19 @@ struct Run {
     looked: [u64; 2],
     /// nodes compared, by kind
     kinds: [usize; 9],
-    /// Floats and Bignums in accepted inputs
-    later: [usize; 2],
+    /// Floats, Bignums and classes in accepted inputs
+    later: [usize; 3],
     /// refusals that agree, by number
     refused: [usize; 11],
-    /// refusals of inputs with Floats or Bignums, by number
-    later_refused: [usize; 17],
+    /// refusals of inputs with Floats, Bignums or classes, by number
+    later_refused: [usize; 23],
     /// inputs that are refused for a size byte, by it and by what the integer is read for
     signs: [[usize; 4]; 2],
     inputs: usize,
     disagree: usize,
-    /// of the class: inputs, accepted, refused, too deep, no space, with a Float, with a Bignum, with a wrong sign, panics,
-    /// disagreeing; those in dump form
-    row: [usize; 11],
+    /// of the class of inputs: inputs, accepted, refused, too deep, no space, with a Float, with a Bignum, with a class, with a
+    /// wrong sign, panics, disagreeing; those in dump form
+    row: [usize; 12],
 }
 
 impl Run {
@@ -373,7 +451,9 @@ impl Run {
         });
         match loaded {
             Err(_) => Ok(Outcome::Panic),
-            Ok((Err(Error::InvalidValueKind { kind: kind @ (FLOAT | BIGNUM) }), _)) => self.compare_later(kind, input, room, ours),
+            Ok((Err(Error::InvalidValueKind { kind: kind @ (FLOAT | BIGNUM | CLASS) }), _)) => {
+                self.compare_later(kind, input, room, ours)
+            }
             _ if ours == TOO_DEEP && input.len() > LIMIT as usize => Ok(Outcome::TooDeep),
             Ok((Err(_), _)) if ours == NO_REFERENCES => Ok(Outcome::NoSpace),
             Ok((Err(e), _)) if refusal(&e, ours) == Some(ours) => Ok(Outcome::Refused(ours.number)),
@@ -432,7 +512,8 @@ impl Run {
         })
     }
 
-    // What ours answers to an input with Floats or Bignums, beside the same input with strings and with empty arrays for them.
+    // What ours answers to an input with Floats, Bignums or classes, beside the same input with strings and with empty arrays for
+    // Floats and Bignums, and without classes.
     fn compare_later(&mut self, kind: u8, input: &[u8], room: usize, ours: Answer) -> Result<Outcome, String> {
         let held = (ours.number == 0).then(|| Held::of(&mut self.lent[room].tables));
         let outcome = Outcome::Later(kind, ours.number, self.lent[room].tables.dump_form);
@@ -446,28 +527,36 @@ impl Run {
         if theirs != Some(ours) && !known {
             return Err(format!("load: {ours:?}, the Rust with arrays for Floats and Bignums {theirs:?}"));
         }
-        // A Bignum that is refused is the end.
+        // A Bignum or a class that is refused is the end.
         let Ok(plain) = plain else { return Ok(outcome) };
         if self.compare(&plain.input)? == Outcome::Panic {
             return Ok(Outcome::Panic);
         }
-        let answer = self.lent[room].fit(input.len()).load(&plain.input, LIMIT);
+        let length = if plain.alike { input.len() } else { plain.input.len() };
+        let answer = self.lent[room].fit(length).load(&plain.input, LIMIT);
+        // A name that is made a member has a level and takes a reference.
+        if !plain.alike && [TOO_DEEP, NO_REFERENCES].contains(&answer) {
+            return Ok(outcome);
+        }
         if ours != answer && ours != NOT_AN_OBJECT {
-            return Err(format!("load: {ours:?}, with strings for Floats and Bignums {answer:?}"));
+            return Err(format!("load: {ours:?}, with others for Floats, Bignums and classes {answer:?}"));
         }
         if let Some(mut held) = held {
             if held.dumped.number == 0 {
                 self.comes_back(&held.written)?;
             }
-            let strings = Held::of(&mut self.lent[room].tables);
+            let mut strings = Held::of(&mut self.lent[room].tables);
             if held.dump_form != (strings.dump_form && plain.form) {
-                return Err(format!("dump form: {}, with strings for Floats and Bignums {}", held.dump_form, strings.dump_form));
+                return Err(format!("dump form: {}, with others for Floats, Bignums and classes {}", held.dump_form, strings.dump_form));
             }
             let count = held.exchange();
             held.dump_form = strings.dump_form;
-            held.used -= input.len() - plain.input.len();
-            if count != Some(plain.count) || held != strings {
-                return Err(format!("tables or dump: not as with strings for Floats and Bignums; {count:?} of {:?}", plain.count));
+            held.used = held.used + plain.input.len() - input.len();
+            if held.written.is_empty() {
+                strings.written.clear();
+            }
+            if plain.alike && (count != Some(plain.count) || held != strings) || held.used != strings.used {
+                return Err(format!("tables or dump: not as with others for Floats, Bignums and classes; {count:?} of {:?}", plain.count));
             }
             for (sum, n) in self.later.iter_mut().zip(plain.count) {
                 *sum += n;
@@ -509,7 +598,7 @@ impl Run {
             }
             let theirs = arena.get(handle).and_then(node).ok_or(format!("the Rust's {handle:?}"))?;
             if !same_node(tables, n, &theirs) {
-                return Err(format!("node {n}: {:?}, the Rust {:?}", tables.nodes.chunks(7).nth(n), arena.get(handle)));
+                return Err(format!("node {n}: {:?}, the Rust {:?}", tables.nodes.chunks(NODE_WORDS).nth(n), arena.get(handle)));
             }
             met[n] = true;
             self.kinds[theirs.words[0] as usize] += 1;
@@ -567,18 +656,18 @@ impl Run {
             Ok(Outcome::NoSpace) => 4,
             Ok(Outcome::Later(kind, n, _)) => {
                 self.later_refused[n as usize] += 1;
-                if kind == FLOAT { 5 } else { 6 }
+                5 + LATER.iter().position(|&later| later == kind).expect("a later kind")
             }
             Ok(Outcome::WrongSign(size, role)) => {
                 self.signs[(size == SIZES[1]) as usize][role as usize] += 1;
-                7
+                8
             }
-            Ok(Outcome::Panic) => 8,
-            Err(_) => 9,
+            Ok(Outcome::Panic) => 9,
+            Err(_) => 10,
         };
         self.row[0] += 1;
         self.row[column] += 1;
-        self.row[10] += matches!(outcome, Ok(Outcome::Accepted(true) | Outcome::Later(_, _, true))) as usize;
+        self.row[11] += matches!(outcome, Ok(Outcome::Accepted(true) | Outcome::Later(_, _, true))) as usize;
         self.inputs += 1;
         if let Err(what) = &outcome {
             self.disagree += 1;
@@ -592,9 +681,9 @@ impl Run {
     // The class that was run, as a line of the table.
     fn end_class(&mut self, name: &str) {
         let [all, accepted, refused, deep, space, later @ .., panics, disagree, formed] = std::mem::take(&mut self.row);
-        let [floats, bignums, signs] = later;
-        print!("{name:<34}{all:>9}{accepted:>9}{refused:>9}{deep:>9}{space:>9}{floats:>9}{bignums:>9}{signs:>9}");
-        println!("{panics:>7}{disagree:>9}{formed:>10}");
+        let [floats, bignums, classes, signs] = later;
+        print!("{name:<34}{all:>9}{accepted:>9}{refused:>9}{deep:>9}{space:>9}");
+        println!("{floats:>9}{bignums:>9}{classes:>9}{signs:>9}{panics:>7}{disagree:>9}{formed:>10}");
     }
 
     // Every word of that length over the letters, after what is there.
@@ -656,7 +745,7 @@ impl Run {
         for length in 0..=5 {
             self.words(&mut vec![4, 8], ALPHABET, length);
         }
-        self.end_class("5 of 27 bytes");
+        self.end_class("5 of 28 bytes");
         let letters: Vec<&[u8]> = LETTERS.chunks(1).collect();
         self.undecided(&mut vec![4, 8], &letters, 7);
         self.end_class("7 of 16 bytes, till decided");
@@ -665,6 +754,8 @@ impl Run {
         let around: Vec<&[u8]> = AROUND.chunks(1).collect();
         self.undecided(&mut vec![4, 8], &around, 7);
         self.end_class("7 of 13 bytes around l, likewise");
+        self.undecided(&mut vec![4, 8], CLASSED, 6);
+        self.end_class("6 of 17 pieces around C, likewise");
         self.undecided(&mut vec![4, 8], SIGNED, 6);
         self.end_class("6 of 17 pieces around 04, likewise");
     }
@@ -702,42 +793,42 @@ fn saved(path: &str) -> Vec<Vec<u8>> {
 
 fn made() -> Vec<Vec<u8>> {
     let mut all = vec![inputs::recipes(300), inputs::batches(300), inputs::objects(300), inputs::names(130)];
-    all.extend([inputs::setpoints(300, FLOAT), inputs::counters(300, BIGNUM)]);
+    all.extend([inputs::setpoints(300, FLOAT), inputs::counters(300, BIGNUM), inputs::classes(300)]);
     all.extend(["arrays", "hashes", "defaults", "objects", "variables"].map(inputs::nested));
     all
 }
 
-fn run(corpora: Vec<String>) -> usize {
+fn run(corpus: Option<String>) -> usize {
     let [lent, measured, hashed] = [REFERENCES; 3].map(|sizes| sizes.map(Lent::new));
     let again = Lent::new(REFERENCES[0]);
-    let (compared, looked, kinds, later, refused, later_refused) = ([0; 2], [0; 2], [0; 9], [0; 2], [0; 11], [0; 17]);
-    let (signs, inputs, disagree, row) = ([[0; 4]; 2], 0, 0, [0; 11]);
+    let (compared, looked, kinds, later, refused, later_refused) = ([0; 2], [0; 2], [0; 9], [0; 3], [0; 11], [0; 23]);
+    let (signs, inputs, disagree, row) = ([[0; 4]; 2], 0, 0, [0; 12]);
     let mut run = Run {
         lent, measured, hashed, again, compared, looked, kinds, later, refused, later_refused, signs, inputs, disagree, row,
     };
     let mut random = Random(48);
     println!(
-        "{:<34}{:>9}{:>9}{:>9}{:>9}{:>9}{:>9}{:>9}{:>9}{:>7}{:>9}{:>10}",
-        "", "inputs", "accepted", "refused", "too deep", "no space", "Float", "Bignum", "sign", "panics", "disagree", "dump form"
+        "{:<34}{:>9}{:>9}{:>9}{:>9}{:>9}{:>9}{:>9}{:>9}{:>9}{:>7}{:>9}{:>10}",
+        "", "inputs", "accepted", "refused", "too deep", "no space", "Float", "Bignum", "class", "sign", "panics", "disagree", "dump form"
     );
     run.exhaustive();
-    let classes: [(_, _, &[u8]); 3] =
-        [("random", 400_000, b""), ("random with Floats", 100_000, b"f"), ("random with Bignums too", 100_000, b"fll")];
+    let classes: [(_, _, &[u8]); 4] = [
+        ("random", 400_000, b""),
+        ("random with Floats", 100_000, b"f"),
+        ("random with Bignums too", 100_000, b"fll"),
+        ("random with classes too", 100_000, b"flCCCC"),
+    ];
     for (name, number, later) in classes {
         let values: Vec<Vec<u8>> = (0..number).map(|_| value(&mut random, later)).collect();
         run.with_damage(name, &values, 4, &mut random);
     }
     run.with_damage("made", &made(), 20_000, &mut random);
-    for folder in corpora {
-        for name in ["saved", "load-list", "load"] {
-            let path = format!("{folder}/{name}.jsonl");
-            if std::path::Path::new(&path).exists() {
-                run.with_damage(name, &saved(&path), 100, &mut random);
-            }
-        }
+    if let Some(folder) = corpus {
+        run.with_damage("load", &saved(&format!("{folder}/load.jsonl")), 100, &mut random);
     }
-    println!("nodes compared, kinds 0 to 8: {:?}; Floats and Bignums as strings: {:?}", run.kinds, run.later);
-    println!("refusals 3 to 10 that agree: {:?}; with Floats or Bignums, 3 to 16: {:?}", &run.refused[3..], &run.later_refused[3..]);
+    println!("nodes compared, kinds 0 to 8: {:?}; Floats, Bignums and classes: {:?}", run.kinds, run.later);
+    let (refused, later) = (&run.refused[3..], &run.later_refused[3..]);
+    println!("refusals 3 to 10 that agree: {refused:?}; with Floats, Bignums or classes, 3 to 22: {later:?}");
     for (size, roles) in SIZES.iter().zip(run.signs) {
         println!("size byte {size:02X} of the other sign, at a Fixnum, a length, a count, an index: {roles:?}");
     }
@@ -750,8 +841,8 @@ fn run(corpora: Vec<String>) -> usize {
 }
 
 fn main() {
-    let corpora = std::env::args().skip(1).collect();
-    let thread = std::thread::Builder::new().stack_size(STACK).spawn(|| run(corpora));
+    let corpus = std::env::args().nth(1);
+    let thread = std::thread::Builder::new().stack_size(STACK).spawn(|| run(corpus));
     let disagree = thread.expect("a thread").join().expect("a run to the end");
     std::process::exit((disagree > 0) as i32);
 }

@@ -1,7 +1,8 @@
 // Times load and dump of the Rattle crates and of the Rust crate on the same inputs, and a walk over what they filled, in one
 // run; rounds of the two alternate. Beside load stands what it does at least: tables and lists set to zero and the input copied.
 // The measuring and the hashed load stand beside load.
-// Floats and Bignums, which the Rust refuses, are run by ours alone, and beside them the same recipes with strings in their place.
+// Floats, Bignums and classes, which the Rust refuses, are run by ours alone, and beside them the same recipes with strings in
+// their place, or in no class.
 //
 // usage: perf                    the tables of times
 //        perf names              the bytes that a load copies and compares for recipes of 10, 100 and 1,000 names
@@ -319,6 +320,7 @@ fn main() {
         ("100 KB, few names", batches(100_000)),
         ("1 MB, few names", batches(1_000_000)),
         ("100 KB, plain recipes", recipes(100_000)),
+        ("the same in a class", classes(100_000)),
         ("100 KB, objects", objects(100_000)),
         ("128 levels deep", nested("arrays")),
         ("1,000 names", names(1000)),

@@ -168,7 +168,7 @@ returns-3 t c =
           let name = read-symbol-like (c44 .args .input .now) room in
           let inner = D.read-value (c44 .args .input .now) room limit (c44 .args .levels) in
           lead-after (lead-first _ (c33 .open-node .ensures .0 _ room limit _ _ _) .goes (c28 .if1 .left))
-          (contained-stops name inner (array-of name inner h) 1 2 0 n _ _ _ (array-rest name inner h _ n) (one-each _ n) (q .1) (c25 .read-words .ensures .0 room limit _ _ _ _ _) (c22 .if2 .left) (c13 .read-members .ensures .0 room limit) (c .if3 .taken)),
+          (contained-stops name inner (array-of name inner h (c44 .args .class)) 1 2 0 n _ _ _ (array-rest name inner h _ n (c44 .args .class)) (one-each _ n) (q .1) (c25 .read-words .ensures .0 room limit _ _ _ _ _) (c22 .if2 .left) (c13 .read-members .ensures .0 room limit) (c .if3 .taken)),
       λ l. absurd (omega arith),
     )
 
@@ -239,7 +239,7 @@ returns-4 t c =
           let name = read-symbol-like (c48 .args .input .now) room in
           let inner = D.read-value (c48 .args .input .now) room limit (c48 .args .levels) in
           lead-after (lead-first _ (c37 .open-node .ensures .0 _ room limit _ _ _) .goes (c32 .if1 .left))
-          (contained name inner (array-of name inner h) 1 2 0 n _ _ _ (array-rest name inner h _ n) (one-each _ n) (q .1) (c29 .read-words .ensures .0 room limit _ _ _ _ _) (c26 .if2 .left) (c17 .read-members .ensures .0 room limit) (c4 .if3 .left)
-          (c .before .before .fill-node .ensures .0 _ room limit (array _ n) _ _ _ _ _ refl (other-kind (array 0 0) refl) (O .below) (λ _. O .free tt))),
+          (contained name inner (array-of name inner h (c48 .args .class)) 1 2 0 n _ _ _ (array-rest name inner h _ n (c48 .args .class)) (one-each _ n) (q .1) (c29 .read-words .ensures .0 room limit _ _ _ _ _) (c26 .if2 .left) (c17 .read-members .ensures .0 room limit) (c4 .if3 .left)
+          (c .before .before .fill-node .ensures .0 _ room limit (array _ n (c48 .args .class)) _ _ _ _ _ refl (other-kind (array 0 0 0) refl) (O .below) (λ _. O .free tt))),
       λ l. omega (arith, c .before .before .fill-node .ensures .1, O .below),
     )

@@ -30,6 +30,7 @@ use Rattle.value_reader.proofs.defaults.Reads as defaults-reads
 use Rattle.loader.proofs.fill_node.Reads as fill-node-reads
 use Rattle.loader.proofs.note_inner.Reads as note-inner-reads
 use Rattle.loader.proofs.open_node.Reads as open-node-reads
+use Rattle.leaf_reader.proofs.read_class.Reads as read-class-reads
 use Rattle.leaf_reader.proofs.read_leaf.Reads as read-leaf-reads
 use Rattle.run_reader.proofs.read_run.Reads as read-run-reads
 use Rattle.symbol_reader.proofs.read_symbol_like.Reads as read-symbol-like-reads
@@ -156,7 +157,7 @@ abbrev pub read-object-calls : ℕ → read-object-lts.Claims
 read-object-calls t = (open-node-reads.Asked, open-node-reads.Learnt, read-symbol-like-reads.Asked, read-symbol-like-reads.Learnt, read-words-reads.Asked, read-words-reads.Learnt, read-members-below t, read-members.Post, fill-node-reads.Asked, fill-node-reads.Learnt)
 
 abbrev pub read-value-calls : ℕ → read-value-lts.Claims
-read-value-calls t = (read-array-below t, read-array.Post, defaults-reads.Asked, defaults-reads.Learnt, read-hash-below t, read-hash.Post, read-object-below t, read-object.Post, read-variables-below t, read-variables.Post, read-leaf-reads.Asked, read-leaf-reads.Learnt)
+read-value-calls t = (read-class-reads.Asked, read-class-reads.Learnt, read-array-below t, read-array.Post, defaults-reads.Asked, defaults-reads.Learnt, read-hash-below t, read-hash.Post, read-object-below t, read-object.Post, read-variables-below t, read-variables.Post, read-leaf-reads.Asked, read-leaf-reads.Learnt)
 
 abbrev pub read-variables-calls : ℕ → read-variables-lts.Claims
 read-variables-calls t = (read-inner-below t, read-inner.Post, read-words-reads.Asked, read-words-reads.Learnt, read-members-below t, read-members.Post, set-variables-reads.Asked, set-variables-reads.Learnt)

@@ -171,7 +171,7 @@ returns-3 t c =
           let name = read-symbol-like (c44 .args .input .now) room in
           let inner = D.read-value (c44 .args .input .now) room limit (c44 .args .levels) in
           lead-after (lead-first _ (c33 .open-node .ensures .0 _ room limit _ _ _) .goes (c28 .if1 .left))
-          (contained-stops name inner (hash-of name inner h (c44 .args .more)) 2 2 (c44 .args .more) n _ _ _ (hash-rest name inner h _ n (c44 .args .more) (c44 .pre .1 .0)) refl (q .1) (c25 .read-words .ensures .0 room limit _ _ _ _ _) (c22 .if2 .left) (c13 .read-members .ensures .0 room limit) (c .if3 .taken)),
+          (contained-stops name inner (hash-of name inner h (c44 .args .more) (c44 .args .class)) 2 2 (c44 .args .more) n _ _ _ (hash-rest name inner h _ n (c44 .args .more) (c44 .args .class) (c44 .pre .1 .0)) refl (q .1) (c25 .read-words .ensures .0 room limit _ _ _ _ _) (c22 .if2 .left) (c13 .read-members .ensures .0 room limit) (c .if3 .taken)),
       λ l. absurd (omega arith),
     )
 
@@ -258,7 +258,7 @@ returns-4 t c =
           let name = read-symbol-like (c48 .args .input .now) room in
           let inner = D.read-value (c48 .args .input .now) room limit (c48 .args .levels) in
           lead-after (lead-first _ (c37 .open-node .ensures .0 _ room limit _ _ _) .goes (c32 .if1 .left))
-          (contained name inner (hash-of name inner h (c48 .args .more)) 2 2 (c48 .args .more) n _ _ _ (hash-rest name inner h _ n (c48 .args .more) (c48 .pre .1 .0)) refl (q .1) (c29 .read-words .ensures .0 room limit _ _ _ _ _) (c26 .if2 .left) (c17 .read-members .ensures .0 room limit) (c4 .if3 .left)
-          (c .before .before .fill-node .ensures .0 _ room limit (hash _ n (c17 .read-members .result + c48 .args .more)) _ _ _ _ _ refl (other-kind (hash 0 0 0) refl) (O .below) (λ _. O .free tt))),
+          (contained name inner (hash-of name inner h (c48 .args .more) (c48 .args .class)) 2 2 (c48 .args .more) n _ _ _ (hash-rest name inner h _ n (c48 .args .more) (c48 .args .class) (c48 .pre .1 .0)) refl (q .1) (c29 .read-words .ensures .0 room limit _ _ _ _ _) (c26 .if2 .left) (c17 .read-members .ensures .0 room limit) (c4 .if3 .left)
+          (c .before .before .fill-node .ensures .0 _ room limit (hash _ n (c17 .read-members .result + c48 .args .more) (c48 .args .class)) _ _ _ _ _ refl (other-kind (hash 0 0 0 0) refl) (O .below) (λ _. O .free tt))),
       λ l. omega (arith, c .before .before .fill-node .ensures .1, O .below),
     )

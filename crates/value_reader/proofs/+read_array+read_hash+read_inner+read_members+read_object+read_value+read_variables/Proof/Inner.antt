@@ -3,12 +3,14 @@ use borrow.Author.Needs.{needs}
 use native.Mathlib.Omega.{arith}
 use Prim.Native.Nat.{_-_}
 use mathlib.Core.Path.{_≡_, refl, sym, ap}
+use mathlib.Core.Logic.{inl}
 use Rattle.definition.specs.Run.{pick, pure}
 use Rattle.definition.specs.Load.{head, value-of, read-byte, read-symbol-like}
 use Rattle.definition.specs.Load as D
 use Rattle.load_state.specs.Laws.{held-goes, lead-after, lead-as, goes-to}
 use Rattle.loader.specs.Parts.{after-i}
 use Rattle.input_reader.proofs.Heads.{kind-read}
+use Rattle.leaf_reader.specs.Classes.{valued}
 use Rattle.loader.proofs.Variables.{after-takes, takes-string}
 use Rattle.input_reader.proofs.Input.{byte-goes}
 use Rattle.value_reader.proofs.Members.{after-members, string-leaf, down-2}
@@ -61,7 +63,7 @@ same-length-5 t c =
     c10 .read-leaf .kept .1 .1 .1 .1 .1 .0
 
 pub returns : (t : ℕ) → read-inner-lts.Need-returns (read-inner-calls t) (read-inner-at t) read-inner.Post
-unfolding head pick
+unfolding head pick valued
 returns t c =
     let c10 = c .before .before .before .before .before .before .before .before .before .before in
     let c17 = c10 .before .before .before .before .before .before .before in
@@ -74,7 +76,7 @@ returns t c =
       λ room limit.
           lead-after (after-takes _ (takes-string (c17 .if3 .taken)))
           (lead-after (goes-to (ap (λ (x : ℕ). value-of (c-args .input .now) room (D.read-value (c-args .input .now) room limit (c-args .levels - 1)) x (head x)) (c17 .if3 .taken)) (kind-read limit (c-args .levels) some (c19 .if2 .taken)))
-          (c-read-leaf .ensures .0 room limit (D.read-value (c-args .input .now) room limit (c-args .levels - 1)) _ string-leaf)),
+          (c-read-leaf .ensures .0 room limit (D.read-value (c-args .input .now) room limit (c-args .levels - 1)) _ string-leaf (inl refl))),
       c-read-leaf .ensures .1,
     )
 

@@ -1,9 +1,9 @@
--- The proof of tell_seven.
+-- The proof of tell_node.
 use borrow.Author.Needs.{needs}
 use native.Mathlib.Omega.{arith}
 use lib.ListN.{length-set}
-use Rattle.reply.proofs.tell_seven.Statement.{statement}
-use Rattle.reply.proofs.tell_seven.Tie as tie
+use Rattle.reply.proofs.tell_node.Statement.{statement}
+use Rattle.reply.proofs.tell_node.Tie as tie
 
 slice-write-answer : tie.Need-slice-write-answer
 slice-write-answer c = search needs
@@ -24,7 +24,10 @@ slice-write-answer-6 : tie.Need-slice-write-answer-6
 slice-write-answer-6 c = simp length-set (omega arith)
 
 slice-write-answer-7 : tie.Need-slice-write-answer-7
-slice-write-answer-7 c = search needs
+slice-write-answer-7 c = simp length-set (omega arith)
+
+slice-write-answer-8 : tie.Need-slice-write-answer-8
+slice-write-answer-8 c = simp length-set (omega arith)
 
 same-length : tie.Need-same-length
 same-length c = search needs
@@ -32,8 +35,8 @@ same-length c = search needs
 returns : tie.Need-returns
 returns c = search needs
 
-pub tell-seven-spec : {M : Type 1} → statement M
-tell-seven-spec =
+pub tell-node-spec : {M : Type 1} → statement M
+tell-node-spec =
     tie.close
     (tie.spec
     slice-write-answer
@@ -43,5 +46,6 @@ tell-seven-spec =
     slice-write-answer-5
     slice-write-answer-6
     slice-write-answer-7
+    slice-write-answer-8
     same-length
     returns)
