@@ -3,11 +3,10 @@ use Prim.Native.Nat.{ℕ, _+_, _-_, _*_}
 use mathlib.Core.Bool.{Bool, true, false}
 use mathlib.Core.Path.{refl}
 use mathlib.Core.List.{List, [], _∷_, _++_}
-use lib.IntN.{ℤ, pos, negsuc}
+use lib.IntN.{pos, negsuc}
 use lib.ListN.{length, replicate}
 use lib.Seq.{sets}
-use Rattle.definition.specs.Run.{Run, Outcome, ok, refused, pure, refuse, next, _>>=_, look, pick}
-use Rattle.definition.specs.Refused.{signed, place, numbers}
+use Rattle.definition.specs.Run.{Run, refused, pure, refuse, next, _>>=_, look, pick}
 use Rattle.definition.specs.Node as N
 use Rattle.definition.specs.Node.{Row, nil, bool, fixnum, symbol, array, hash, object, string, user, float, bignum, absent, present, width, words, flat}
 use Rattle.definition.specs.Magnitude.{fits, sign, magnitude}
@@ -19,7 +18,6 @@ use Rattle.definition.specs.Dump.{DumpCall, dump-call-of}
 use Rattle.definition.specs.Build as B
 use Rattle.definition.specs.Build.{Lent, BuildCall, NewCall, lent, build-call-of, new-call-of}
 use Rattle.definition.specs.Starred.{holds, load-with, dump-with}
-use Rattle.definition.specs.declared.Answer.{Answer}
 use Rattle.definition.specs.declared.Answer.the-variants.{Accepted, Refused}
 use Rattle.definition.specs.declared.Fault.the-variants.{Counts as Bad-counts, Node as Bad-node}
 use Rattle.definition.specs.declared.Name.{Name}

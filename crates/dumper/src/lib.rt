@@ -223,7 +223,8 @@ fn open_user_defined(
     )
 }
 
-// A value up to its members; `levels` are those left for them.
+// A value up to its members; `levels` are those left for them. A list's class is tested here: one without is opened by a call
+// of few arguments, and pays no more than that test.
 pub fn open_value(
     nodes: &[u32],
     references: &[u32],

@@ -73,11 +73,11 @@ pub fn fill_node(
     list: u32,
     n: u32,
     name: u32,
-    last: u32,
+    default: u32,
     class: u32,
 ) -> u64
     requires { ⌜ (h * width + width ≤ length (now nodes)) × (h < 4294967296) ⌝ }
-    ensures { λ r. ⌜ ((input : List ℕ) (room : Room) (limit : ℕ) (row : Row) (re by : List ℕ) (sy : Symbols) (ob c : List ℕ) → words row ≡ kind ∷ 0 ∷ 0 ∷ list ∷ n ∷ name ∷ last ∷ class ∷ [] → Plain row → h < nodes-of c → (sy .searched ≡ true → Free (now (nodes .entry)) h) → Meets input room limit (fill h row) (lent (now (nodes .entry)) re by sy ob) c r (lent (now (nodes .exit)) re by sy ob) c) ⌝ }
+    ensures { λ r. ⌜ ((input : List ℕ) (room : Room) (limit : ℕ) (row : Row) (re by : List ℕ) (sy : Symbols) (ob c : List ℕ) → words row ≡ kind ∷ 0 ∷ 0 ∷ list ∷ n ∷ name ∷ default ∷ class ∷ [] → Plain row → h < nodes-of c → (sy .searched ≡ true → Free (now (nodes .entry)) h) → Meets input room limit (fill h row) (lent (now (nodes .entry)) re by sy ob) c r (lent (now (nodes .exit)) re by sy ob) c) ⌝ }
     ensures { λ r. ⌜ r ≡ h ⌝ }
 {
     put_node(
@@ -89,7 +89,7 @@ pub fn fill_node(
         list,
         n,
         name,
-        last,
+        default,
         class,
     );
     h

@@ -4,7 +4,6 @@ use native.Mathlib.Omega.{arith}
 use mathlib.Core.Bool.{Bool, true, false}
 use mathlib.Core.Path.{_≡_, refl, ap}
 use lib.IntN.{ℤ, pos, negsuc}
-use Rattle.definition.specs.Run.{pick}
 use Rattle.definition.specs.Refused.{signed, place, numbers, answer-numbers, below, size, told, answer-told}
 use Rattle.definition.specs.declared.Answer.{Answer}
 use Rattle.definition.specs.declared.Answer.the-variants.{Accepted, Refused}

@@ -8,7 +8,7 @@ ghost use lib.Seq.{sets};
 ghost use Rattle.definition.specs.Node.{width, equal};
 ghost use Rattle.store.specs.Laws.{cleared};
 
-// The words of a node, from word `base` on.
+// The words of a node, from word `base` on. `default` is word 6, which is the mark of a variable list in kinds 7 and 8.
 pub fn put_node(
     nodes: &mut [u32],
     base: usize,
@@ -18,11 +18,11 @@ pub fn put_node(
     list: u32,
     n: u32,
     name: u32,
-    last: u32,
+    default: u32,
     class: u32,
 )
     requires { ⌜ base + width ≤ length (now nodes) ⌝ }
-    ensures { λ _. ⌜ now (nodes .exit) ≡ sets (now (nodes .entry)) base (kind ∷ a ∷ b ∷ list ∷ n ∷ name ∷ last ∷ class ∷ []) ⌝ }
+    ensures { λ _. ⌜ now (nodes .exit) ≡ sets (now (nodes .entry)) base (kind ∷ a ∷ b ∷ list ∷ n ∷ name ∷ default ∷ class ∷ []) ⌝ }
 {
     nodes[base] = kind;
     nodes[base + Node::START] = a;
@@ -30,7 +30,7 @@ pub fn put_node(
     nodes[base + Node::LIST] = list;
     nodes[base + Node::COUNT] = n;
     nodes[base + Node::NAME] = name;
-    nodes[base + Node::DEFAULT] = last;
+    nodes[base + Node::DEFAULT] = default;
     nodes[base + Node::CLASS] = class;
 }
 

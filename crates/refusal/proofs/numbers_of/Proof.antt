@@ -2,8 +2,7 @@
 use borrow.Author.Needs.{needs}
 use mathlib.Core.Path.{sym, ap, _∙_}
 use Rattle.refusal.proofs.Signs.{from-zero-up, below-zero}
-use Rattle.definition.specs.Run.{pick}
-use Rattle.definition.specs.Refused.{numbers, signed, place, below, size, told, numbers-told}
+use Rattle.definition.specs.Refused.{numbers, place, below, size, told, numbers-told}
 use Rattle.definition.specs.declared.Refusal.the-variants.{BadArena}
 use Rattle.refusal.proofs.numbers_of.Statement.{statement}
 use Rattle.refusal.proofs.numbers_of.Tie as tie
