@@ -32,17 +32,6 @@ def settle_load(case):
             raise SystemExit("%s: %s %d, walked %d" % (case["id"], what, case[what], found))
 
 
-def settle_arena(case):
-    """The faulty nodes that a case names, none unless it is refused with 2, must be those of its arena, and its answer must name the
-    first. After 1 no arena is examined, nor by new."""
-    if not runs(case) or case["answer"][0] == 1 or case.get("fn") == "new":
-        return
-    said, found = case.get("faulty", []), model.faulty(case)
-    named = case["answer"][1:2] if case["answer"][0] == 2 else []
-    if (said, named) != (found, found[:1]):
-        raise SystemExit("%s: answer %s with %s faulty, worked out %s" % (case["id"], case["answer"], said, found))
-
-
 def settle_weigh(case):
     """A weighing's bits as numbers. What a case says must be what its nodes read as, and what Python's doubles make of that."""
     case["weighing"] = [int(x, 16) for x in case["weighing"]]
@@ -62,8 +51,7 @@ def settle_cost(case):
         raise SystemExit("%s: %s and %d cents, worked out %s and %d" % (case["id"], case["answer"], case["cents"], *found))
 
 
-SETTLE = {"load": [settle_load], "dump": [settle_arena], "build": [settle_arena], "weigh": [settle_arena, settle_weigh],
-          "cost": [settle_arena, settle_cost]}
+SETTLE = {"load": settle_load, "weigh": settle_weigh, "cost": settle_cost}
 
 
 def read(folder):
@@ -71,10 +59,9 @@ def read(folder):
     found = {name: lines(folder, name) for name in FILES}
     if not any(found.values()):
         raise SystemExit("no cases in " + folder)
-    for name, settles in SETTLE.items():
+    for name, settle in SETTLE.items():
         for case in found[name]:
-            for settle in settles:
-                settle(case)
+            settle(case)
     return found
 
 

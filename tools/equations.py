@@ -95,11 +95,6 @@ def tables(nodes, refs, data):
     return "(record { nodes = %s; references = %s; bytes = %s })" % (nodes, refs, data)
 
 
-def tables_of(case):
-    """The tables that are lent."""
-    return tables(numbers(case["nodes"]), numbers(case["refs"]), numbers(unhex(case["bytes"])))
-
-
 def dump(case):
     scratch, output = filled(case["scratch"], 5), filled(case["out"], 6)
     number = case["answer"][0]
@@ -109,7 +104,8 @@ def dump(case):
         after = (filled(case["scratch"], 0), filled(case["out"], 0))
     else:
         after = (filled(case["scratch"], 0), padded(unhex(case["written"]), case["out"]))
-    left = "D.dump-call %s %s %s %s %d" % (tables_of(case), counts(case["counts"]), scratch, output, case["limit"])
+    left = "D.dump-call %s %s %s %s %d" % (tables(numbers(case["nodes"]), numbers(case["refs"]), numbers(unhex(case["bytes"]))),
+                                          counts(case["counts"]), scratch, output, case["limit"])
     return [(left, "D.dump-call-of %s %d %s %s" % (answer(case["answer"]), case["length"], after[0], after[1]))]
 
 
@@ -180,18 +176,10 @@ def cost(case):
     return [(left, "record { answer = %s; cents = %d }" % (answer(case["answer"]), case["cents"]))]
 
 
-def broken(case):
-    """Where the arena is refused: all nodes that break a rule, of which the answer names the lowest."""
-    if case["answer"][0] != 2:
-        return []
-    said = "none" if case["faulty"] == [-1] else "some %s" % numbers(case["faulty"])
-    return [("broken %s %s" % (tables_of(case), counts(case["counts"])), said)]
-
-
 EQUATIONS = {"load": load, "dump": dump, "build": build, "pairs": pair, "weigh": weigh, "cost": cost}
 
 HEAD = """-- Cases of {name}.
-use Prim.Native.Nat.{{ℕ, zero, suc}}
+use Prim.Native.Nat.{{ℕ}}
 use mathlib.Core.Bool.{{Bool, true, false}}
 use mathlib.Core.Path.{{_≡_, refl}}
 use mathlib.Core.List.{{List, [], _∷_, _++_}}
@@ -200,7 +188,6 @@ use lib.Count
 use lib.Ieee
 use lib.IntN.{{pos, negsuc}}
 use lib.ListN.{{replicate}}
-use Rattle·definition.specs.Node as N
 use Rattle·definition.specs.Arena as A
 use Rattle·definition.specs.State as S
 use Rattle·definition.specs.Load as L
@@ -208,22 +195,10 @@ use Rattle·definition.specs.LoadMeasured as LM
 use Rattle·definition.specs.LoadHashed as LH
 use Rattle·definition.specs.Dump as D
 use Rattle·definition.specs.Build as B
-use Rattle·definition.specs.Run.{{Outcome, ok, refused, pick}}
-use Rattle·definition.specs.declared.Counts.{{Counts}}
+use Rattle·definition.specs.Run.{{Outcome, ok, refused}}
 use Rattle·definition.specs.declared.Answer.the-variants.{{Accepted, Refused}}
 use Rattle·definition.specs.declared.Fault.the-variants.{{Counts as BadCounts, Node}}
 use Rattle·definition.specs.declared.Refusal.the-variants.{{BadTables, BadArena, InvalidVersion, ShortInput, InvalidKind, NegativeCount, MissingSymbol, MissingObject, NotASymbol, NotAnObject, TooDeep, NoSpace, BadHandle, WrongKind, BadSign, TooBig, NotAWeight, BadMoisture, WrongSign, NotARecipe, NoPrice, NotWrappable}}
-"""
-
-BROKEN = """
--- of the first n nodes those that break a rule
-abbrev broken-of : A.Tables → A.Arena → ℕ → List ℕ
-broken-of T a zero = []
-broken-of T a (suc n) = broken-of T a n ++ pick (A.node-right a (N.words-at (T .nodes) n)) [] (n ∷ [])
-
--- all of them, none where the counts don't fit
-abbrev broken : A.Tables → Counts → Option (List ℕ)
-broken T c = pick (A.counts-fit T c) (some (broken-of T (A.arena T c) (c .nodes))) none
 """
 
 PAIRS = """
@@ -280,8 +255,7 @@ use Rattle·definition.specs.Cost as C
 """
 
 # What the cases of a call need besides, and which of that the checker has to see through.
-MORE = {"dump": (BROKEN, []), "build": (BROKEN, []), "pairs": (PAIRS, ["redump"]), "cost": (COST + BROKEN, []),
-        "weigh": (WEIGH + BROKEN, ["reading-bits", "weighing-bits", "shown"])}
+MORE = {"pairs": (PAIRS, ["redump"]), "weigh": (WEIGH, ["reading-bits", "weighing-bits", "shown"]), "cost": (COST, [])}
 
 
 def names():
@@ -314,7 +288,7 @@ def write_crate(folder, label, equations):
 
 def equations_of(name, cases):
     return [("case-%s-%d" % (re.sub(r"[./]", "-", case["id"]), k), e)
-            for case in cases if corpus.runs(case) for k, e in enumerate(EQUATIONS[name](case) + broken(case))]
+            for case in cases if corpus.runs(case) for k, e in enumerate(EQUATIONS[name](case))]
 
 
 def parts_of(found, wanted):

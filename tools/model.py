@@ -212,53 +212,6 @@ def words_of(arena, handle):
     return arena["nodes"][WIDTH * handle:WIDTH * (handle + 1)]
 
 
-# The words besides the kind that a node uses, by its kind.
-USES = {0: (), 1: (1,), 2: (1,), 3: (1, 2), 4: (3, 4, 7), 5: (3, 4, 6, 7), 6: (3, 4, 5), 7: (1, 2, 3, 4, 6, 7),
-        8: (1, 2, 3, 4, 5, 6), 9: (1, 2), 10: (1, 2, 4)}
-
-
-def words_right(words):
-    """Are a node's words by themselves as 01 and 02 (2.1, 2.4, 2.9) have them? Unused ones are zero."""
-    kind, first, second, start, count, _, given, _ = words
-    if kind not in USES or any(words[i] for i in range(1, WIDTH) if i not in USES[kind]):
-        return False
-    if kind == 1:
-        return first <= 1
-    if kind in (7, 8):
-        return given == 1 or given == start == count == 0
-    if kind == 10:
-        return second < 2 ** 31 and (count == 0 or count == 1 and first + second > 0)
-    return True
-
-
-def node_right(arena, handle):
-    """Does a node keep every rule? Its ranges are inside the counts, what it refers to is below the node count, a name is a symbol."""
-    nodes, references, size, _ = arena["counts"]
-    words = words_of(arena, handle)
-    kind, first, length, start, count, name, given, class_word = words
-    if not words_right(words):
-        return False
-    if kind in (3, 7, 8, 9) and first + length > size:
-        return False
-    listed = 0 if kind not in (4, 5, 6, 7, 8) else count if kind == 4 else 2 * count
-    if start + listed > references:
-        return False
-    members = arena["refs"][start:start + listed]
-    default = [given - 1] if kind == 5 and given else []
-    names = members[::2] if kind in (6, 7, 8) else []
-    names += ([name] if kind in (6, 8) else []) + ([class_word - 1] if class_word else [])
-    return all(x < nodes for x in members + default + names) and all(words_of(arena, x)[0] == 3 for x in names)
-
-
-def faulty(arena):
-    """The nodes that break a rule, lowest first, or -1 alone where the counts do. What stands past the counts is not examined."""
-    nodes, references, size, root = arena["counts"]
-    lent = len(arena["nodes"]) // WIDTH, len(arena["refs"]), len(arena["bytes"]) // 2
-    if not 0 <= root < nodes or any(count > most for count, most in zip((nodes, references, size), lent)):
-        return [-1]
-    return [handle for handle in range(nodes) if not node_right(arena, handle)]
-
-
 def pairs_of(arena, handle):
     """A hash's keys and values, pair by pair, as written."""
     start, count = words_of(arena, handle)[3:5]

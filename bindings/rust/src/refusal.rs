@@ -87,16 +87,16 @@ impl fmt::Display for Slice {
     }
 }
 
-/// What is not well formed: counts come before nodes.
+/// What is not well formed.
 #[derive(Clone, Copy, Debug, PartialEq, Eq, Hash)]
 pub enum Fault {
     /// The counts don't fit the tables, or the root isn't below the node count.
     Counts,
-    /// The lowest node that breaks a rule. A wrong name, member, default or class is a fault of the node that refers to it.
+    /// The lowest node that breaks a rule.
     Node(u32),
 }
 
-/// Why a call is refused: the numbers 1 to 22 of documents 01 and 02 with their details.
+/// Why a call is refused: the twenty-one numbers of documents 01 and 02 with their details.
 #[derive(Clone, Copy, Debug, PartialEq, Eq, Hash)]
 #[non_exhaustive]
 pub enum Refusal {

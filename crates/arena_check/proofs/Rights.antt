@@ -9,7 +9,7 @@ use mathlib.Core.Path.{◌≡◌, refl, sym, ap, ◌∙◌, subst}
 use mathlib.Core.Logic.{◌⊎◌, inl, inr}
 use lib.Dec.{leb, ltb, eqb, T}
 use lib.ListN.{length, get_or, take, drop, length-drop}
-use lib.Seq.{get_or-drop, length-take-le, drop-drop}
+use lib.Seq.{get_or-drop, length-take-le, drop-drop, take-take}
 use borrow.Author.Tests.{le-leb, lt-leb, lt-ltb, le-ltb, ne_eqb}
 use Rattle.definition.specs.Run.{pick}
 use Rattle.definition.specs.Node.{Row, row, row_of, vars, is_row, width, START, LENGTH, LIST, COUNT, NAME, DEFAULT, CLASS, optional_node}
@@ -21,7 +21,6 @@ use Rattle.definition.specs.declared.Fault.TheVariants.{Counts as BadCounts, Nod
 use Rattle.arena_check.specs.declared.Checked.{Checked}
 use Rattle.arena_check.specs.declared.Checked.TheVariants.{Right, Wrong}
 use Rattle.arena_check.specs.Held.{Held, Fits, FitIf}
-use Rattle.lists.specs.Ranges.{range_take}
 use Rattle.lists.specs.Tables.{length_rows}
 use Rattle.arena_check.proofs.Rows.{row_2}
 
@@ -30,6 +29,15 @@ use Rattle.arena_check.proofs.Rows.{row_2}
 pub bytes_at : (A : Arena) (start n stored x y : ℕ) → length A.bytes ≡ stored → x ≡ start → y ≡ n → leb (x + y) stored ≡ bytes_right A start n
 unfolding bytes_right
 bytes_at A start n stored x y e p q = λ i. leb (p i + q i) (sym e i)
+
+-- a part of the first entries is a part of them all
+pub range_take : (l : List ℕ) (used start n : ℕ) → start + n ≤ used → range (take used l) start n ≡ range l start n
+unfolding range
+range_take l used zero n h = take-take n used l (omega arith)
+range_take [] zero (suc start) n h = refl
+range_take [] (suc used) (suc start) n h = refl
+range_take (x ∷ l) zero (suc start) n h = absurd (omega arith)
+range_take (x ∷ l) (suc used) (suc start) n h = range_take l used start n (omega arith)
 
 module _ (A : Arena) (l : List ℕ) (used count : ℕ) (e : A.references ≡ take used l) (g : length A.nodes ≡ count) (fit : used ≤ length l) where
   listed : length A.references ≡ used

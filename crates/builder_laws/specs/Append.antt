@@ -11,17 +11,17 @@ use Rattle.std.proofs.Math.Seq.{length-sets}
 use native.Mathlib.Omega.{arith}
 use borrow.Author.Tests.{leb-true, ltb-false}
 use Rattle.definition.specs.Run.{pick}
-use Rattle.definition.specs.Node.{Row, nil, words, row, rows, is_row, width, words_at}
+use Rattle.definition.specs.Node.{Row, nil, words, row, rows, is_row, width}
 use Rattle.definition.specs.Arena.{Tables, Arena, arena, row_right, node_right, faulty, fault, zeroed}
-use Rattle.definition.specs.Build.{Lent, lent, held, wrong, new_if, new_call}
+use Rattle.definition.specs.Build.{Lent, lent, held, wrong, words_at, new_if, new_call}
 use Rattle.definition.specs.declared.Answer.TheVariants.{Accepted}
 use Rattle.definition.specs.declared.Counts.{Counts}
-use Rattle.lists.specs.Words.{row_words_back, is_row_words}
 use Rattle.lists.specs.Lists.{apart}
 use Rattle.lists.specs.Slices.{tables_right}
-use Rattle.lists.specs.Tables.{faulty_words, words_faulty, counts_yes, fault_none, no_fault}
+use Rattle.lists.specs.Tables.{faulty_words, words_faulty, counts_fit_yes, fault_none, no_fault}
 use Rattle.lists.specs.Joined.{and_left, and_right, yes_and}
 use Rattle.well_formed.specs.Right.{fault_fit}
+use Rattle.load_forest.specs.Call.{row_words_back, is_row_words}
 use Rattle.builder_laws.specs.Tables.{take_stored, words_before, words_stored, rows_same, rows_last}
 use Rattle.builder_laws.specs.Grown.{grown, right_grown}
 
@@ -91,7 +91,7 @@ module _ (L : Lent) (bs ms : List ℕ) (r : Row) (ρ : Room L bs ms) where
       let n = length-sets L.tables.nodes (L.counts.nodes * width) (words r) in
       let p = length-sets L.tables.references L.counts.references ms in
       let b = length-sets L.tables.bytes L.counts.bytes bs in
-      let z = counts_yes M.tables M.counts (record { some_node = omega arith; nodes_fit = omega (arith, n, ρ.nodes); references_fit = omega (arith, p, ρ.references); bytes_fit = omega (arith, b, ρ.bytes); root_below = omega (arith, f.counts.root_below) }) in
+      let z = counts_fit_yes M.tables M.counts (omega arith) (omega (arith, n, ρ.nodes)) (omega (arith, p, ρ.references)) (omega (arith, b, ρ.bytes)) (omega (arith, f.root_below)) in
       fault_none M.tables M.counts z (words_faulty (held M) (L.counts.nodes + 1) 0 M.tables.nodes (λ i l. rw held_appended (word_right e h i l)))
 
 -- ---- new
@@ -124,7 +124,7 @@ zeroed_fault : (T : Tables) → 1 ≤ length T.nodes / width → fault (zeroed_t
 unfolding zeroed
 zeroed_fault T h =
     let n = length-replicate {A = ℕ} (length T.nodes) 0 in
-    let z = counts_yes (zeroed_tables T) first_counts (record { some_node = omega arith; nodes_fit = omega (arith, n); references_fit = omega arith; bytes_fit = omega arith; root_below = omega arith }) in
+    let z = counts_fit_yes (zeroed_tables T) first_counts (omega arith) (omega (arith, n)) (omega arith) (omega arith) (omega arith) in
     fault_none (zeroed_tables T) first_counts z (one_nil (arena (zeroed_tables T) first_counts) (length T.nodes) (omega arith))
 
 -- what an accepted `new` leaves

@@ -7,14 +7,14 @@ use Rattle.std.proofs.Math.Option.{none, some}
 use Rattle.std.proofs.Math.Seq.{length-sets}
 use native.Mathlib.Omega.{arith}
 use Rattle.definition.specs.Run.{ok}
-use Rattle.definition.specs.Node.{Row, symbol, words, row, is_row, width, words_at}
+use Rattle.definition.specs.Node.{Row, symbol, words, row, is_row, width}
 use Rattle.definition.specs.Arena.{Arena, arena, node, range, row_right, node_right, fault, find_symbol}
 use Rattle.definition.specs.State.{State}
 use Rattle.definition.specs.Load.{begin}
-use Rattle.definition.specs.Build.{Lent, held, exchange_root}
+use Rattle.definition.specs.Build.{Lent, held, words_at, exchange_root}
 use Rattle.definition.specs.Graph.{header, links}
 use Rattle.lists.specs.Lists.{At, at_lt}
-use Rattle.lists.specs.Tables.{words_faulty, counts_yes, fault_none}
+use Rattle.lists.specs.Tables.{words_faulty, counts_fit_yes, fault_none}
 use Rattle.graph.specs.View.{arena_of}
 use Rattle.well_formed.specs.Nodes.{at_node}
 use Rattle.lists.specs.Joined.{and_left, and_right, yes_and}
@@ -55,7 +55,7 @@ module _ (L : Lent) (n : ℕ) where
   unfolding node_right
   fault_rooted h e =
       let f = fault_fit L.tables L.counts e in
-      let z = counts_yes R.tables R.counts (record { some_node = f.counts.some_node; nodes_fit = f.counts.nodes_fit; references_fit = f.counts.references_fit; bytes_fit = f.counts.bytes_fit; root_below = h }) in
+      let z = counts_fit_yes R.tables R.counts f.some_node f.nodes_fit f.references_fit f.bytes_fit h in
       fault_none R.tables R.counts z
       (words_faulty (held R) L.counts.nodes 0 L.tables.nodes
       λ i l.
@@ -179,7 +179,7 @@ module _ (L M : Lent) (h : ℕ) where
       go s (known {name} p q) =
           let (a, l, x, y) = known_row (held L) name h p in
           rw q (s, rw (fault_fit L.tables L.counts s).nodes at (at_lt (held L).nodes h (symbol a l) x))
-      go s (moved {n} l p q) = rw q (fault_rooted L n l s, omega (arith, p, (fault_fit L.tables L.counts s).counts.root_below))
+      go s (moved {n} l p q) = rw q (fault_rooted L n l s, omega (arith, p, (fault_fit L.tables L.counts s).root_below))
 
   -- what was there before reads the same
   pub built_kept : (c : Builder) → run c L ≡ ok h M → Kept L M

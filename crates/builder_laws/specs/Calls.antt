@@ -187,7 +187,7 @@ module _ (L M : Lent) (h : ℕ) where
       → add bs ms row L ≡ ok h M → Added L bs ms (row L.counts.bytes L.counts.references) h M
   add_done bs ms row s r e =
       let f = fault_fit L.tables L.counts s in
-      let (ρ, p, q) = after_add bs ms row L M h f.counts.bytes_fit f.counts.references_fit e in
+      let (ρ, p, q) = after_add bs ms row L M h f.bytes_fit f.references_fit e in
       record { room = ρ; right = r f; handle = p; left = q }
 
   abbrev Result : Builder → Type 0

@@ -3,10 +3,10 @@ use Rattle.std.specs.Prelude.{ℕ, suc, ◌-◌, ◌/◌, ◌≤◌, ◌≡◌, 
 use Rattle.std.proofs.Common.{sym, ◌∙◌, arith, leb-true}
 use Rattle.std.proofs.Math.Option.{none}
 use Rattle.definition.specs.Run.{Run, Outcome, ok, refused, pure, refuse, next, ◌>>=◌, look, pick}
-use Rattle.definition.specs.Node.{Row, width, kind, takes_class}
+use Rattle.definition.specs.Node.{Row, width, kind}
 use Rattle.definition.specs.Arena.{node, all_below, is_name, all_names, fault}
 use Rattle.definition.specs.Magnitude.{fits}
-use Rattle.definition.specs.Build.{Lent, held, check, check_handles, check_names, handles_checked, check_class, check_magnitude, check_space, append, add}
+use Rattle.definition.specs.Build.{Lent, held, check, check_handles, check_names, handles_checked, takes_class, check_class, check_magnitude, check_space, append, add}
 use Rattle.definition.specs.Slice.{BYTES, NODES, REFERENCES}
 use Rattle.definition.specs.declared.Refusal.{Refusal}
 use Rattle.definition.specs.declared.Refusal.TheVariants.{WrongKind, NoSpace, TooBig}

@@ -8,18 +8,19 @@ use Rattle.std.proofs.Math.Seq.{take-set-lt}
 use Rattle.std.proofs.lemmas.List.{drop-set-add}
 use Rattle.std.proofs.Math.Decide.{ℕ_discrete}
 use Rattle.definition.specs.Run.{ok}
-use Rattle.definition.specs.Node.{Row, Vars, nil, bool, fixnum, symbol, array, hash, object, string, user, float, bignum, CLASS, width, kind, word, words, row, is_row, optional_node, words_at, takes_class}
+use Rattle.definition.specs.Node.{Row, Vars, nil, bool, fixnum, symbol, array, hash, object, string, user, float, bignum, CLASS, width, kind, word, words, row, is_row, optional_node}
 use Rattle.definition.specs.Arena.{Arena, arena, node, range, bytes_right, list_right, vars_right, class_right, row_right, node_right, fault}
-use Rattle.definition.specs.Build.{Lent, lent, held, set_class, exchange_class}
+use Rattle.definition.specs.Build.{Lent, lent, held, words_at, takes_class, set_class, exchange_class}
 use Rattle.definition.specs.Graph.{header, links}
 use Rattle.lists.specs.Joined.{and_left, and_right, yes_and}
 use Rattle.lists.specs.Lists.{At, apart, at_lt}
-use Rattle.lists.specs.Tables.{length_rows, rows_at, words_faulty, counts_yes, fault_none}
-use Rattle.lists.specs.Words.{equal_true, row_words_back, is_row_words}
+use Rattle.lists.specs.Tables.{length_rows, rows_at, words_faulty, counts_fit_yes, fault_none}
+use Rattle.lists.specs.Words.{equal_true}
 use Rattle.well_formed.specs.Nodes.{node_at, at_node}
 use Rattle.well_formed.specs.Right.{below_of, fault_fit}
 use Rattle.states.specs.Right.{Onward, right_yes, row_onward}
 use Rattle.states.specs.Rows.{links_same, header_same}
+use Rattle.load_forest.specs.Call.{row_words_back, is_row_words}
 use Rattle.builder_laws.specs.Tables.{range_set}
 use Rattle.builder_laws.specs.Grown.{right_in}
 use Rattle.builder_laws.specs.Append.{fault_words}
@@ -139,7 +140,7 @@ module _ (L : Lent) (h w : ℕ) (e : fault L.tables L.counts ≡ none) (l : h < 
   unfolding node_right
   fault_class k =
       let f = fault_fit L.tables L.counts e in
-      let z = counts_yes M.tables M.counts (record { some_node = f.counts.some_node; nodes_fit = rw (length-set L.tables.nodes (h * width + CLASS) w) f.counts.nodes_fit; references_fit = f.counts.references_fit; bytes_fit = f.counts.bytes_fit; root_below = f.counts.root_below }) in
+      let z = counts_fit_yes M.tables M.counts f.some_node (rw (length-set L.tables.nodes (h * width + CLASS) w) f.nodes_fit) f.references_fit f.bytes_fit f.root_below in
       fault_none M.tables M.counts z (words_faulty (held M) L.counts.nodes 0 M.tables.nodes (λ i j. by i j (ℕ_discrete i h)))
     where
       right : (i : ℕ) → i < L.counts.nodes → row_right (held L) (row (words_at L.tables.nodes i)) ≡ true

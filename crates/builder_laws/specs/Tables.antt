@@ -3,8 +3,9 @@ use Rattle.std.specs.Prelude.{ℕ, zero, suc, ◌+◌, ◌*◌, ◌≤◌, ◌<�
 use Rattle.std.proofs.Common.{ap, sym, ◌∙◌, append_assoc, length-append, length-take-le, take_at, drop_at, arith}
 use Rattle.std.proofs.lemmas.List.{take-set-le}
 use Rattle.std.proofs.lemmas.List.Edits.{sets, sets-eq}
-use Rattle.definition.specs.Node.{Row, words, row, rows, width, words_at}
+use Rattle.definition.specs.Node.{Row, words, row, rows, width}
 use Rattle.definition.specs.Arena.{range}
+use Rattle.definition.specs.Build.{words_at}
 use Rattle.lists.specs.Words.{length_words}
 use Rattle.lists.specs.Tables.{words_next}
 

@@ -12,10 +12,10 @@ use lib.Seq.{drop-cons}
 use native.Mathlib.Decide.{dec_lt}
 use borrow.Author.Tests.{lt-ltb, le-ltb, eqb-true}
 use Rattle.definition.specs.Run.{Run, ok, refused, pure, refuse, next, ◌>>=◌, look, pick}
-use Rattle.definition.specs.Node.{Row, row_of, rows, width, START, LENGTH, LIST, COUNT, NAME, DEFAULT, CLASS, kind, word, words, array_kind, hash_kind, string_kind, optional_node, takes_class}
+use Rattle.definition.specs.Node.{Row, row_of, rows, width, START, LENGTH, LIST, COUNT, NAME, DEFAULT, CLASS, kind, word, words, array_kind, hash_kind, string_kind, optional_node}
 use Rattle.definition.specs.Magnitude.{fits}
 use Rattle.definition.specs.Arena.{arena, node, firsts, is_name, lowest, allowed, sound, fault}
-use Rattle.definition.specs.Build.{Lent, held, wrong, check, check_handles, check_names, check_magnitude, check_class}
+use Rattle.definition.specs.Build.{Lent, held, wrong, check, check_handles, check_names, check_magnitude, takes_class, check_class}
 use Rattle.definition.specs.declared.Fault.{Fault}
 use Rattle.definition.specs.declared.Refusal.{Refusal}
 use Rattle.definition.specs.declared.Refusal.TheVariants.{BadTables, BadArena, BadHandle, WrongKind, TooBig}

@@ -16,9 +16,10 @@ use Rattle.definition.specs.Cost.{batch_cost, cost_done}
 use Rattle.definition.specs.declared.Costed.{Costed}
 use Rattle.definition.specs.declared.Refusal.TheVariants.{NotARecipe}
 use Rattle.lists.specs.Lists.{At, at_get_d}
-use Rattle.lists.specs.Ranges.{length_range, range_next, range_none, range_take}
+use Rattle.lists.specs.Ranges.{length_range, range_next, range_none}
 use Rattle.lists.specs.Rows.{row_4, kind_is}
 use Rattle.arena_check.proofs.Lists.{kind_test}
+use Rattle.arena_check.proofs.Rights.{range_take}
 use Rattle.well_formed.specs.Nodes.{at_node, node_row, node_past}
 use Rattle.well_formed.specs.Right.{RowRight, Fit, fault_fit, fault_right}
 use Rattle.costing.specs.Batch.{elements, is_hash, other_shape, cost_pair, cost_elements, cost_root}
@@ -94,11 +95,11 @@ module _ (L : Lent) (e : fault L.tables L.counts ≡ none) (i : ℕ) (q : i ≡ 
 
   -- its words are in the table
   pub root_inside : i * width + width ≤ length L.tables.nodes
-  root_inside = omega (arith, fit.counts.nodes_fit, fit.counts.root_below, q)
+  root_inside = omega (arith, fit.nodes_fit, fit.root_below, q)
 
   root_row : node (held L) L.counts.root ≡ row_of (get_or L.tables.nodes (i * width) 0) (word 1) (word 2) (word 3) (word 4) (word 5) (word 6) (word 7)
   unfolding arena
-  root_row = ap (node (held L)) (sym q) ∙ node_row (held L) L.counts.nodes L.tables.nodes refl i (omega (arith, fit.counts.root_below, q))
+  root_row = ap (node (held L)) (sym q) ∙ node_row (held L) L.counts.nodes L.tables.nodes refl i (omega (arith, fit.root_below, q))
 
   pub not_array : {r : Costed} → r ≡ cost_done (refused (NotARecipe L.counts.root)) → (get_or L.tables.nodes (i * width) 0 ≡ 4 → ⊥) → r ≡ cost_done (cost_root L)
   unfolding cost_root cost_elements other_shape look refuse
@@ -111,7 +112,7 @@ module _ (L : Lent) (e : fault L.tables L.counts ≡ none) (i : ℕ) (q : i ≡ 
 
     in_list : word 3 + word 4 ≤ length (held L).references
     in_list =
-        let a : At (held L).nodes L.counts.root (node (held L) L.counts.root) = at_node (held L) L.counts.root (omega (arith, fit.nodes, fit.counts.root_below)) in
+        let a : At (held L).nodes L.counts.root (node (held L) L.counts.root) = at_node (held L) L.counts.root (omega (arith, fit.nodes, fit.root_below)) in
         let r : RowRight (held L) (array (word 3) (word 4) (word 7)) = subst (RowRight (held L)) array_row ((fault_right L.tables L.counts e).rows_right L.counts.root _ a) in
         r.0.inside
 
@@ -134,7 +135,7 @@ module _ (L : Lent) (e : fault L.tables L.counts ≡ none) (i : ℕ) (q : i ≡ 
       used = omega (arith, in_list, fit.references, two, p)
 
       pub two_inside : s + 2 ≤ length L.tables.references
-      two_inside = omega (arith, used, fit.counts.references_fit)
+      two_inside = omega (arith, used, fit.references_fit)
 
       two_listed : range (held L).references (word 3) (word 4) ≡ get_or L.tables.references s 0 ∷ get_or L.tables.references (s + 1) 0 ∷ []
       unfolding arena
@@ -150,4 +151,4 @@ module _ (L : Lent) (e : fault L.tables L.counts ≡ none) (i : ℕ) (q : i ≡ 
 
 -- the node table holds the nodes counted
 pub nodes_inside : (L : Lent) → fault L.tables L.counts ≡ none → L.counts.nodes * width ≤ length L.tables.nodes
-nodes_inside L e = let f = fault_fit L.tables L.counts e in omega (arith, f.counts.nodes_fit)
+nodes_inside L e = let f = fault_fit L.tables L.counts e in omega (arith, f.nodes_fit)

@@ -1,4 +1,4 @@
--- The arena: lent tables and counts, what they hold, and when they are well formed (01, "The arena"; 02, 2.1, 2.3, 2.4, 2.9 and 2.10).
+-- The arena: lent tables and counts, what they hold, and when they are well formed (01, "The arena"; 02, 2.1, 2.3, 2.4 and 2.9).
 use Rattle.std.specs.Prelude.{ℕ, zero, suc, ◌+◌, ◌-◌, ◌*◌, ◌/◌, ◌%◌, Bool, true, false, not, ◌&&◌, ◌||◌, List, [], ◌∷◌, ◌++◌, ltb, leb, eqb, length, get_or, take, drop, replicate}
 use Rattle.std.proofs.Math.Option.{Option, none, some}
 use Rattle.definition.specs.Run.{Run, pure, refuse, pick}
@@ -146,17 +146,17 @@ node_right A ws = is_row ws && row_right A (row ws)
 unfoldable pub counts_fit : Tables → Counts → Bool
 counts_fit T c = leb 1 c.nodes && leb c.nodes (length T.nodes / width) && leb c.references (length T.references) && leb c.bytes (length T.bytes) && ltb c.root c.nodes
 
--- of the n nodes from node i on the lowest that breaks a rule: staff "want the lowest-numbered one"
+-- the lowest node that breaks a rule, of the n nodes from node i on
 unfoldable pub faulty : Arena → ℕ → ℕ → List ℕ → Option Fault
 faulty A zero i table = none
 faulty A (suc n) i table = pick (node_right A (take width table)) (faulty A n (suc i) (drop width table)) (some (Node i))
 
--- "Counts still come before nodes"
+-- counts come before nodes
 unfoldable pub fault_if : Bool → Tables → Counts → Option Fault
 fault_if true T c = faulty (arena T c) c.nodes 0 T.nodes
 fault_if false T c = some BadCounts
 
--- what is not well formed; `Broken` says it without a search
+-- what is not well formed
 unfoldable pub fault : Tables → Counts → Option Fault
 fault T c = fault_if (counts_fit T c) T c
 

@@ -3,7 +3,7 @@ use Rattle.std.specs.Prelude.{ℕ, zero, suc, ◌+◌, ◌-◌, ◌*◌, ◌/◌
 use Rattle.std.proofs.Math.Option.{Option, none, some}
 use Rattle.std.proofs.lemmas.List.Edits.{sets}
 use Rattle.definition.specs.Run.{Run, Outcome, ok, refused, pure, refuse, ◌>>=◌, look, pick}
-use Rattle.definition.specs.Node.{Row, nil, bool, fixnum, symbol, array, hash, object, string, user, float, bignum, absent, width, CLASS, kind, word, words, words_at, takes_class, optional_node}
+use Rattle.definition.specs.Node.{Row, nil, bool, fixnum, symbol, array, hash, object, string, user, float, bignum, absent, width, CLASS, array_kind, hash_kind, string_kind, kind, word, words, optional_node}
 use Rattle.definition.specs.Magnitude.{fits, sign, magnitude}
 use Rattle.definition.specs.Slice.{NODES, REFERENCES, BYTES, INPUT, MEMBERS}
 use Rattle.definition.specs.Arena.{Tables, Arena, tables_of, counts_of, arena, node, firsts, is_name, too_long, bad_nodes, lowest, allowed, fault, sound, zeroed, find_symbol}
@@ -60,6 +60,10 @@ check_space bs ms L =
 
 -- ---- getters
 
+-- a node's words
+unfoldable pub words_at : List ℕ → ℕ → List ℕ
+words_at table h = take width (drop (h * width) table)
+
 -- 1, 2, then the handles
 unfoldable pub handles_checked : List ℕ → Run Lent (Unit {0})
 handles_checked hs = check [] >>= λ _. check_handles hs
@@ -88,7 +92,10 @@ set_root h L = ok L.counts.root (record { tables = L.tables; counts = counts_of 
 unfoldable pub exchange_root : ℕ → Run Lent ℕ
 exchange_root h = handles_checked (h ∷ []) >>= λ _. set_root h
 
--- 14 unless the node's kind takes a class
+-- only kinds 4, 5 and 7 take a class: 14
+unfoldable pub takes_class : ℕ → Bool
+takes_class k = eqb k array_kind || eqb k hash_kind || eqb k string_kind
+
 unfoldable pub check_class : ℕ → Run Lent (Unit {0})
 check_class h = look λ L. pick (takes_class (kind (node (held L) h))) (pure tt) (refuse (WrongKind h))
 

@@ -370,5 +370,5 @@ unfolding holds dumps
 dumps_computed = refl
 
 arena_calls_computed : holds builds built × holds news begun × holds numbered told × holds nodes got × holds names named
-unfolding holds builds news numbered nodes names B.new_if B.get_root B.get_kind B.get_words B.get_name N.words_at B.create_nil B.create_bool B.create_fixnum B.create_symbol B.create_new_symbol B.create_array B.create_hash B.create_object B.create_string B.create_user_defined B.create_float B.create_bignum B.exchange_root B.set_root B.exchange_class B.set_class B.check_class N.takes_class B.check_magnitude B.known_or_new B.add_symbol B.bits B.pair_slice B.member_slice B.byte_slice B.add B.append B.check_space B.check_names B.check_handles B.handles_checked B.check B.wrong A.allowed A.lowest A.bad_nodes A.too_long A.sound A.fault A.fault_if A.faulty A.counts_fit A.node_right A.row_right A.number_right A.class_right A.vars_right A.pairs_right A.list_right A.bytes_right A.all_names A.is_name A.all_below A.firsts A.find_symbol A.named A.name_of A.range A.node A.arena A.zeroed N.is_row N.equal N.rows N.row N.row_of N.optional_node N.vars words flat N.kind fits sign magnitude pure refuse next ◌>>=◌ look pick
+unfolding holds builds news numbered nodes names B.new_if B.get_root B.get_kind B.get_words B.get_name B.words_at B.create_nil B.create_bool B.create_fixnum B.create_symbol B.create_new_symbol B.create_array B.create_hash B.create_object B.create_string B.create_user_defined B.create_float B.create_bignum B.exchange_root B.set_root B.exchange_class B.set_class B.check_class B.takes_class B.check_magnitude B.known_or_new B.add_symbol B.bits B.pair_slice B.member_slice B.byte_slice B.add B.append B.check_space B.check_names B.check_handles B.handles_checked B.check B.wrong A.allowed A.lowest A.bad_nodes A.too_long A.sound A.fault A.fault_if A.faulty A.counts_fit A.node_right A.row_right A.number_right A.class_right A.vars_right A.pairs_right A.list_right A.bytes_right A.all_names A.is_name A.all_below A.firsts A.find_symbol A.named A.name_of A.range A.node A.arena A.zeroed N.is_row N.equal N.rows N.row N.row_of N.optional_node N.vars words flat N.kind fits sign magnitude pure refuse next ◌>>=◌ look pick
 arena_calls_computed = (refl, refl, refl, refl, refl)

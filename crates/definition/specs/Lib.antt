@@ -7,7 +7,6 @@ pub mod Kind
 pub mod Node
 pub mod Slice
 pub mod Arena
-pub mod Broken
 pub mod Buckets
 pub mod State
 pub mod Load
@@ -21,7 +20,6 @@ pub mod Cost
 pub mod Graph
 pub mod Starred
 pub mod Calls
-pub mod Faults
 pub mod Reads
 pub mod Floats
 pub mod Bignums

@@ -1,5 +1,5 @@
 -- A node: its row, and the row as eight words (01, "The arena"; 02, 2.1, 2.4 and 2.9).
-use Rattle.std.specs.Prelude.{ℕ, zero, suc, ◌*◌, Bool, true, false, ◌||◌, List, [], ◌∷◌, ◌++◌, eqb, get_or, take, drop}
+use Rattle.std.specs.Prelude.{ℕ, zero, suc, ◌+◌, Bool, true, false, List, [], ◌∷◌, ◌++◌, eqb, get_or, take, drop}
 use Rattle.definition.specs.Run.{pick}
 
 -- how many words a node has
@@ -44,9 +44,6 @@ array_kind = 4
 abbrev pub hash_kind : ℕ
 hash_kind = 5
 
-abbrev pub object_kind : ℕ
-object_kind = 6
-
 abbrev pub string_kind : ℕ
 string_kind = 7
 
@@ -55,13 +52,6 @@ user_kind = 8
 
 abbrev pub float_kind : ℕ
 float_kind = 9
-
-abbrev pub bignum_kind : ℕ
-bignum_kind = 10
-
--- a class: "allowed only for kinds 4, 5 and 7"
-unfoldable pub takes_class : ℕ → Bool
-takes_class k = eqb k array_kind || eqb k hash_kind || eqb k string_kind
 
 -- the variable list of kinds 7 and 8: none, or its start and its number of pairs
 pub data Vars : Type 0 where
@@ -171,10 +161,6 @@ row_of k a b s n c f w =
 -- a node's words as a row
 unfoldable pub row : List ℕ → Row
 row ws = row_of (get_or ws KIND 0) (get_or ws START 0) (get_or ws LENGTH 0) (get_or ws LIST 0) (get_or ws COUNT 0) (get_or ws NAME 0) (get_or ws DEFAULT 0) (get_or ws CLASS 0)
-
--- the words of node i of a table
-unfoldable pub words_at : List ℕ → ℕ → List ℕ
-words_at table i = take width (drop (i * width) table)
 
 -- n nodes of a table
 unfoldable pub rows : ℕ → List ℕ → List Row

@@ -192,7 +192,7 @@ impl Slice {
     pub const GREATEST: usize = 2147483647;
 }
 
-// What is not well formed: the counts, or, where they are right, the lowest broken node.
+// What is not well formed: the counts, or this node.
 #[derive(Drop)]
 pub enum Fault {
     Counts,

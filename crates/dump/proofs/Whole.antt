@@ -80,10 +80,10 @@ module _ {no re by : List ℕ} {k : Counts} {sc out : List ℕ} {limit x : ℕ} 
   lent = record {
     noded = record {
       nodes_small = S.lengths.nodes_small;
-      nodes_fit = omega (arith, fit.nodes, fit.counts.nodes_fit);
+      nodes_fit = omega (arith, fit.nodes, fit.nodes_fit);
       row_at = λ i h. words_row k.nodes no i (omega (arith, fit.nodes));
     };
-    bytes_fit = omega (arith, fit.bytes, fit.counts.bytes_fit);
+    bytes_fit = omega (arith, fit.bytes, fit.bytes_fit);
     bytes_same = ap (λ (n : ℕ). take n by) (sym fit.bytes);
     right = fault_right (tables_of no re by) k S.arena_right;
   }
@@ -92,12 +92,12 @@ module _ {no re by : List ℕ} {k : Counts} {sc out : List ℕ} {limit x : ℕ} 
   unfolding arena
   listed = record {
     references_small = S.lengths.references_small;
-    references_fit = omega (arith, fit.references, fit.counts.references_fit);
+    references_fit = omega (arith, fit.references, fit.references_fit);
     references_same = ap (λ (n : ℕ). take n re) (sym fit.references);
   }
 
   root_below : x < length A.nodes
-  root_below = omega (arith, S.root, fit.counts.root_below, fit.nodes)
+  root_below = omega (arith, S.root, fit.root_below, fit.nodes)
 
   root_here : x ≡ A.root
   unfolding arena
@@ -115,7 +115,7 @@ module _ {no re by : List ℕ} {k : Counts} {sc out : List ℕ} {limit x : ℕ} 
   begins {sc₁} q =
       let p : sc₁ ≡ replicate (length sc) 0 = q ∙ cleared_whole sc in
       let ls : length sc₁ ≡ length sc = ap length p ∙ length-replicate (length sc) 0 in
-      let room : length A.nodes ≤ length sc = omega (arith, S.lengths.scratch_fits, fit.nodes, fit.counts.nodes_fit) in
+      let room : length A.nodes ≤ length sc = omega (arith, S.lengths.scratch_fits, fit.nodes, fit.nodes_fit) in
       let blank : (i : ℕ) → i < length A.nodes → get_or sc₁ i 0 ≡ 0 = λ i l. ap (λ (t : List ℕ). get_or t i 0) p ∙ get_or-replicate (length sc) i 0 0 (omega arith) in
       record {
         small = S.lengths.output_small;

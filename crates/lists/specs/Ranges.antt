@@ -1,6 +1,6 @@
 -- Ranges of a list: their length, their entries, and when two of them are the same.
 use Rattle.std.specs.Prelude.{ℕ, zero, suc, ◌+◌, ◌-◌, ◌≤◌, ◌<◌, ◌≡◌, refl, List, [], ◌∷◌, ◌++◌, length, get_or, take, drop}
-use Rattle.std.proofs.Common.{ap, sym as psym, ◌∙◌, length-take, length-drop, drop_of_length-le, drop-cons, get_or-take, get_or-drop, ext_get_or, length-take-le, take-take, arith}
+use Rattle.std.proofs.Common.{ap, sym as psym, ◌∙◌, length-take, length-drop, drop_of_length-le, drop-cons, get_or-take, get_or-drop, ext_get_or, length-take-le, arith}
 use Rattle.std.proofs.Math.Seq.{drop-append_seam, take-length}
 use Rattle.definition.specs.Arena.{range}
 use Rattle.lists.specs.Lists.{At, at_lt, lt_at, at_app, get_d_at, at_get_d, apart}
@@ -63,15 +63,6 @@ range_same l m (suc n) a h f =
 
 pub range_more : (l m : List ℕ) (a n : ℕ) → a + n ≤ length l → range (l ++ m) a n ≡ range l a n
 range_more l m a n h = range_same l (l ++ m) n a h (λ k v p q e. at_app l m k v e)
-
--- a part of the first entries is a part of them all
-pub range_take : (l : List ℕ) (used start n : ℕ) → start + n ≤ used → range (take used l) start n ≡ range l start n
-unfolding range
-range_take l used zero n h = take-take n used l (omega arith)
-range_take [] zero (suc start) n h = refl
-range_take [] (suc used) (suc start) n h = refl
-range_take (x ∷ l) zero (suc start) n h = absurd (omega arith)
-range_take (x ∷ l) (suc used) (suc start) n h = range_take l used start n (omega arith)
 
 -- a range inside the front of a table
 pub range_front : (l t : List ℕ) (s n : ℕ) → l ≡ take (length l) t → s + n ≤ length l → length l ≤ length t → range l s n ≡ take n (drop s t)

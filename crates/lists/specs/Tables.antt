@@ -1,14 +1,13 @@
 -- The nodes of a table, and the definition's test of tables and counts.
-use Rattle.std.specs.Prelude.{ℕ, zero, suc, ◌+◌, ◌*◌, ◌/◌, ◌<◌, ◌≡◌, Bool, ◌&&◌, List, length, get_or, take, drop, leb, ltb}
+use Rattle.std.specs.Prelude.{ℕ, zero, suc, ◌+◌, ◌*◌, ◌/◌, ◌≤◌, ◌<◌, ◌≡◌, Bool, ◌&&◌, List, length, get_or, take, drop}
 use Rattle.std.proofs.Math.Path.{refl}
-use Rattle.std.proofs.Common.{ap, sym, ◌∙◌, drop-drop, get_or-take, get_or-drop, arith}
+use Rattle.std.proofs.Common.{ap, sym, ◌∙◌, drop-drop, get_or-take, get_or-drop, arith, le-leb}
 use Rattle.std.proofs.Math.Bool.{true, false}
 use Rattle.std.proofs.Math.Option.{Option, none, some}
-use borrow.Author.Tests.{le-leb, leb-true}
 use Rattle.definition.specs.Run.{pick}
-use Rattle.definition.specs.Node.{nil, width, row, row_of, rows, START, LENGTH, LIST, COUNT, NAME, DEFAULT, CLASS, words_at}
+use Rattle.definition.specs.Node.{nil, width, row, row_of, rows, START, LENGTH, LIST, COUNT, NAME, DEFAULT, CLASS}
 use Rattle.definition.specs.Arena.{Arena, Tables, arena, node_right, faulty, counts_fit, fault_if, fault}
-use Rattle.definition.specs.Broken.{CountsRight}
+use Rattle.definition.specs.Build.{words_at}
 use Rattle.definition.specs.declared.Counts.{Counts}
 use Rattle.definition.specs.declared.Fault.{Fault}
 use Rattle.definition.specs.declared.Fault.TheVariants.{Node}
@@ -68,35 +67,14 @@ words_faulty A (suc n) i t h =
 
 -- ---- the test of the whole
 
-five_yes : (a b c d e : Bool) → a ≡ true → b ≡ true → c ≡ true → d ≡ true → e ≡ true → a && b && c && d && e ≡ true
-five_yes a b c d e p q r s t = rw (p, q, r, s, t)
-
-five_of : (a b c d e : Bool) → (a && b && c && d && e) ≡ true → (a ≡ true) × (b ≡ true) × (c ≡ true) × (d ≡ true) × (e ≡ true)
-five_of true true true true e h = (refl, refl, refl, refl, h)
-five_of true true true false e h = apart (cc)
-five_of true true false d e h = apart (cc)
-five_of true false c d e h = apart (cc)
-five_of false b c d e h = apart (cc)
+five : (a b c d e : Bool) → a ≡ true → b ≡ true → c ≡ true → d ≡ true → e ≡ true → a && b && c && d && e ≡ true
+five a b c d e p q r s t = rw (p, q, r, s, t)
 
 module _ (T : Tables) (c : Counts) where
-  -- the test of counts
-  pub counts_yes : CountsRight T c → counts_fit T c ≡ true
+  pub counts_fit_yes : 1 ≤ c.nodes → c.nodes ≤ length T.nodes / width → c.references ≤ length T.references → c.bytes ≤ length T.bytes → c.root < c.nodes → counts_fit T c ≡ true
   unfolding counts_fit
-  counts_yes r =
-      five_yes _ _ _ _ _ (le-leb 1 c.nodes r.some_node) (le-leb c.nodes (length T.nodes / width) (omega (arith, r.nodes_fit))) (le-leb c.references (length T.references) r.references_fit)
-      (le-leb c.bytes (length T.bytes) r.bytes_fit) (le-leb (suc c.root) c.nodes r.root_below)
-
-  pub counts_right : counts_fit T c ≡ true → CountsRight T c
-  unfolding counts_fit
-  counts_right e =
-      let (e₁, e₂, e₃, e₄, e₅) = five_of (leb 1 c.nodes) (leb c.nodes (length T.nodes / width)) (leb c.references (length T.references)) (leb c.bytes (length T.bytes)) (ltb c.root c.nodes) e in
-      record {
-        some_node = leb-true _ _ e₁;
-        nodes_fit = omega (arith, leb-true c.nodes (length T.nodes / width) e₂);
-        references_fit = leb-true _ _ e₃;
-        bytes_fit = leb-true _ _ e₄;
-        root_below = leb-true _ _ e₅;
-      }
+  counts_fit_yes a n r b o =
+      five _ _ _ _ _ (le-leb 1 c.nodes a) (le-leb c.nodes (length T.nodes / width) n) (le-leb c.references (length T.references) r) (le-leb c.bytes (length T.bytes) b) (le-leb (suc c.root) c.nodes o)
 
   pub fault_none : counts_fit T c ≡ true → faulty (arena T c) c.nodes 0 T.nodes ≡ none → fault T c ≡ none
   unfolding fault fault_if

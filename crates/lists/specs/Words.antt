@@ -1,9 +1,9 @@
 -- Words that are compared, a word's low bytes, and a row's eight words.
-use Rattle.std.specs.Prelude.{ℕ, zero, suc, ◌+◌, ◌*◌, ◌/◌, ◌%◌, ◌^◌, ◌≤◌, ◌<◌, ◌≡◌, refl, true, false, List, [], ◌∷◌, ◌++◌, eqb, length, get_or}
+use Rattle.std.specs.Prelude.{ℕ, zero, suc, ◌+◌, ◌*◌, ◌/◌, ◌%◌, ◌^◌, ◌≤◌, ◌<◌, ◌≡◌, refl, true, false, List, [], ◌∷◌, ◌++◌, eqb, length}
 use Rattle.std.proofs.Common.{ap, sym as psym, ◌∙◌, length-append, arith, zero-add, suc-add, pow-suc, mul_assoc, eqb-true, eq-eqb}
 use Rattle.definition.specs.Run.{pick}
 use Rattle.definition.specs.Integer.{little, low_bytes}
-use Rattle.definition.specs.Node.{Row, nil, bool, fixnum, symbol, array, hash, object, string, user, float, bignum, absent, present, KIND, vars, kind, words, flat, row, row_of, equal, is_row, width}
+use Rattle.definition.specs.Node.{Row, nil, bool, fixnum, symbol, array, hash, object, string, user, float, bignum, absent, present, words, flat, equal, width}
 use Rattle.lists.specs.Lists.{apart, Below}
 use Rattle.lists.specs.Joined.{pick_true}
 
@@ -97,48 +97,6 @@ length_words (user s l c (present p n)) = refl
 length_words (float s l) = refl
 length_words (bignum low high true) = refl
 length_words (bignum low high false) = refl
-
--- the first word is the kind
-pub kind_word : (r : Row) → get_or (words r) KIND 0 ≡ kind r
-unfolding kind words
-kind_word nil = refl
-kind_word (bool true) = refl
-kind_word (bool false) = refl
-kind_word (fixnum w) = refl
-kind_word (symbol s l) = refl
-kind_word (array s n w) = refl
-kind_word (hash s n d w) = refl
-kind_word (object s n c) = refl
-kind_word (string s l absent w) = refl
-kind_word (string s l (present q n) w) = refl
-kind_word (user s l c absent) = refl
-kind_word (user s l c (present q n)) = refl
-kind_word (float s l) = refl
-kind_word (bignum low high true) = refl
-kind_word (bignum low high false) = refl
-
--- they say that row
-pub row_words_back : (r : Row) → row (words r) ≡ r
-unfolding row row_of words vars pick
-row_words_back nil = refl
-row_words_back (bool true) = refl
-row_words_back (bool false) = refl
-row_words_back (fixnum w) = refl
-row_words_back (symbol s l) = refl
-row_words_back (array s n w) = refl
-row_words_back (hash s n d w) = refl
-row_words_back (object s n c) = refl
-row_words_back (string s l absent w) = refl
-row_words_back (string s l (present p n) w) = refl
-row_words_back (user s l c absent) = refl
-row_words_back (user s l c (present p n)) = refl
-row_words_back (float s l) = refl
-row_words_back (bignum low high true) = refl
-row_words_back (bignum low high false) = refl
-
-pub is_row_words : (r : Row) → is_row (words r) ≡ true
-unfolding is_row
-is_row_words r = rw (row_words_back r) (equal_self (words r))
 
 pub length_flat : (rs : List Row) → length (flat rs) ≡ length rs * width
 unfolding flat

@@ -1,11 +1,11 @@
 -- A call of load that was accepted: its answer, and what the tables left hold.
-use Rattle.std.specs.Prelude.{ℕ, zero, suc, ◌+◌, ◌-◌, ◌/◌, ◌%◌, ◌≤◌, ◌<◌, ◌≡◌, refl, true, List, [], ◌∷◌, ◌++◌, length, take, drop, replicate}
+use Rattle.std.specs.Prelude.{ℕ, zero, suc, ◌+◌, ◌-◌, ◌/◌, ◌%◌, ◌≤◌, ◌<◌, ◌≡◌, refl, true, false, List, [], ◌∷◌, ◌++◌, length, take, drop, replicate}
 use Rattle.std.proofs.Common.{ap, ◌∙◌, append_assoc, length-append, take_at, drop_at, arith, ltb-false}
 use Rattle.std.proofs.Math.Option.{none}
 use Rattle.std.proofs.lemmas.List.{length-replicate}
 use Rattle.std.proofs.Math.Seq.{take-append_seam}
 use Rattle.definition.specs.Run.{Outcome, ok, refused, pick}
-use Rattle.definition.specs.Node.{Row, width, words, flat, rows}
+use Rattle.definition.specs.Node.{Row, nil, bool, fixnum, symbol, array, hash, object, string, user, float, bignum, absent, present, width, words, flat, vars, row_of, row, rows, is_row}
 use Rattle.definition.specs.Arena.{Tables, Arena, arena, padded, zeroed, row_right, node_right, counts_fit, faulty, fault, counts_of}
 use Rattle.definition.specs.State.{State, Room}
 use Rattle.definition.specs.Load.{Lists, lists, room_of, load, load_wrong, LoadCall, load_done, load_if, load_call}
@@ -15,21 +15,43 @@ use Rattle.definition.specs.declared.Counts.{Counts}
 use Rattle.definition.specs.declared.Refusal.{Refusal}
 use Rattle.lists.specs.Slices.{lowest_none, short, tables_right}
 use Rattle.lists.specs.Lists.{At, apart}
-use Rattle.lists.specs.Words.{length_words, length_flat, row_words_back, is_row_words}
-use Rattle.lists.specs.Tables.{counts_yes, fault_none}
+use Rattle.lists.specs.Words.{equal_self, length_words, length_flat}
+use Rattle.lists.specs.Tables.{counts_fit_yes, fault_none}
 use Rattle.graph.specs.View.{arena_of}
 use Rattle.load_forest.specs.Trace.{forwards}
 use Rattle.load_forest.specs.Readers.{load_traced}
 use Rattle.load_forest.specs.Right.{LoadRight, load_right}
 use Rattle.load_forest.specs.Space.{Within, load_within}
 
--- ---- rows laid out
+-- ---- a row's words say that row
+
+pub row_words_back : (r : Row) → row (words r) ≡ r
+unfolding row row_of words vars pick
+row_words_back nil = refl
+row_words_back (bool true) = refl
+row_words_back (bool false) = refl
+row_words_back (fixnum w) = refl
+row_words_back (symbol s l) = refl
+row_words_back (array s n w) = refl
+row_words_back (hash s n d w) = refl
+row_words_back (object s n c) = refl
+row_words_back (string s l absent w) = refl
+row_words_back (string s l (present p n) w) = refl
+row_words_back (user s l c absent) = refl
+row_words_back (user s l c (present p n)) = refl
+row_words_back (float s l) = refl
+row_words_back (bignum low high true) = refl
+row_words_back (bignum low high false) = refl
 
 take_words : (r : Row) (x : List ℕ) → take width (words r ++ x) ≡ words r
 take_words r x = take_at (words r) x width (length_words r)
 
 drop_words : (r : Row) (x : List ℕ) → drop width (words r ++ x) ≡ x
 drop_words r x = drop_at (words r) x width (length_words r)
+
+pub is_row_words : (r : Row) → is_row (words r) ≡ true
+unfolding is_row
+is_row_words r = rw (row_words_back r) (equal_self (words r))
 
 -- the rows laid out, and whatever comes after them
 pub rows_flat : (rs : List Row) (x : List ℕ) → rows (length rs) (flat rs ++ x) ≡ rs
@@ -183,7 +205,7 @@ counts_left_fit input T limit h s w e =
     let (n, r, b) = room_within T s (load_within input (room_of T) limit h s (some_nodes T a.nodes_some) e) in
     let l = load_lengths input T limit h s w e in
     let o : h < length s.nodes = (load_right input (room_of T) limit h s e).root_below in
-    counts_yes (tables_left T s) (counts_left s h) (record { some_node = omega arith; nodes_fit = rw l.nodes_length (omega (arith, n)); references_fit = rw l.references_length r; bytes_fit = rw l.bytes_length b; root_below = o })
+    counts_fit_yes (tables_left T s) (counts_left s h) (omega arith) (rw l.nodes_length n) (rw l.references_length r) (rw l.bytes_length b) o
 
 faulty_left : (T : Lists) (s : State) (h : ℕ) → LoadRight (arena_of s h) → faulty (arena (tables_left T s) (counts_left s h)) (length s.nodes) 0 (padded T.nodes (flat s.nodes)) ≡ none
 unfolding padded

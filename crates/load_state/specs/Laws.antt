@@ -7,7 +7,8 @@ use Rattle.definition.specs.State.{Room, State, Reader}
 use Rattle.definition.specs.declared.Refusal.{Refusal}
 use Rattle.load_state.specs.Holds.{Lent, Holds, Held, Grown, Goes, Refuses, Leads, Meets, Plain, Free, nodes_of, references_of}
 use Rattle.reader.specs.Answers.{refusal_at, REFUSED}
-use Rattle.lists.specs.Words.{length_flat, kind_word}
+use Rattle.lists.specs.Words.{length_flat}
+use Rattle.load_state.specs.Names.{kind_word}
 use Rattle.load_state.specs.Stores.{at_held, flat_word}
 use Rattle.load_state.specs.Behind.{behind_still, behind_then}
 

@@ -6,7 +6,7 @@ use lib.ListN.{length, take, drop, get_or, set, get_or-append}
 use Rattle.std.proofs.Math.Seq.{get_or-append_seam}
 use Rattle.std.proofs.lemmas.Bool.{eqb-false}
 use Rattle.definition.specs.Run.{pick}
-use Rattle.definition.specs.Node.{Row, nil, symbol, kind, words, equal, START, LENGTH, symbol_kind}
+use Rattle.definition.specs.Node.{Row, nil, bool, fixnum, symbol, array, hash, object, string, user, float, bignum, absent, present, kind, words, equal, KIND, START, LENGTH, symbol_kind}
 use Rattle.definition.specs.Arena.{range, name_of, named, find_symbol}
 use Rattle.lists.specs.Ranges.{range_more}
 use Rattle.load_state.specs.Holds.{Plain, Symbolic, Fit, AllFit, AllSymbolic, Names, find_listed}
@@ -30,6 +30,25 @@ symbolic_kind r p = eq-eqb (kind r) symbol_kind p
 -- a row of another kind is no symbol's
 pub other_kind : (r : Row) → eqb (kind r) symbol_kind ≡ false → Plain r
 other_kind r e = eqb-false (kind r) symbol_kind e
+
+-- the first word is the kind
+pub kind_word : (r : Row) → get_or (words r) KIND 0 ≡ kind r
+unfolding kind words
+kind_word nil = refl
+kind_word (bool true) = refl
+kind_word (bool false) = refl
+kind_word (fixnum w) = refl
+kind_word (symbol s l) = refl
+kind_word (array s n w) = refl
+kind_word (hash s n d w) = refl
+kind_word (object s n c) = refl
+kind_word (string s l absent w) = refl
+kind_word (string s l (present q n) w) = refl
+kind_word (user s l c absent) = refl
+kind_word (user s l c (present q n)) = refl
+kind_word (float s l) = refl
+kind_word (bignum low high true) = refl
+kind_word (bignum low high false) = refl
 
 plain_named : (bytes name : List ℕ) (r : Row) → Plain r → named bytes name r ≡ false
 unfolding named

@@ -22,7 +22,7 @@ use Rattle.load_state.specs.Laws.{word, word_0, denied, given, still, refuses}
 use Rattle.input_reader.proofs.Input.{lost}
 use Rattle.table_writer.proofs.Added.{row_went}
 use Rattle.load_state.specs.Places.{FORM}
-use Rattle.lists.specs.Words.{kind_word}
+use Rattle.load_state.specs.Names.{kind_word}
 
 -- ---- variables set
 

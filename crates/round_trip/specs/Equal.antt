@@ -167,9 +167,9 @@ small T c scratch output limit e nf =
     let t = (tables_right _ _ _ _ e).0 in
     let f = fault_fit T c nf in
     record {
-      nodes = omega (arith, t.nodes_small, f.nodes, f.counts.nodes_fit);
-      references = omega (arith, t.references_small, f.references, f.counts.references_fit);
-      bytes = omega (arith, t.bytes_small, f.bytes, f.counts.bytes_fit);
+      nodes = omega (arith, t.nodes_small, f.nodes, f.nodes_fit);
+      references = omega (arith, t.references_small, f.references, f.references_fit);
+      bytes = omega (arith, t.bytes_small, f.bytes, f.bytes_fit);
     }
 
 -- two accepted dumps of any tables of words, under any limits, with any scratch and outputs

@@ -5,8 +5,8 @@ use mathlib.Core.List.{[], ◌∷◌}
 use mathlib.Core.Path.{◌≡◌, sym, ap, ◌∙◌}
 use lib.ListN.{length, get_or, take, drop, replicate}
 use Rattle.definition.specs.Run.{ok, refused, pure, ◌>>=◌, look}
-use Rattle.definition.specs.Node.{words, width, START, LENGTH, LIST, COUNT, NAME, DEFAULT, CLASS, words_at}
-use Rattle.definition.specs.Build.{Lent, number_done, words_done, name_done, check, check_names, handles_checked, get_words, get_kind, get_name, get_root}
+use Rattle.definition.specs.Node.{words, width, START, LENGTH, LIST, COUNT, NAME, DEFAULT, CLASS}
+use Rattle.definition.specs.Build.{Lent, number_done, words_done, name_done, check, check_names, handles_checked, words_at, get_words, get_kind, get_name, get_root}
 use Rattle.definition.specs.declared.Answer.TheVariants.{Accepted, Refused}
 use Rattle.definition.specs.declared.Counts.{Counts}
 use Rattle.definition.specs.declared.Refusal.{Refusal}

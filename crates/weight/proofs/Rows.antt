@@ -10,9 +10,9 @@ use lib.ListN.{length, get_or, take}
 use borrow.Author.Tests.{ne_eqb}
 use Rattle.definition.specs.Run.{ok, pick}
 use Rattle.definition.specs.Refused.{signed}
-use Rattle.definition.specs.Node.{Row, fixnum, float, row, row_of, width, START, LENGTH, LIST, COUNT, NAME, DEFAULT, CLASS, kind, words, words_at}
+use Rattle.definition.specs.Node.{Row, fixnum, float, row, row_of, width, START, LENGTH, LIST, COUNT, NAME, DEFAULT, CLASS, kind, words}
 use Rattle.definition.specs.Arena.{arena, node, range}
-use Rattle.definition.specs.Build.{Lent, held, check}
+use Rattle.definition.specs.Build.{Lent, held, words_at, check}
 use Rattle.definition.specs.Weight.{decimal, text_reading, row_reading}
 use Rattle.definition.specs.declared.Reading.TheVariants.{Whole, NotANumber}
 use Rattle.lists.specs.Tables.{rows_at, words_said}

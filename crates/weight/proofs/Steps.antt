@@ -6,8 +6,8 @@ use mathlib.Core.List.{List, [], ◌∷◌}
 use lib.ListN.{take}
 use lib.Ieee.{Float, lt}
 use Rattle.definition.specs.Run.{Run, ok, refused, pure, refuse, ◌>>=◌, look, pick}
-use Rattle.definition.specs.Node.{row, words_at}
-use Rattle.definition.specs.Build.{Lent, handles_checked}
+use Rattle.definition.specs.Node.{row}
+use Rattle.definition.specs.Build.{Lent, words_at, handles_checked}
 use Rattle.definition.specs.Weight.{row_reading, node_reading, get_reading, positive_zero, half, as_double, double_at, dry_at, check_moisture, weigh, weigh_nodes, wet_weight, read_done}
 use Rattle.definition.specs.declared.Answer.TheVariants.{Accepted, Refused}
 use Rattle.definition.specs.declared.Reading.{Reading}

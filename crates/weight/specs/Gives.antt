@@ -1,9 +1,9 @@
 -- A node in a table, and a double or a refusal beside the definition's outcome.
 use Rattle.std.specs.Prelude.{ℕ, ◌+◌, ◌*◌, ◌≤◌, ◌≡◌, List, length, get_or, take, Float}
 use Rattle.definition.specs.Run.{Run, ok, refused}
-use Rattle.definition.specs.Node.{width, row, START, LENGTH, words_at}
+use Rattle.definition.specs.Node.{width, row, START, LENGTH}
 use Rattle.definition.specs.Arena.{node}
-use Rattle.definition.specs.Build.{Lent, held}
+use Rattle.definition.specs.Build.{Lent, held, words_at}
 use Rattle.weight.specs.declared.Given.{Given}
 use Rattle.weight.specs.declared.Given.TheVariants.{Double, Refused}
 

@@ -1,7 +1,7 @@
 // A node read as a number, and wet weight from dry weight.
 ghost use Rattle.std.specs.Prelude.{◌≡◌, take};
-ghost use Rattle.definition.specs.Node.{row, words_at};
-ghost use Rattle.definition.specs.Build.{Lent, lent};
+ghost use Rattle.definition.specs.Node.{row};
+ghost use Rattle.definition.specs.Build.{Lent, lent, words_at};
 ghost use Rattle.definition.specs.Weight.{row_reading, get_reading, weigh_nodes, wet_weight, read_done, weighed_done};
 ghost use Rattle.definition.specs.Weight as W;
 ghost use Rattle.definition.specs.Run as R;

@@ -1,5 +1,5 @@
 -- A well-formed arena: ranges inside, members below the node count, names that are symbols.
-use Prim.Native.Nat.{ℕ, zero, suc, ◌+◌, ◌*◌, ◌≤◌, ◌<◌}
+use Prim.Native.Nat.{ℕ, zero, suc, ◌+◌, ◌*◌, ◌/◌, ◌≤◌, ◌<◌}
 use Rattle.std.specs.Prelude.{◌≡◌, ◌&&◌, ltb, length, get_or}
 use Rattle.std.proofs.Math.Path.{refl, ap, sym as psym}
 use Rattle.std.proofs.Common.{◌∙◌, arith}
@@ -9,16 +9,25 @@ use mathlib.Core.List.{List, [], ◌∷◌, ◌++◌}
 use Rattle.std.proofs.Math.Dec.{leb, eqb, T}
 use Rattle.std.proofs.Math.Seq.{length-take-le}
 use borrow.Author.Tests.{eqb-true, eq-eqb, leb-true, ltb-true}
-use Rattle.definition.specs.Node.{Row, Vars, nil, bool, fixnum, symbol, array, hash, object, string, user, float, bignum, absent, present, symbol_kind, kind, row, rows, is_row, optional_node, words_at}
+use Rattle.definition.specs.Node.{Row, Vars, nil, bool, fixnum, symbol, array, hash, object, string, user, float, bignum, absent, present, width, symbol_kind, kind, row, rows, is_row, optional_node}
 use Rattle.definition.specs.Magnitude.{fits, magnitude}
-use Rattle.definition.specs.Arena.{Tables, Arena, arena, node, range, firsts, all_below, is_name, all_names, bytes_right, list_right, pairs_right, vars_right, class_right, number_right, row_right, node_right, fault}
-use Rattle.definition.specs.Broken.{CountsRight}
+use Rattle.definition.specs.Arena.{Tables, Arena, arena, node, range, firsts, all_below, is_name, all_names, bytes_right, list_right, pairs_right, vars_right, class_right, number_right, row_right, node_right, counts_fit, fault}
 use Rattle.definition.specs.Graph.{links, vars_links}
 use Rattle.definition.specs.declared.Counts.{Counts}
 use Rattle.lists.specs.Joined.{and_left, and_right, pick_true}
 use Rattle.lists.specs.Lists.{At, at_lt, no_at, apart, Below, below_join, below_first, get_d_at}
-use Rattle.lists.specs.Tables.{length_rows, rows_at, faulty_words, counts_right, no_fault}
+use Rattle.lists.specs.Tables.{length_rows, rows_at, faulty_words, no_fault}
 use Rattle.well_formed.specs.Nodes.{at_node, symbol_row, Name}
+use Rattle.definition.specs.Build.{words_at}
+
+-- ---- tests that hold
+
+and_five : (a b c d e : Bool) → (a && b && c && d && e) ≡ true → (a ≡ true) × (b ≡ true) × (c ≡ true) × (d ≡ true) × (e ≡ true)
+and_five true true true true e h = (refl, refl, refl, refl, h)
+and_five true true true false e h = apart (cc)
+and_five true true false d e h = apart (cc)
+and_five true false c d e h = apart (cc)
+and_five false b c d e h = apart (cc)
 
 -- ---- well formed, as propositions
 
@@ -159,25 +168,37 @@ module _ (A : Arena) where
   right_of (float s l) e = leb-true _ _ e
   right_of (bignum low high m) e = number_of (magnitude low high) m e
 
--- right counts are the numbers of what the arena holds
+-- what the counts of a well-formed arena say
 pub record Fit (T : Tables) (c : Counts) : Type 0 where
-  pub counts : CountsRight T c
+  pub some_node : 1 ≤ c.nodes
+  pub nodes_fit : c.nodes ≤ length T.nodes / width
+  pub references_fit : c.references ≤ length T.references
+  pub bytes_fit : c.bytes ≤ length T.bytes
+  pub root_below : c.root < c.nodes
   pub nodes : length (arena T c).nodes ≡ c.nodes
   pub references : length (arena T c).references ≡ c.references
   pub bytes : length (arena T c).bytes ≡ c.bytes
 
 module _ (T : Tables) (c : Counts) where
-  pub fit_of : CountsRight T c → Fit T c
-  unfolding arena
-  fit_of r = record {
-    counts = r;
-    nodes = length_rows c.nodes T.nodes;
-    references = length-take-le c.references T.references r.references_fit;
-    bytes = length-take-le c.bytes T.bytes r.bytes_fit;
-  }
+  fit_of : counts_fit T c ≡ true → Fit T c
+  unfolding counts_fit arena
+  fit_of e =
+      let (e₁, e₂, e₃, e₄, e₅) = and_five (leb 1 c.nodes) (leb c.nodes (length T.nodes / width)) (leb c.references (length T.references)) (leb c.bytes (length T.bytes)) (ltb c.root c.nodes) e in
+      let r = leb-true _ _ e₃ in
+      let b = leb-true _ _ e₄ in
+      record {
+        some_node = leb-true _ _ e₁;
+        nodes_fit = leb-true _ _ e₂;
+        references_fit = r;
+        bytes_fit = b;
+        root_below = leb-true _ _ e₅;
+        nodes = length_rows c.nodes T.nodes;
+        references = length-take-le c.references T.references r;
+        bytes = length-take-le c.bytes T.bytes b;
+      }
 
   pub fault_fit : fault T c ≡ none → Fit T c
-  fault_fit e = fit_of (counts_right T c (no_fault T c e).0)
+  fault_fit e = fit_of (no_fault T c e).0
 
   -- every row passes the test of its kind
   pub fault_rows : fault T c ≡ none → (i : ℕ) (r : Row) → At (arena T c).nodes i r → row_right (arena T c) r ≡ true
@@ -194,7 +215,7 @@ module _ (T : Tables) (c : Counts) where
   fault_right e =
       let f = fault_fit e in
       record {
-        root_below = rw f.nodes f.counts.root_below;
+        root_below = rw f.nodes f.root_below;
         rows_right = λ i r a. right_of (arena T c) r (fault_rows e i r a);
       }
 

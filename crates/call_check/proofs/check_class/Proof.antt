@@ -3,7 +3,8 @@ use borrow.Author.Rules.{rules}
 use Prim.Native.Nat.{ℕ, ◌*◌}
 use mathlib.Core.Path.{sym, ap, ◌∙◌}
 use lib.ListN.{get_or}
-use Rattle.definition.specs.Node.{width, takes_class}
+use Rattle.definition.specs.Node.{width}
+use Rattle.definition.specs.Build.{takes_class}
 use Rattle.call_check.proofs.Tests.{class_on, class_not}
 use Rattle.call_check.proofs.check_class.Statement.{statement}
 use Rattle.call_check.proofs.check_class.Tie as tie

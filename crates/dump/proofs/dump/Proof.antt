@@ -10,11 +10,11 @@ use Rattle.definition.specs.Arena.{tables_of}
 known : (c : tie.After-enum-told) → let a = c.before.before.before.before.before.before.before.before.before.before.before.args in Sound a.nodes.now a.references.now a.bytes.now a.counts a.scratch.now a.output.now a.limit c.before.before.before.size.result
 known c =
     let a = c.before.before.before.before.before.before.before.before.before.before.before.args in
-    let wrong_slice = c.before.before.before.before.before.wrong_slice in
+    let wrong-slice = c.before.before.before.before.before.wrong-slice in
     let if1 = c.before.before.before.before.if1 in
     let size = c.before.before.before.size in
     let check = c.before.before.check in
-    past wrong_slice.ensures.0 wrong_slice.ensures.1 if1.false check.ensures.0 c.enum_told.given.1 size.ensures
+    past wrong-slice.ensures.0 wrong-slice.ensures.1 if1.false check.ensures.0 c.enum_told.given.1 size.ensures
 
 wrong-slice-requires : tie.Need-wrong-slice-requires
 wrong-slice-requires c κs = search rules
@@ -22,15 +22,15 @@ wrong-slice-requires c κs = search rules
 returns : tie.Need-returns
 returns c =
     let a = c.before.before.before.before.before.before.before.args in
-    let wrong_slice = c.before.wrong_slice in
-    tables_wrong (tables_of a.nodes.now a.references.now a.bytes.now) a.counts a.scratch.now a.output.now a.limit _ wrong_slice.ensures.0 c.if1.true
+    let wrong-slice = c.before.wrong-slice in
+    tables_wrong (tables_of a.nodes.now a.references.now a.bytes.now) a.counts a.scratch.now a.output.now a.limit _ wrong-slice.ensures.0 c.if1.true
 
 size-requires : tie.Need-size-requires
 size-requires c κs = search rules
 
 check-requires : tie.Need-check-requires
 check-requires c κs =
-    (c.before.before.wrong_slice.ensures.1 c.before.if1.false).nodes_small
+    (c.before.before.wrong-slice.ensures.1 c.before.if1.false).nodes_small
 
 enum-known-f : tie.Need-enum-known-f
 enum-known-f c = search rules
@@ -91,11 +91,11 @@ refusal-requires c κs =
 returns-3 : tie.Need-returns-3
 returns-3 c =
     let a = c.before.before.before.before.before.before.before.before.before.before.before.before.args in
-    let wrong_slice = c.before.before.before.before.before.before.wrong_slice in
+    let wrong-slice = c.before.before.before.before.before.before.wrong-slice in
     let if1 = c.before.before.before.before.before.if1 in
     let check = c.before.before.before.check in
     let f = c.before.f in
-    arena_wrong (tables_of a.nodes.now a.references.now a.bytes.now) a.counts a.scratch.now a.output.now a.limit _ wrong_slice.ensures.0 if1.false _ _ check.ensures.0 f.given.1
+    arena_wrong (tables_of a.nodes.now a.references.now a.bytes.now) a.counts a.scratch.now a.output.now a.limit _ wrong-slice.ensures.0 if1.false _ _ check.ensures.0 f.given.1
 
 same_length_3 : tie.Need-same-length-3
 same_length_3 c = search rules

@@ -21,7 +21,7 @@ returns c =
     let c10 = c.before.before.before.before.before.before.before.before.before.before in
     let a = c10.args in
     let T = lists a.nodes.now a.references.now a.bytes.now a.symbols.now a.objects.now in
-    let e = not_taken a.input.now T a.buckets.now a.limit a.counted a.wrong _ c.refused.ensures c.before.before.wrong_slice.ensures.0 c.before.if1.true in
+    let e = not_taken a.input.now T a.buckets.now a.limit a.counted a.wrong _ c.refused.ensures c.before.before.wrong-slice.ensures.0 c.before.if1.true in
     (e.0, (e.1, e.2))
 
 array-write-c : tie.Need-array-write-c
@@ -35,7 +35,7 @@ array-write-c-3 c = search rules
 
 put-node-requires : tie.Need-put-node-requires
 put-node-requires c κs =
-    let F = c.before.before.wrong_slice.ensures.1 c.before.if1.false in
+    let F = c.before.before.wrong-slice.ensures.1 c.before.if1.false in
     omega (arith, F.whole, F.one)
 
 zero-words-requires : tie.Need-zero-words-requires
@@ -50,7 +50,7 @@ read-root-requires c κs =
     let c24 = c16.before.before.before.before.before.before.before.before in
     let a = c24.args in
     let T = lists a.nodes.now a.references.now a.bytes.now a.symbols.now a.objects.now in
-    held_begin a.input.now T a.buckets.now a.counted a.wrong (c16.wrong_slice.ensures.1 c15.if1.false) c24.requires.0 c24.requires.1 c13.put-node.ensures (emptied a.buckets.now a.buckets.now c9.zero-words.ensures refl)
+    held_begin a.input.now T a.buckets.now a.counted a.wrong (c16.wrong-slice.ensures.1 c15.if1.false) c24.requires.0 c24.requires.1 c13.put-node.ensures (emptied a.buckets.now a.buckets.now c9.zero-words.ensures refl)
 
 zero-words-requires-2 : tie.Need-zero-words-requires-2
 zero-words-requires-2 c κs = search rules
@@ -133,7 +133,7 @@ returns-2 c =
     let T = lists a.nodes.now a.references.now a.bytes.now a.symbols.now a.objects.now in
     let k = c39.read-root.new.1 in
     let n = c39.read-root.auto.1 in
-    let w = c56.wrong_slice.ensures in
+    let w = c56.wrong-slice.ensures in
     let e = load_refused a.input.now T a.buckets.now a.limit a.counted a.wrong _ w.0 c55.if1.false (w.1 c55.if1.false) c64.requires.0 c64.requires.1 c53.put-node.ensures (emptied a.buckets.now a.buckets.now c49.zero-words.ensures refl) (c39.read-root.ensures.0 (room_of T)) c14.if2.true c.before.refusal_of.ensures c.refused2.ensures
     (lists_same
     (emptied k.0 a.nodes.now c12.zero-words5.ensures (n.0 ∙ c53.put-node.auto.0))
@@ -160,7 +160,7 @@ held_root c =
     let a = c50.args in
     let p = c50.requires in
     let T = lists a.nodes.now a.references.now a.bytes.now a.symbols.now a.objects.now in
-    let H = held_begin a.input.now T a.buckets.now a.counted a.wrong (c42.wrong_slice.ensures.1 c41.if1.false) p.0 p.1 c39.put-node.ensures (emptied a.buckets.now a.buckets.now c35.zero-words.ensures refl) in
+    let H = held_begin a.input.now T a.buckets.now a.counted a.wrong (c42.wrong-slice.ensures.1 c41.if1.false) p.0 p.1 c39.put-node.ensures (emptied a.buckets.now a.buckets.now c35.zero-words.ensures refl) in
     held {m = λ room. whole a.input.now room a.limit} {m' = λ room. _} H c.if2.false (λ room. c25.read-root.ensures.0 room)
 
 array-read-zero-words : tie.Need-array-read-zero-words
@@ -281,7 +281,7 @@ returns-3 c =
     let T = lists a.nodes.now a.references.now a.bytes.now a.symbols.now a.objects.now in
     let k = c38.read-root.new.1 in
     let n = c38.read-root.auto.1 in
-    let w = c55.wrong_slice.ensures in
+    let w = c55.wrong-slice.ensures in
     let e = loaded a.input.now T a.buckets.now a.limit a.counted a.wrong _ w.0 c54.if1.false (w.1 c54.if1.false) c63.requires.0 c63.requires.1 c52.put-node.ensures (emptied a.buckets.now a.buckets.now c48.zero-words.ensures refl) (c38.read-root.ensures.0 (room_of T)) c.compared.ensures c13.if2.false
     c11.zero-words7.ensures
     c7.zero-words8.ensures

@@ -21,7 +21,7 @@ same_length_2 c = search rules
 
 returns-2 : tie.Need-returns-2
 returns-2 c =
-    build_told _ _ c.before.before.before.before.before.before.before.before.if1.false c.before.before.tell-created.ensures c.before.before.before.before.before.before.replace_class.ensures
+    build_told _ _ c.before.before.before.before.before.before.before.before.if1.false c.before.before.tell-created.ensures c.before.before.before.before.before.before.replace-class.ensures
 
 pub ruby_marshal_replace_class_spec : {M : Type 1} → statement M
 ruby_marshal_replace_class_spec =

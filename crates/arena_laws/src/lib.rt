@@ -1,1 +1,0 @@
-// Theorems only: which fault of an arena BAD-ARENA names.
