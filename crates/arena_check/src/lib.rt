@@ -1,4 +1,5 @@
 // Whether the slices lent have allowed lengths, and whether an arena is well formed.
+#![tactic(auto)]
 ghost use Rattle.std.specs.Prelude.{◌≡◌, true, [], ◌∷◌, ◌+◌, ◌*◌, ◌/◌, ◌<◌, ◌≤◌, eqb, length, take, drop};
 ghost use Rattle.definition.specs.Node.{width, is_row, row_of, rows, vars};
 ghost use Rattle.definition.specs.Magnitude.{magnitude};
@@ -11,7 +12,7 @@ ghost use Rattle.arena_check.specs.Held.{Held, checked, Fits, FitIf};
 use bignum::magnitude_of;
 use definition::{Bignum, Counts, Fault, Node, Slice};
 
-#[derive(Drop)]
+#[derive(Clone, Copy)]
 pub enum Checked {
     Right,
     Wrong(Fault),

@@ -1,1 +1,2 @@
 // Theorems only: what an accepted call of the builder leaves.
+#![tactic(auto)]

@@ -2,6 +2,7 @@
 //
 // Text is put into a buffer that is written when it is full. A position past the buffer's end says that a write failed:
 // nothing more is put then.
+#![tactic(auto)]
 ghost use Rattle.std.specs.Prelude.{◌≡◌};
 ghost use Rattle.definition.specs.Load.{lists, load_call_of};
 ghost use Rattle.io.specs.Counts as counts;
@@ -142,7 +143,7 @@ fn put_yes_or_no(out: &mut [u8], at: usize, b: bool) -> usize {
     put_all(out, at, b"no\n")
 }
 
-#[derive(Drop)]
+#[derive(Clone, Copy)]
 pub enum Input {
     Read(usize),
     Failed,

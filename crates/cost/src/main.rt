@@ -1,4 +1,5 @@
 // cost: prints what the recipe in standard input costs at the prices in it, in cents, or the refusal's row as list prints it.
+#![tactic(auto)]
 fn main() {
     programs::run(
         programs::COST,

@@ -1,7 +1,8 @@
 // The types that every answer is made of, and the kind bytes.
+#![tactic(auto)]
 
 // The kinds of node, in the order of word 0.
-#[derive(Drop)]
+#[derive(Clone, Copy)]
 pub enum ValueKind {
     Nil,
     Bool,
@@ -54,7 +55,7 @@ impl ValueKind {
 }
 
 // A number's text in a Float: its minus, its point, its first and last digit, and the most digits that it may have.
-#[derive(Drop)]
+#[derive(Clone, Copy)]
 pub struct Decimal {}
 
 impl Decimal {
@@ -70,7 +71,7 @@ impl Decimal {
 }
 
 // A Bignum's sign bytes, the most units that it may have, and the least magnitude that is too great.
-#[derive(Drop)]
+#[derive(Clone, Copy)]
 pub struct Bignum {}
 
 impl Bignum {
@@ -84,7 +85,7 @@ impl Bignum {
 }
 
 // A recipe: the most pairs that it may have, the greatest amount of a pair, and the kilograms of a tonne.
-#[derive(Drop)]
+#[derive(Clone, Copy)]
 pub struct Recipe {}
 
 impl Recipe {
@@ -97,7 +98,7 @@ impl Recipe {
 
 // A node's words: how many there are, their places, and the kinds' numbers in word 0, where a node begins. A word that a kind
 // does not use is 0.
-#[derive(Drop)]
+#[derive(Clone, Copy)]
 pub struct Node {}
 
 impl Node {
@@ -161,7 +162,7 @@ impl Node {
 pub const LIMIT: u32 = 128;
 
 // The slices' numbers, as BAD-TABLES and NO-SPACE name them, and the most entries that a slice may have.
-#[derive(Drop)]
+#[derive(Clone, Copy)]
 pub struct Slice {}
 
 impl Slice {
@@ -193,14 +194,14 @@ impl Slice {
 }
 
 // What is not well formed: the counts, or this node.
-#[derive(Drop)]
+#[derive(Clone, Copy)]
 pub enum Fault {
     Counts,
     Node(u32),
 }
 
 // Why a call is refused, in the order of the numbers 1 to 22 of documents 01 and 02.
-#[derive(Drop)]
+#[derive(Clone, Copy)]
 pub enum Refusal {
     BadTables(u32),
     BadArena(Fault),
@@ -227,14 +228,14 @@ pub enum Refusal {
     NotWrappable(u8),
 }
 
-#[derive(Drop)]
+#[derive(Clone, Copy)]
 pub enum Answer {
     Accepted,
     Refused(Refusal),
 }
 
 // An answer's number and two details, for programs. Where `below` says so the first detail is below 0, and `first` is how far.
-#[derive(Drop)]
+#[derive(Clone, Copy)]
 pub struct Numbers {
     pub number: u32,
     pub below: bool,
@@ -243,7 +244,7 @@ pub struct Numbers {
 }
 
 // How much of the three tables is used, and the root's node.
-#[derive(Drop)]
+#[derive(Clone, Copy)]
 pub struct Counts {
     pub nodes: usize,
     pub references: usize,
@@ -252,7 +253,7 @@ pub struct Counts {
 }
 
 // load: the counts of the arena it filled, the bytes of input used, and whether dump writes just these.
-#[derive(Drop)]
+#[derive(Clone, Copy)]
 pub struct Loaded {
     pub answer: Answer,
     pub counts: Counts,
@@ -261,7 +262,7 @@ pub struct Loaded {
 }
 
 // load_measured: what load answers, the bytes copied to the byte table, and the bytes compared in searches for names.
-#[derive(Drop)]
+#[derive(Clone, Copy)]
 pub struct Measured {
     pub load: Loaded,
     pub copied: u64,
@@ -269,14 +270,14 @@ pub struct Measured {
 }
 
 // load_hashed: what load answers, and the words of the bucket table looked at in searches for names.
-#[derive(Drop)]
+#[derive(Clone, Copy)]
 pub struct Hashed {
     pub load: Loaded,
     pub looked: u64,
 }
 
 // A reader's byte, header or integer: its value, for the header 0, the offset then, and whether dump writes these bytes.
-#[derive(Drop)]
+#[derive(Clone, Copy)]
 pub struct Taken {
     pub answer: Answer,
     pub value: u32,
@@ -286,7 +287,7 @@ pub struct Taken {
 
 // A reader's byte string: where its bytes start in the input, how many they are, the offset then, and whether dump writes
 // its length so.
-#[derive(Drop)]
+#[derive(Clone, Copy)]
 pub struct Text {
     pub answer: Answer,
     pub start: usize,
@@ -296,35 +297,35 @@ pub struct Text {
 }
 
 // dump: the number of bytes written.
-#[derive(Drop)]
+#[derive(Clone, Copy)]
 pub struct Dumped {
     pub answer: Answer,
     pub written: usize,
 }
 
 // new: the counts of an arena that holds nil.
-#[derive(Drop)]
+#[derive(Clone, Copy)]
 pub struct Begun {
     pub answer: Answer,
     pub counts: Counts,
 }
 
 // root, kind and the like: one number.
-#[derive(Drop)]
+#[derive(Clone, Copy)]
 pub struct Number {
     pub answer: Answer,
     pub value: u32,
 }
 
 // get: a node's words.
-#[derive(Drop)]
+#[derive(Clone, Copy)]
 pub struct Words {
     pub answer: Answer,
     pub words: [u32; Node::WIDTH],
 }
 
 // get_symbol: where the name's bytes start, and how many they are.
-#[derive(Drop)]
+#[derive(Clone, Copy)]
 pub struct Name {
     pub answer: Answer,
     pub start: u32,
@@ -332,7 +333,7 @@ pub struct Name {
 }
 
 // create_*, replace_root and replace_class: the new node, the old root or the old class word, and the counts as they now are.
-#[derive(Drop)]
+#[derive(Clone, Copy)]
 pub struct Created {
     pub answer: Answer,
     pub handle: u32,
@@ -340,7 +341,7 @@ pub struct Created {
 }
 
 // A node read as a number.
-#[derive(Drop)]
+#[derive(Clone, Copy)]
 pub enum Reading {
     Whole(i32),
     Double(f64),
@@ -348,14 +349,14 @@ pub enum Reading {
 }
 
 // reading: what the node reads as, not a number where the call is refused.
-#[derive(Drop)]
+#[derive(Clone, Copy)]
 pub struct Read {
     pub answer: Answer,
     pub reading: Reading,
 }
 
 // Dry weight, moisture and wet weight.
-#[derive(Drop)]
+#[derive(Clone, Copy)]
 pub struct Weighing {
     pub dry: f64,
     pub moisture: f64,
@@ -363,14 +364,14 @@ pub struct Weighing {
 }
 
 // wet_weight: the weighing, three positive zeros where the call is refused.
-#[derive(Drop)]
+#[derive(Clone, Copy)]
 pub struct Weighed {
     pub answer: Answer,
     pub weighing: Weighing,
 }
 
 // batch_cost: the sum in cents, 0 where the call is refused.
-#[derive(Drop)]
+#[derive(Clone, Copy)]
 pub struct Costed {
     pub answer: Answer,
     pub cents: u64,

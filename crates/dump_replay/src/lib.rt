@@ -3,6 +3,7 @@
 // A case, from word 2 on: the lengths of the three tables; the four counts; the lengths of scratch and output; the limit; the byte
 // at which the byte table stands; what is expected: the answer's number and two details, the number of bytes written, how many
 // bytes are given, and the byte at which these stand; then the node words and references.
+#![tactic(auto)]
 use console::{BYTES, NODES, NUMBERED, REFERENCES};
 use definition::Dumped;
 use dump::dump;

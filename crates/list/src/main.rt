@@ -1,4 +1,5 @@
 // list: prints the arena that load makes of standard input, or its refusal.
+#![tactic(auto)]
 fn main() {
     programs::run(
         programs::LIST,

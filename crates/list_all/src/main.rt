@@ -1,5 +1,6 @@
 // list_all: prints the arena that load makes of each of the dumps that stand one after the other in standard input, up to the
 // first that is refused, whose refusal it prints.
+#![tactic(auto)]
 fn main() {
     programs::run(
         programs::LIST_ALL,

@@ -1,5 +1,6 @@
 // What the programs list and list_all print: an input loaded, or all that stands in it one after the other, and the arena or
 // the refusal as rows of columns.
+#![tactic(auto)]
 use console::{LIMIT, LONGEST, end_row, load_input, put_number, put_refusal};
 use definition::{Answer, Counts, Loaded, Node, Refusal, Slice};
 use load::load_at;
@@ -138,7 +139,7 @@ pub fn put_listing(
 }
 
 // Where the listing of what stands at an offset ends in `out`, and the bytes of input used, 0 where it is refused.
-#[derive(Drop)]
+#[derive(Clone, Copy)]
 struct Part {
     to: usize,
     used: usize,

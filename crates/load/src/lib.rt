@@ -1,4 +1,5 @@
 // load: the calls, from the test of what is lent to the zeros behind what was read.
+#![tactic(auto)]
 ghost use Rattle.std.specs.Prelude.{◌≡◌, false, ◌⊎◌, ◌-◌, ◌/◌, ◌<◌, ◌≤◌, length};
 ghost use Rattle.definition.specs.Node.{width};
 ghost use Rattle.definition.specs.Slice.{greatest_length};
@@ -25,7 +26,7 @@ const NOT_COUNTING: usize = 0;
 const NONE_WRONG: bool = false;
 
 // What load answers, and what the measuring and the hashed load add to it.
-#[derive(Drop)]
+#[derive(Clone, Copy)]
 struct Counted {
     load: Loaded,
     copied: u64,

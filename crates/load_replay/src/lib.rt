@@ -5,6 +5,7 @@
 // where they are in dump form and else 0; the hashed load's answer, likewise; the bytes copied, the bytes compared and the bucket
 // words looked at, two words each; how much of nodes, references and bytes is laid out, and the byte at which these bytes stand;
 // then those node words and references.
+#![tactic(auto)]
 use console::{BYTES, NODES, NUMBERED, REFERENCES};
 use definition::Loaded;
 use load::{load, load_hashed, load_measured};
@@ -46,7 +47,7 @@ const LOAD_MEASURED: u32 = 1;
 const LOAD_HASHED: u32 = 2;
 
 // What a call answers, with the two counts that it may add.
-#[derive(Drop)]
+#[derive(Clone, Copy)]
 struct Called {
     load: Loaded,
     first: u64,

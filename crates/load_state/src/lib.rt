@@ -1,4 +1,5 @@
 // What is lent and the counts hold a state of the definition: the relation, its laws, and the places of the counts.
+#![tactic(auto)]
 
 // How many counts a load keeps.
 pub const COUNTS: usize = 10;

@@ -341,3 +341,19 @@ module _ (input : List ℕ) (room : Room) (sm : Small room) (limit : ℕ) (P : L
   load_complete (t_user_vars {m = m} {l = l} {n = n} {b = b} {x = x} {y = y} {z = z} {p = p} {f = f} {r = r} v o t₁ t) (e_box {v = u} {σ = σ} {σ₁ = σ₁} {σ₂ = σ₂} {σ' = σ'} a d₀ k d₁ d) w =
       on_value m (suc (suc l)) (f_box (header_of 8 0 b n true false) p f r) r (INSTANCE_VARIABLES ∷ USER_DEFINED ∷ (z ++ byte_string_bytes b ++ integer_bytes n ++ y)) x σ σ₂ σ' v
       (val_user_vars l n b p f r z y σ σ₁ σ₂ u (one_like o d₀) (load_complete t₁ d₁ tt)) (load_complete t d (words_after m v))
+  load_complete (t_object {n = n} {x = x} v (t_nil {l = l} {r = r} x42 _) t) {vs = vs} {σ = σ} d w = elim x42 [ ]
+  load_complete (t_object {n = n} {x = x} v (t_false {l = l} {r = r} x43 _) t) {vs = vs} {σ = σ} d w = elim x43 [ ]
+  load_complete (t_object {n = n} {x = x} v (t_true {l = l} {r = r} x44 _) t) {vs = vs} {σ = σ} d w = elim x44 [ ]
+  load_complete (t_object {n = n} {x = x} v (t_fixnum {l = l} {r = r} x49 _ _) t) {vs = vs} {σ = σ} d w = elim x49 [ ]
+  load_complete (t_object {n = n} {x = x} v (t_symbol {l = l} {b = b} {r = r} x46 _) t) {vs = vs} {σ = σ} d w = elim x46 [ ]
+  load_complete (t_object {n = n} {x = x} v (t_symbol_link {l = l} {k = k} {r = r} x47 _) t) {vs = vs} {σ = σ} d w = elim x47 [ ]
+  load_complete (t_object {n = n} {x = x} v (t_object_link {l = l} {k = k} {r = r} x48 _) t) {vs = vs} {σ = σ} d w = elim x48 [ ]
+  load_complete (t_object {n = n} {x = x} v (t_array {l = l} {c = c} {z = z} {p = p} {f = f} {r = r} x61 _ _ _ _) t) {vs = vs} {σ = σ} d w = elim x61 [ ]
+  load_complete (t_object {n = n} {x = x} v (t_hash {l = l} {c = c} {z = z} {p = p} {f = f} {r = r} x62 _ _ _ _) t) {vs = vs} {σ = σ} d w = elim x62 [ ]
+  load_complete (t_object {n = n} {x = x} v (t_hash_default {l = l} {c = c} {z = z} {p = p} {f = f} {r = r} x63 _ _ _ _) t) {vs = vs} {σ = σ} d w = elim x63 [ ]
+  load_complete (t_object {n = n} {x = x} v (t_object {l = l} {f = f} {r = r} x56 _ _) t) {vs = vs} {σ = σ} d w = elim x56 [ ]
+  load_complete (t_object {n = n} {x = x} v (t_text {l = l} {k = k} {c = c} {b = b} {z = z} {p = p} {r = r} _ x62 _ _) t) {vs = vs} {σ = σ} d w = elim x62 [ ]
+  load_complete (t_object {n = n} {x = x} v (t_bignum {l = l} {minus = minus} {r = r} x58 _ _) t) {vs = vs} {σ = σ} d w = elim x58 [ ]
+  load_complete (t_object {n = n} {x = x} v (t_string_vars {l = l} {c = c} {b = b} {z = z} {p = p} {f = f} {r = r} x63 _ _ _) t) {vs = vs} {σ = σ} d w = elim x63 [ ]
+  load_complete (t_object {n = n} {x = x} v (t_user {l = l} {b = b} {z = z} {p = p} {r = r} x60 _ _) t) {vs = vs} {σ = σ} d w = elim x60 [ ]
+  load_complete (t_object {n = n} {x = x} v (t_user_vars {l = l} {b = b} {z = z} {p = p} {f = f} {r = r} x65 _ _ _) t) {vs = vs} {σ = σ} d w = elim x65 [ ]

@@ -1,1 +1,2 @@
 // Theorems only: load reads what dump writes.
+#![tactic(auto)]

@@ -3,6 +3,7 @@
 // A slice is a pointer and a length there, and the counts are four numbers. The answer's number is returned, 0 where the call
 // is accepted. Its two details and what else the call answers go into the answer words, doubles into a slice of their own
 // (reply/specs/Reply). Fewer words or doubles than a call writes are refused with 1, and nothing is touched then.
+#![tactic(auto)]
 ghost use Rattle.std.specs.Prelude.{◌≡◌};
 ghost use Rattle.definition.specs.Arena.{counts_of, tables_of};
 ghost use Rattle.definition.specs.Load.{lists, load_call};

@@ -1,4 +1,5 @@
 // A node added behind the others, or no room for it; a symbol found by its name.
+#![tactic(auto)]
 ghost use Rattle.std.specs.Prelude.{◌≡◌, List, [], ◌∷◌, ℕ, ◌-◌, ◌*◌, ◌<◌, ◌≤◌, length, take};
 ghost use Rattle.definition.specs.Node.{width, Row, words, rows};
 ghost use Rattle.definition.specs.Arena.{Arena, node, named, find_symbol};
@@ -188,7 +189,7 @@ pub fn is_named(
     false
 }
 
-#[derive(Drop)]
+#[derive(Clone, Copy)]
 pub enum Found {
     At(u32),
     Nowhere,

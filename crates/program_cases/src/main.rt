@@ -2,11 +2,12 @@
 // empty row.
 //
 // Standard input: for each input its length in two bytes, low byte first, the program's number in two, and the input.
+#![tactic(auto)]
 use console::{LONGEST, end_row, flush, put_number, within};
 use programs::put_output;
 
 // The position after an input's output, or that there is no further input.
-#[derive(Drop)]
+#[derive(Clone, Copy)]
 enum Step {
     Shown(usize),
     End,

@@ -1,4 +1,5 @@
 // What each program does with its input, chosen by a number, and the program over standard input.
+#![tactic(auto)]
 use console::{
     BYTES, Input, LONGEST, NODES, NUMBERED, REFERENCES, flush, load_input, put_form, read_input,
     within,

@@ -1,5 +1,6 @@
 // What stands in the input at an offset: integers and the header; the numbers that readers answer; and the reader, an input
 // with an offset.
+#![tactic(auto)]
 ghost use Rattle.std.specs.Prelude.{◌≡◌, ◌⊎◌, List, [], ◌∷◌, ℕ, ◌+◌, ◌-◌, ◌*◌, ◌^◌, ◌<◌, ◌≤◌, length, take, drop};
 ghost use Rattle.definition.specs.Integer.{value, form, low_bytes, integer_bytes, wrong_sign};
 ghost use Rattle.definition.specs.Integer as integer;
@@ -490,7 +491,7 @@ pub fn byte_string_from(input: &[u8], at: usize) -> Text
 // ---- the reader
 
 // An input and the offset from which it is read on.
-#[derive(Drop)]
+#[derive(Clone, Copy)]
 pub struct Reader<'a> {
     pub input: &'a [u8],
     pub offset: usize,

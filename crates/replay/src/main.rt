@@ -3,6 +3,7 @@
 // Standard input is cases, in sections by the kind of call: words of 32 bits, low byte first, then bytes, padded to a word. Word 0
 // of a case is its length in words, word 1 its call. The call END closes a section, whose count is then printed: one that is cut
 // short has none. A case has at most LONGEST bytes.
+#![tactic(auto)]
 mod readers;
 
 use replay_cases::{next, print_case, print_counts, read_case, word};
@@ -31,7 +32,7 @@ fn case_agrees(data: &[u8]) -> bool {
 }
 
 // The cases of a section so far, how many of them disagree, and whether there is more to read.
-#[derive(Drop)]
+#[derive(Clone, Copy)]
 struct Tally {
     cases: u64,
     wrong: u64,

@@ -29,7 +29,7 @@ const AFTER: usize = 11;
 const FORM: usize = 12;
 
 // What is found at an offset.
-#[derive(Drop)]
+#[derive(Clone, Copy)]
 struct Found {
     answer: Answer,
     value: usize,

@@ -1,4 +1,5 @@
 // What replaying a case of any call shares: its words and bytes, what tables hold before and after a call, and what is printed.
+#![tactic(auto)]
 ghost use Rattle.std.specs.Prelude.{◌<◌};
 ghost use Rattle.io.specs.Counts as counts;
 
@@ -73,7 +74,7 @@ pub fn next(n: u64) -> u64 {
 }
 
 // What a table holds: the n entries that stand at `at` of the case, then zeros; or junk.
-#[derive(Drop)]
+#[derive(Clone, Copy)]
 pub struct Held {
     pub at: usize,
     pub n: usize,

@@ -1,4 +1,5 @@
 // A node read as a number, and wet weight from dry weight.
+#![tactic(auto)]
 ghost use Rattle.std.specs.Prelude.{◌≡◌, take};
 ghost use Rattle.definition.specs.Node.{row};
 ghost use Rattle.definition.specs.Build.{Lent, lent, words_at};
@@ -53,7 +54,7 @@ pub fn reading(nodes: &[u32], references: &[u32], bytes: &[u8], counts: Counts, 
 // ---- a weighing
 
 // A double, or why there is none.
-#[derive(Drop)]
+#[derive(Clone, Copy)]
 enum Given {
     Double(f64),
     Refused(Refusal),

@@ -1,1 +1,2 @@
 // Theorems only: doubles as near as can be, and weighings.
+#![tactic(auto)]

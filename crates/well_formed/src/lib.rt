@@ -1,1 +1,2 @@
 // Theorems only: laws of well formed arenas, for the code and for the theory of graphs.
+#![tactic(auto)]
