@@ -1,0 +1,17 @@
+-- The proof of pad.
+use native.Mathlib.Omega.{arith}
+use Prim.Native.Nat.{◌-◌}
+use mathlib.Core.Path.{refl}
+use Rattle.console.proofs.pad.Goals as goal
+
+pub loop-i-init : goal.loop-i-init
+loop-i-init c =
+    refl
+
+pub loop-i-preserved : goal.loop-i-preserved
+loop-i-preserved c =
+    omega (arith, c.loop-i.invariant, c.put-p.auto)
+
+pub shape_of-out : goal.shape_of-out
+shape_of-out c =
+    omega (arith, c.loop-i.invariant)

@@ -1,0 +1,80 @@
+-- The proof of dump.
+use mathlib.Core.Path.{◌∙◌}
+use Rattle.dump.proofs.Whole.{tables_wrong, arena_wrong, ready_start, written_fits, refused_answer, accepted, turned_down}
+use borrow.Author.Rules.{rules}
+use Rattle.definition.specs.Arena.{tables_of}
+use Rattle.dump.proofs.dump.Goals as goal
+
+enum-known-f : tie.Need-enum-known-f
+enum-known-f c = search rules
+
+enum_told : tie.Need-enum-told
+enum_told c = search rules
+
+same_length : tie.Need-same-length
+same_length c = search rules
+
+same_length_2 : tie.Need-same-length-2
+same_length_2 c = search rules
+
+same_length_3 : tie.Need-same-length-3
+same_length_3 c = search rules
+
+same_length_4 : tie.Need-same-length-4
+same_length_4 c = search rules
+
+pub returns-then-w-ne0 : goal.returns-then-w-ne0
+returns-then-w-ne0 c =
+    let a = c.args in
+    let wrong-slice = c.wrong_slice-w in
+    tables_wrong (tables_of a.nodes.now a.references.now a.bytes.now) a.counts a.scratch.now a.output.now a.limit _ wrong-slice.ensures.value c.if-w-ne0.true
+
+pub check-requires : goal.check-requires
+check-requires c =
+    (c.wrong_slice-w.ensures.allowed c.if-w-ne0.false).nodes_small
+
+pub write_root-w-requires : goal.write_root-w-requires
+write_root-w-requires c =
+    let zero-words = c.zero_words in
+    ready_start (known right) zero-words.ensures
+
+pub zero_bytes-requires : goal.zero_bytes-requires
+zero_bytes-requires c =
+    let zero-words = c.zero_words in
+    let write_root = c.write_root-w in
+    let if2 = c.if-w-eq-DONE in
+    written_fits (known right) zero-words.ensures write_root.ensures if2.true
+
+pub returns-then-w-eq-DONE : goal.returns-then-w-eq-DONE
+returns-then-w-eq-DONE c =
+    let zero-words = c.zero_words in
+    let write_root = c.write_root-w in
+    let zero-words2 = c.zero_words-in-Right in
+    let if2 = c.if-w-eq-DONE in
+    let zero-bytes = c.zero_bytes in
+    accepted (known right) zero-words.ensures write_root.ensures zero-words2.ensures (write_root.auto.1.1.1.0 ∙ zero-words.auto.0) if2.true zero-bytes.ensures
+
+pub refusal-requires : goal.refusal-requires
+refusal-requires c =
+    let zero-words = c.zero_words in
+    let write_root = c.write_root-w in
+    let if2 = c.if-w-eq-DONE in
+    refused_answer (known right) zero-words.ensures write_root.ensures if2.false
+
+pub returns-in-Wrong : goal.returns-in-Wrong
+returns-in-Wrong c =
+    let a = c.args in
+    let wrong-slice = c.wrong_slice-w in
+    let if1 = c.if-w-ne0 in
+    let check = c.check in
+    let f = c.f-1 in
+    arena_wrong (tables_of a.nodes.now a.references.now a.bytes.now) a.counts a.scratch.now a.output.now a.limit _ wrong-slice.ensures.value if1.false _ _ check.ensures.result_value f.given.1
+
+pub returns-else-w-eq-DONE : goal.returns-else-w-eq-DONE
+returns-else-w-eq-DONE c =
+    let zero-words = c.zero_words in
+    let write_root = c.write_root-w in
+    let zero-words2 = c.zero_words-in-Right in
+    let if2 = c.if-w-eq-DONE in
+    let zero-bytes = c.zero_bytes-in-Right in
+    turned_down (known right) zero-words.ensures write_root.ensures zero-words2.ensures (write_root.auto.1.1.1.0 ∙ zero-words.auto.0) if2.false c.refusal.ensures zero-bytes.ensures write_root.auto.1.1.1.1.0

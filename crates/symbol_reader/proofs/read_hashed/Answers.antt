@@ -1,0 +1,94 @@
+-- The proof of read_hashed.
+use native.Mathlib.Omega.{arith}
+use native.Mathlib.Nat.{mod-lt}
+use mathlib.Core.Path.{◌≡◌, ap, ◌∙◌, refl}
+use mathlib.Core.List.{[]}
+use lib.ListN.{length}
+use lib.Seq.{get_or-set_other}
+use Prim.Native.Nat.{◌+◌}
+use Rattle.load_state.specs.Holds.{at_of, looked_of}
+use Rattle.load_state.specs.Laws.{lead_stop}
+use Rattle.symbol_reader.proofs.Hashed.{Sought, list_symbolic, known_below, at_after, held_after, hashed_meets}
+use Rattle.symbol_search.proofs.Probing.{looked_fits}
+use Rattle.symbol_reader.proofs.read_hashed.Goals as goal
+
+-- what the search has come to
+sought : (c : tie.After-symbol-in) →
+    let c7 = c.before.before.before.before.before.before.before in
+    let c8 = c7.before in
+    let c12 = c8.before.before.before.before in
+    let c20 = c12.before.before.before.before.before.before.before.before in
+    let a = c20.args in
+    Sought a.input.now a.nodes.now a.bytes.now a.symbols.now a.buckets.now a.c.now a.n c12.fnv_1a.result c8.probe.result c7.word_on.result c.symbol-in.result
+sought c =
+    let c7 = c.before.before.before.before.before.before.before in
+    let c8 = c7.before in
+    let c12 = c8.before.before.before.before in
+    let c20 = c12.before.before.before.before.before.before.before.before in
+    let p = c20.requires in
+    record { inside = p.0; words = p.1; hash = c12.fnv_1a.ensures; probe = λ room s re ob m G. c8.probe.ensures.1 room s re _ ob m G; place = c7.word_on.ensures.0; zero = c.symbol-in.ensures.0; other = c.symbol-in.ensures.1 }
+
+pub probe-p-requires : goal.probe-p-requires
+probe-p-requires c =
+    let p = c.requires in
+    let H = p.2.2 in
+    (omega arith, p.0, mod-lt _ (omega (arith, p.1)), (H.room, H.state, p.2.0, c.args.symbols.now, p.2.1, c.args.c.now, H.holds))
+
+pub word_on-i-requires : goal.word_on-i-requires
+word_on-i-requires c =
+    let p = c.requires in
+    let b : c.args.buckets.now ≡ [] → ⊥ = λ e. p.1 (ap length e) in
+    (mod-lt _ (omega (arith, p.1)), c.probe-p.ensures.upper_bound, ((p.2.2.holds.known.names refl).hashed b).short)
+
+pub overflow_add-looked-2 : goal.overflow_add-looked-2
+overflow_add-looked-2 c =
+    let p = c.requires in
+    let b : c.args.buckets.now ≡ [] → ⊥ = λ e. p.1 (ap length e) in
+    record { fits = looked_fits p.2.2.holds refl b c.probe-p.result c.probe-p.ensures.upper_bound }
+
+pub offset_bounds-buckets-i : goal.offset_bounds-buckets-i
+offset_bounds-buckets-i c =
+    let p = c.requires in
+    let b : c.args.buckets.now ≡ [] → ⊥ = λ e. p.1 (ap length e) in
+    let l = ((p.2.2.holds.known.names refl).hashed b).short in
+    record { fits = omega (arith, c.word_on-i.ensures.1, l) }
+
+pub bounds-buckets-i : goal.bounds-buckets-i
+bounds-buckets-i c =
+    c.word_on-i.ensures.1
+
+pub intern_symbol-r-requires : goal.intern_symbol-r-requires
+intern_symbol-r-requires c =
+    let a = c.args in
+    let p = c.requires in
+    let k = a.c.now in
+    let S = sought c in
+    let H = p.2.2 in
+    let e = at_after S H in
+    (omega (arith, e), omega (arith, e, p.0), omega arith, λ l. omega (arith, known_below S H l, get_or-set_other k 0 1 (at_of k + a.n) 0 (omega arith)), (p.2.0, p.2.1, held_after S H))
+
+pub returns-then-r-ge-REFUSED : goal.returns-then-r-ge-REFUSED
+returns-then-r-ge-REFUSED c =
+    let a = c.args in
+    let k = a.c.now in
+    let S = sought c8 in
+    let H = c.requires.2.2 in
+    record { meets = λ room limit re ob. lead_stop c.if-r-ge-REFUSED.true (hashed_meets S H (c.intern_symbol-r.ensures.meets room limit re ob (λ l s m z G. list_symbolic S H l (z ∙ get_or-set_other k 0 4 (at_of k + a.n) 0 (omega arith)) G))); upper_bound = λ l. absurd (omega (arith, l, c.if-r-ge-REFUSED.true)) }
+
+pub offset_bounds-buckets-i-2 : goal.offset_bounds-buckets-i-2
+offset_bounds-buckets-i-2 c =
+    let p = c.requires in
+    let b : c.args.buckets.now ≡ [] → ⊥ = λ e. p.1 (ap length e) in
+    let l = ((p.2.2.holds.known.names refl).hashed b).short in
+    record { fits = omega (arith, c.word_on-i.ensures.1, l) }
+
+pub bounds-buckets-i-2 : goal.bounds-buckets-i-2
+bounds-buckets-i-2 c =
+    omega (arith, c.word_on-i.ensures.1)
+
+pub returns : goal.returns
+returns c =
+    let a = c.args in
+    let k = a.c.now in
+    let S = sought c8 in
+    let H = c.requires.2.2 in record { meets = λ room limit re ob. hashed_meets S H (c.intern_symbol-r.ensures.meets room limit re ob (λ l s m z G. list_symbolic S H l (z ∙ get_or-set_other k 0 4 (at_of k + a.n) 0 (omega arith)) G)); upper_bound = λ l. omega (arith, c.intern_symbol-r.ensures.upper_bound l, get_or-set_other c.intern_symbol-r.new.1.1.1.1.0 8 1 (looked_of k + (c.probe-p.result + 1)) 0 (omega arith)) }
