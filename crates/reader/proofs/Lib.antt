@@ -3,4 +3,3 @@ pub mod Bytes
 pub mod Forms
 pub mod Headers
 pub mod Froms
-pub mod Walk

@@ -10,7 +10,8 @@ returns-then-n-eq1 c =
     let e = c.if-n-eq1.true in
     let l = c-args.input.now in
     let at = c-args.at in
-    let x = c.byte-one.ensures in let whole = rw e (omega (arith, one l 0 at (omega arith), x.0), (omega arith, low_one l at _ (omega arith) (omega (arith, x)))) in record { value = whole.0; upper_bound = whole.1.0; input_value = whole.1.1 }
+    let x = c.byte-one.ensures in
+    record { value = rw e (omega (arith, one l 0 at (omega arith), x.0)); upper_bound = rw e (omega arith); input_value = rw e (low_one l at _ (omega arith) (omega (arith, x))) }
 
 pub returns-then-n-eq2 : goal.returns-then-n-eq2
 returns-then-n-eq2 c =
@@ -19,7 +20,8 @@ returns-then-n-eq2 c =
     let l = c-args.input.now in
     let at = c-args.at in
     let x = c.byte-one.ensures in
-    let y = c.byte.ensures in let whole = rw e (omega (arith, two l 0 at (omega arith), x.0, y.0), (omega arith, low_two l at _ (omega arith) (omega (arith, x)) (omega (arith, x, y)))) in record { value = whole.0; upper_bound = whole.1.0; input_value = whole.1.1 }
+    let y = c.byte.ensures in
+    record { value = rw e (omega (arith, two l 0 at (omega arith), x.0, y.0)); upper_bound = rw e (omega arith); input_value = rw e (low_two l at _ (omega arith) (omega (arith, x)) (omega (arith, x, y))) }
 
 pub returns-then-n-eq3 : goal.returns-then-n-eq3
 returns-then-n-eq3 c =
@@ -29,7 +31,8 @@ returns-then-n-eq3 c =
     let at = c-args.at in
     let x = c.byte-one.ensures in
     let y = c.byte.ensures in
-    let z = c.byte-2.ensures in let whole = rw e (omega (arith, three l 0 at (omega arith), x.0, y.0, z.0), (omega arith, low_three l at _ (omega arith) (omega (arith, x)) (omega (arith, x, y)) (omega (arith, x, y, z)))) in record { value = whole.0; upper_bound = whole.1.0; input_value = whole.1.1 }
+    let z = c.byte-2.ensures in
+    record { value = rw e (omega (arith, three l 0 at (omega arith), x.0, y.0, z.0)); upper_bound = rw e (omega arith); input_value = rw e (low_three l at _ (omega arith) (omega (arith, x)) (omega (arith, x, y)) (omega (arith, x, y, z))) }
 
 pub returns : goal.returns
 returns c =
@@ -40,4 +43,5 @@ returns c =
     let x = c.byte-one.ensures in
     let y = c.byte.ensures in
     let z = c.byte-2.ensures in
-    let v = c.byte-3.ensures in let whole = rw e (omega (arith, four l 0 at (omega arith), x.0, y.0, z.0, v.0), (omega arith, low_four l at _ (omega arith) (omega (arith, x)) (omega (arith, x, y)) (omega (arith, x, y, z)) (omega (arith, x, y, z, v)))) in record { value = whole.0; upper_bound = whole.1.0; input_value = whole.1.1 }
+    let v = c.byte-3.ensures in
+    record { value = rw e (omega (arith, four l 0 at (omega arith), x.0, y.0, z.0, v.0)); upper_bound = rw e (omega arith); input_value = rw e (low_four l at _ (omega arith) (omega (arith, x)) (omega (arith, x, y)) (omega (arith, x, y, z)) (omega (arith, x, y, z, v))) }
