@@ -1,2 +1,0 @@
--- The walk of the functions.
-mod Through
