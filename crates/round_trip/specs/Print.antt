@@ -520,8 +520,8 @@ no_class_byte text_float = refl
 no_turn : {C : Type 0} (g : F) → need g ≤ 0 → C
 no_turn g h = absurd (omega (arith, need_some g))
 
-reads : {m : Mode} {lv : ℕ} {g : F} {x : List ℕ} (l : ℕ) → need g ≤ l → BoundedMode m → Bounded g → Text m lv g x → Reads m l g x
-reads {g = g} zero o c b t = no_turn g o
+reads : (l : ℕ) {m : Mode} {lv : ℕ} {g : F} {x : List ℕ} → need g ≤ l → BoundedMode m → Bounded g → Text m lv g x → Reads m l g x
+reads zero {g = g} o c b t = no_turn g o
 reads (suc l) o c b t_end = reads_end l
 reads (suc l) o c b t_end_pairs = reads_end_pairs l
 reads (suc l) o c b (t_name {n = n} {b = s} {x = x} {r = r} t) = reads_name l n s x r b.0 (reads l (omega arith) tt b.1 t)

@@ -9,18 +9,18 @@ pub returns-then-not-is_hash_at : goal.returns-then-not-is_hash_at
 unfolding arena
 returns-then-not-is_hash_at c =
     let h = c.is_hash_at.ensures _ refl in
-    first_other _ _ _ c.refused.ensures (sym h ∙ not-true _ c.if-not-is_hash_at.true)
+    first_other _ _ _ c.refused.ensures (sym h ∙ c.if-not-is_hash_at.true)
 
 pub returns-then-not-is_hash_at-2 : goal.returns-then-not-is_hash_at-2
 unfolding arena
 returns-then-not-is_hash_at-2 c =
     let h = c.is_hash_at.ensures _ refl in
     let g = c.is_hash_at-2.ensures _ refl in
-    second_other _ _ _ c.refused-then-not-is_hash_at-2.ensures (sym h ∙ not-false _ c.if-not-is_hash_at.false) (sym g ∙ not-true _ c.if-not-is_hash_at-2.true)
+    second_other _ _ _ c.refused-then-not-is_hash_at-2.ensures (sym h ∙ c.if-not-is_hash_at.false) (sym g ∙ c.if-not-is_hash_at-2.true)
 
 pub returns : goal.returns
 unfolding arena
 returns c =
     let h = c.is_hash_at.ensures _ refl in
     let g = c.is_hash_at-2.ensures _ refl in
-    both _ _ _ c.batch_cost.ensures (sym h ∙ not-false _ c.if-not-is_hash_at.false) (sym g ∙ not-false _ c.if-not-is_hash_at-2.false)
+    both _ _ _ c.batch_cost.ensures (sym h ∙ c.if-not-is_hash_at.false) (sym g ∙ c.if-not-is_hash_at-2.false)

@@ -17,7 +17,7 @@ pub returns-then-not-is_digit : goal.returns-then-not-is_digit
 returns-then-not-is_digit c =
     let a = c.args in
     let t = c.loop-i in
-    let e = ended a.text.now t.i c.loop-i-test.true (sym c.is_digit.ensures ∙ not-true _ c.if-not-is_digit.true) in
+    let e = ended a.text.now t.i c.loop-i-test.true (sym c.is_digit.ensures ∙ c.if-not-is_digit.true) in
     record { value = omega (arith, t.invariant.1, ap length e); upper_bound = t.invariant.0 }
 
 pub loop-i-preserved : goal.loop-i-preserved
@@ -25,7 +25,7 @@ loop-i-preserved c =
     let a = c.args in
     let t = c.loop-i in
     let l = c.loop-i-test.true in
-    let e = one_more a.text.now t.i l (sym c.is_digit.ensures ∙ not-false _ c.if-not-is_digit.false) in
+    let e = one_more a.text.now t.i l (sym c.is_digit.ensures ∙ c.if-not-is_digit.false) in
     (omega (arith, l), omega (arith, t.invariant.1, ap length e))
 
 pub returns : goal.returns

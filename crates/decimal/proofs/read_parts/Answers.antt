@@ -15,21 +15,18 @@ use Rattle.decimal.proofs.read_parts.Goals as goal
 pub overflow_add-point : goal.overflow_add-point
 overflow_add-point c = search rules
 
-few : (c : tie.Then1) → let a = c.args in a.point - a.at + (length a.text.now - a.start) ≤ 15
-few c = let a = c.args in few_all a.at a.point (length a.text.now) a.start c.if1.true
-
 pub whole_number-n-requires : goal.whole_number-n-requires
 whole_number-n-requires c =
-    (c.requires.0, c.requires.1, room_first (c.args.point - c.args.at) (omega (arith, few c)))
+    (c.requires.0, c.requires.1, room_first (c.args.point - c.args.at) (omega (arith, few_all c.args.at c.args.point (length c.args.text.now) c.args.start c.if-at-point.true)))
 
 pub whole_number-m-requires : goal.whole_number-m-requires
 whole_number-m-requires c =
-    (c.requires.2, omega arith, room_second c.whole_number-n.result (c.args.point - c.args.at) _ (few c) c.whole_number-n.ensures.result_bound)
+    (c.requires.2, omega arith, room_second c.whole_number-n.result (c.args.point - c.args.at) _ (few_all c.args.at c.args.point (length c.args.text.now) c.args.start c.if-at-point.true) c.whole_number-n.ensures.result_bound)
 
 pub double-requires : goal.double-requires
 double-requires c =
     let a = c.args in
-    let f = few c in
+    let f = few_all c.args.at c.args.point (length c.args.text.now) c.args.start c.if-at-point.true in
     (omega (arith, c.whole_number-m.ensures.result_bound, room_second c.whole_number-n.result (a.point - a.at) (length a.text.now - a.start) f c.whole_number-n.ensures.result_bound), omega (arith, f))
 
 pub returns-then-at-point : goal.returns-then-at-point

@@ -5,24 +5,6 @@ use borrow.Author.Rules.{rules}
 use Rattle.definition.specs.Arena.{tables_of}
 use Rattle.dump.proofs.dump.Goals as goal
 
-enum-known-f : tie.Need-enum-known-f
-enum-known-f c = search rules
-
-enum_told : tie.Need-enum-told
-enum_told c = search rules
-
-same_length : tie.Need-same-length
-same_length c = search rules
-
-same_length_2 : tie.Need-same-length-2
-same_length_2 c = search rules
-
-same_length_3 : tie.Need-same-length-3
-same_length_3 c = search rules
-
-same_length_4 : tie.Need-same-length-4
-same_length_4 c = search rules
-
 pub returns-then-w-ne0 : goal.returns-then-w-ne0
 returns-then-w-ne0 c =
     let a = c.args in
@@ -52,7 +34,7 @@ returns-then-w-eq-DONE c =
     let zero-words2 = c.zero_words-in-Right in
     let if2 = c.if-w-eq-DONE in
     let zero-bytes = c.zero_bytes in
-    accepted (known right) zero-words.ensures write_root.ensures zero-words2.ensures (write_root.auto.1.1.1.0 ∙ zero-words.auto.0) if2.true zero-bytes.ensures
+    accepted (known right) zero-words.ensures write_root.ensures zero-words2.ensures (write_root.auto.scratch ∙ zero-words.auto.words) if2.true zero-bytes.ensures
 
 pub refusal-requires : goal.refusal-requires
 refusal-requires c =
@@ -77,4 +59,4 @@ returns-else-w-eq-DONE c =
     let zero-words2 = c.zero_words-in-Right in
     let if2 = c.if-w-eq-DONE in
     let zero-bytes = c.zero_bytes-in-Right in
-    turned_down (known right) zero-words.ensures write_root.ensures zero-words2.ensures (write_root.auto.1.1.1.0 ∙ zero-words.auto.0) if2.false c.refusal.ensures zero-bytes.ensures write_root.auto.1.1.1.1.0
+    turned_down (known right) zero-words.ensures write_root.ensures zero-words2.ensures (write_root.auto.scratch ∙ zero-words.auto.words) if2.false c.refusal.ensures zero-bytes.ensures write_root.auto.output

@@ -4,18 +4,6 @@ use Rattle.dump.proofs.Whole.{no_first, no_second, wholly}
 use borrow.Author.Rules.{rules}
 use Rattle.dump.proofs.write_root.Goals as goal
 
-same_length : tie.Need-same-length
-same_length c = search rules
-
-same_length_2 : tie.Need-same-length-2
-same_length_2 c = search rules
-
-same_length_3 : tie.Need-same-length-3
-same_length_3 c = search rules
-
-same_length_4 : tie.Need-same-length-4
-same_length_4 c = search rules
-
 pub returns-then-a-ne-DONE : goal.returns-then-a-ne-DONE
 returns-then-a-ne-DONE c =
     λ A room l li b e. no_first (c.write_byte-a.ensures A room _ _) c.if-a-ne-DONE.true

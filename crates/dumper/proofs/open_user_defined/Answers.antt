@@ -53,14 +53,14 @@ pub shape_of-scratch-then-s-ne-DONE : goal.shape_of-scratch-then-s-ne-DONE
 shape_of-scratch-then-s-ne-DONE c =
     let write-named = c.write_named-x in
     let open-marked = c.open_marked-w in
-    write-named.auto.1.1.0 ∙ open-marked.auto.0
+    write-named.auto.scratch ∙ open-marked.auto.scratch
 
 pub shape_of-output-then-s-ne-DONE : goal.shape_of-output-then-s-ne-DONE
 shape_of-output-then-s-ne-DONE c =
     let write-byte-string = c.write_byte_string-s in
     let write-named = c.write_named-x in
     let open-marked = c.open_marked-w in
-    write-byte-string.auto.1.0 ∙ write-named.auto.1.1.1.0 ∙ open-marked.auto.1.0
+    write-byte-string.auto.output ∙ write-named.auto.output ∙ open-marked.auto.output
 
 pub returns-then-s-ne-DONE : goal.returns-then-s-ne-DONE
 returns-then-s-ne-DONE c =
@@ -77,14 +77,14 @@ pub shape_of-scratch-then-f-eq0 : goal.shape_of-scratch-then-f-eq0
 shape_of-scratch-then-f-eq0 c =
     let write-named = c.write_named-x in
     let open-marked = c.open_marked-w in
-    write-named.auto.1.1.0 ∙ open-marked.auto.0
+    write-named.auto.scratch ∙ open-marked.auto.scratch
 
 pub shape_of-output-then-f-eq0 : goal.shape_of-output-then-f-eq0
 shape_of-output-then-f-eq0 c =
     let write-byte-string = c.write_byte_string-s in
     let write-named = c.write_named-x in
     let open-marked = c.open_marked-w in
-    write-byte-string.auto.1.0 ∙ write-named.auto.1.1.1.0 ∙ open-marked.auto.1.0
+    write-byte-string.auto.output ∙ write-named.auto.output ∙ open-marked.auto.output
 
 pub returns-then-f-eq0 : goal.returns-then-f-eq0
 returns-then-f-eq0 c =
@@ -159,7 +159,7 @@ shape_of-scratch c =
     let open-variables = c.open_variables in
     let write-named = c.write_named-x in
     let open-marked = c.open_marked-w in
-    open-variables.auto.1.1.1.0 ∙ write-named.auto.1.1.0 ∙ open-marked.auto.0
+    open-variables.auto.scratch ∙ write-named.auto.scratch ∙ open-marked.auto.scratch
 
 pub shape_of-output : goal.shape_of-output
 shape_of-output c =
@@ -167,7 +167,7 @@ shape_of-output c =
     let write-byte-string = c.write_byte_string-s in
     let write-named = c.write_named-x in
     let open-marked = c.open_marked-w in
-    open-variables.auto.1.1.1.1.0 ∙ write-byte-string.auto.1.0 ∙ write-named.auto.1.1.1.0 ∙ open-marked.auto.1.0
+    open-variables.auto.output ∙ write-byte-string.auto.output ∙ write-named.auto.output ∙ open-marked.auto.output
 
 pub returns : goal.returns
 returns c =

@@ -30,12 +30,12 @@ returns-then-not-is_wrappable c =
     let e = c.is_wrappable.ensures in record { meets = λ room limit re ob.
           met_as q.0
           (lead_after (class_passed c.requires.0)
-          (lead_after ((lead_first _ (k.meets room limit re ob)).goes c.if-name-ge-REFUSED.false) (wrapped_other _ c.if-input-at.false q.1 (sym e ∙ not-true _ c.if-not-is_wrappable.true)))); follows = λ l. absurd (omega (arith, q.0, l)) }
+          (lead_after ((lead_first _ (k.meets room limit re ob)).goes c.if-name-ge-REFUSED.false) (wrapped_other _ c.if-input-at.false q.1 (sym e ∙ c.if-not-is_wrappable.true)))); follows = λ l. absurd (omega (arith, q.0, l)) }
 
 pub returns : goal.returns
 returns c =
     let k = c.read_symbol_like-name.ensures in
     let f = c.if-name-ge-REFUSED.false in
-    let e = sym c.is_wrappable.ensures ∙ not-false _ c.if-not-is_wrappable.false in
+    let e = sym c.is_wrappable.ensures ∙ c.if-not-is_wrappable.false in
     let H = held_goes {m = λ room. read_byte _} {m' = λ room. _} c.requires.1.2 (λ room. byte_goes c.requires.0) in
     let G = held {m = λ room. read_symbol_like _ room} {m' = λ room. _} H f (λ room. k.meets room 0 _ _) in record { meets = λ room limit re ob. lead_after (class_passed c.requires.0) (lead_after ((lead_first _ (k.meets room limit re ob)).goes f) (wrapped_right _ (omega (arith, next_fits G (k.upper_bound f))) c.if-input-at.false e)); follows = λ l. follows_one _ e }

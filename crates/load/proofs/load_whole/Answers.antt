@@ -47,43 +47,43 @@ read_root-h-requires c =
 
 pub shape_of-nodes-then-h-ge-REFUSED : goal.shape_of-nodes-then-h-ge-REFUSED
 shape_of-nodes-then-h-ge-REFUSED c =
-    c.zero_words-then-h-ge-REFUSED.auto.0 ∙ c.read_root-h.auto.1.0 ∙ c.put_node.auto.0
+    c.zero_words-then-h-ge-REFUSED.auto.words ∙ c.read_root-h.auto.nodes ∙ c.put_node.auto.nodes
 
 pub shape_of-references-then-h-ge-REFUSED : goal.shape_of-references-then-h-ge-REFUSED
 shape_of-references-then-h-ge-REFUSED c =
-    c.zero_words-then-h-ge-REFUSED-2.auto.0 ∙ c.read_root-h.auto.1.1.0
+    c.zero_words-then-h-ge-REFUSED-2.auto.words ∙ c.read_root-h.auto.references
 
 pub shape_of-bytes-then-h-ge-REFUSED : goal.shape_of-bytes-then-h-ge-REFUSED
 shape_of-bytes-then-h-ge-REFUSED c =
-    c.zero_bytes.auto.0 ∙ c.read_root-h.auto.1.1.1.0
+    c.zero_bytes.auto.bytes ∙ c.read_root-h.auto.bytes
 
 pub shape_of-symbols-then-h-ge-REFUSED : goal.shape_of-symbols-then-h-ge-REFUSED
 shape_of-symbols-then-h-ge-REFUSED c =
-    c.zero_words-2.auto.0 ∙ c.read_root-h.auto.1.1.1.1.0
+    c.zero_words-2.auto.words ∙ c.read_root-h.auto.symbols
 
 pub shape_of-objects-then-h-ge-REFUSED : goal.shape_of-objects-then-h-ge-REFUSED
 shape_of-objects-then-h-ge-REFUSED c =
-    c.zero_words-3.auto.0 ∙ c.read_root-h.auto.1.1.1.1.1.0
+    c.zero_words-3.auto.words ∙ c.read_root-h.auto.objects
 
 pub shape_of-buckets-then-h-ge-REFUSED : goal.shape_of-buckets-then-h-ge-REFUSED
 shape_of-buckets-then-h-ge-REFUSED c =
-    c.zero_words-4.auto.0 ∙ c.read_root-h.auto.1.1.1.1.1.1.0 ∙ c.zero_words.auto.0
+    c.zero_words-4.auto.words ∙ c.read_root-h.auto.buckets ∙ c.zero_words.auto.words
 
 pub returns-then-h-ge-REFUSED : goal.returns-then-h-ge-REFUSED
 returns-then-h-ge-REFUSED c =
     let a = c.args in
     let T = lists a.nodes.now a.references.now a.bytes.now a.symbols.now a.objects.now in
-    let k = c.read_root-h.new.1 in
-    let n = c.read_root-h.auto.1 in
+    let k = c.read_root-h.new.nodes in
+    let n = c.read_root-h.auto.nodes in
     let w = c.wrong_slice-w.ensures in
     let e = load_refused a.input.now T a.buckets.now a.limit a.counted a.wrong _ w.value c.if-w-ne0.false (w.allowed c.if-w-ne0.false) c.requires.0 c.requires.1 c.put_node.ensures (emptied a.buckets.now a.buckets.now c.zero_words.ensures refl) (c.read_root-h.ensures.meets (room_of T)) c.if-h-ge-REFUSED.true c.refusal_of.ensures c.refused-then-h-ge-REFUSED.ensures
     (lists_same
-    (emptied k.0 a.nodes.now c.zero_words-then-h-ge-REFUSED.ensures (n.0 ∙ c.put_node.auto.0))
+    (emptied k.0 a.nodes.now c.zero_words-then-h-ge-REFUSED.ensures (n.0 ∙ c.put_node.auto.nodes))
     (emptied k.1.0 a.references.now c.zero_words-then-h-ge-REFUSED-2.ensures n.1.0)
     (emptied k.1.1.0 a.bytes.now c.zero_bytes.ensures n.1.1.0)
     (emptied k.1.1.1.0 a.symbols.now c.zero_words-2.ensures n.1.1.1.0)
     (emptied k.1.1.1.1.0 a.objects.now c.zero_words-3.ensures n.1.1.1.1.0))
-    (emptied k.1.1.1.1.1.0 a.buckets.now c.zero_words-4.ensures (n.1.1.1.1.1.0 ∙ c.zero_words.auto.0)) in
+    (emptied k.1.1.1.1.1.0 a.buckets.now c.zero_words-4.ensures (n.1.1.1.1.1.0 ∙ c.zero_words.auto.words)) in
     record { objects_after = e.0; objects_after_2 = e.1; buckets_after = e.2 }
 
 pub overflow_mul-c : goal.overflow_mul-c
@@ -108,34 +108,34 @@ zero_bytes-requires-2 c =
 
 pub shape_of-nodes : goal.shape_of-nodes
 shape_of-nodes c =
-    c.zero_words-5.auto.0 ∙ c.read_root-h.auto.1.0 ∙ c.put_node.auto.0
+    c.zero_words-5.auto.words ∙ c.read_root-h.auto.nodes ∙ c.put_node.auto.nodes
 
 pub shape_of-references : goal.shape_of-references
 shape_of-references c =
-    c.zero_words-6.auto.0 ∙ c.read_root-h.auto.1.1.0
+    c.zero_words-6.auto.words ∙ c.read_root-h.auto.references
 
 pub shape_of-bytes : goal.shape_of-bytes
 shape_of-bytes c =
-    c.zero_bytes-2.auto.0 ∙ c.read_root-h.auto.1.1.1.0
+    c.zero_bytes-2.auto.bytes ∙ c.read_root-h.auto.bytes
 
 pub shape_of-symbols : goal.shape_of-symbols
 shape_of-symbols c =
-    c.zero_words-2.auto.0 ∙ c.read_root-h.auto.1.1.1.1.0
+    c.zero_words-2.auto.words ∙ c.read_root-h.auto.symbols
 
 pub shape_of-objects : goal.shape_of-objects
 shape_of-objects c =
-    c.zero_words-3.auto.0 ∙ c.read_root-h.auto.1.1.1.1.1.0
+    c.zero_words-3.auto.words ∙ c.read_root-h.auto.objects
 
 pub shape_of-buckets : goal.shape_of-buckets
 shape_of-buckets c =
-    c.zero_words-4.auto.0 ∙ c.read_root-h.auto.1.1.1.1.1.1.0 ∙ c.zero_words.auto.0
+    c.zero_words-4.auto.words ∙ c.read_root-h.auto.buckets ∙ c.zero_words.auto.words
 
 pub returns : goal.returns
 returns c =
     let a = c.args in
     let T = lists a.nodes.now a.references.now a.bytes.now a.symbols.now a.objects.now in
-    let k = c.read_root-h.new.1 in
-    let n = c.read_root-h.auto.1 in
+    let k = c.read_root-h.new.nodes in
+    let n = c.read_root-h.auto.nodes in
     let w = c.wrong_slice-w.ensures in
     let e = loaded a.input.now T a.buckets.now a.limit a.counted a.wrong _ w.value c.if-w-ne0.false (w.allowed c.if-w-ne0.false) c.requires.0 c.requires.1 c.put_node.ensures (emptied a.buckets.now a.buckets.now c.zero_words.ensures refl) (c.read_root-h.ensures.meets (room_of T)) c.compared.ensures c.if-h-ge-REFUSED.false
     c.zero_words-5.ensures
@@ -143,6 +143,6 @@ returns c =
     c.zero_bytes-2.ensures
     (emptied k.1.1.1.0 a.symbols.now c.zero_words-2.ensures n.1.1.1.0)
     (emptied k.1.1.1.1.0 a.objects.now c.zero_words-3.ensures n.1.1.1.1.0)
-    (emptied k.1.1.1.1.1.0 a.buckets.now c.zero_words-4.ensures (n.1.1.1.1.1.0 ∙ c.zero_words.auto.0))
-    (n.1.1.1.1.1.0 ∙ c.zero_words.auto.0) in
+    (emptied k.1.1.1.1.1.0 a.buckets.now c.zero_words-4.ensures (n.1.1.1.1.1.0 ∙ c.zero_words.auto.words))
+    (n.1.1.1.1.1.0 ∙ c.zero_words.auto.words) in
     record { objects_after = e.0; objects_after_2 = e.1; buckets_after = e.2 }

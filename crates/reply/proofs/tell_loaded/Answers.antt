@@ -7,7 +7,7 @@ use Rattle.reply.proofs.tell_loaded.Goals as goal
 
 pub shape_of-answer : goal.shape_of-answer
 shape_of-answer c =
-    simp length-set (c.tell_counts.auto.0 ∙ c.tell-n.auto.0)
+    simp length-set (c.tell_counts.auto.answer ∙ c.tell-n.auto.answer)
 
 pub returns : goal.returns
 unfolding loaded_words

@@ -13,7 +13,7 @@ use Rattle.run_reader.proofs.read_run.Goals as goal
 
 pub returns-then-not-small_next : goal.returns-then-not-small_next
 returns-then-not-small_next c =
-    record { lower_bound = (omega arith, c.requires.0); goes = λ room limit by ob bu. still (λ s H. refl); fact = λ n l t. untrue (sym (not-true _ c.if-not-small_next.true) ∙ c.small_next.ensures.1 (coming_next n t)) }
+    record { lower_bound = (omega arith, c.requires.0); goes = λ room limit by ob bu. still (λ s H. refl); fact = λ n l t. untrue (sym c.if-not-small_next.true ∙ c.small_next.ensures.1 (coming_next n t)) }
 
 pub loop-to-init : goal.loop-to-init
 loop-to-init c =
@@ -69,7 +69,7 @@ loop-to-preserved-then-k-eq-SYMBOL_LINK c =
     let c-link-index = c.link_index-i in
     let R = c.loop-to.invariant in
     let inside = at_inside R in
-    run_link R c-link-index.result (c.small_next.ensures.0 (not-false _ c.if-not-small_next.false)).0 c.loop-to-test.true (omega (arith, c.if-input-at-lt6.false, inside)) c.if-k-eq-SYMBOL_LINK.true (c-link-index.ensures.b_value c-if4.false).0 (c-link-index.ensures.b_value c-if4.false).1 c-if4.false
+    run_link R c-link-index.result (c.small_next.ensures.0 c.if-not-small_next.false).0 c.loop-to-test.true (omega (arith, c.if-input-at-lt6.false, inside)) c.if-k-eq-SYMBOL_LINK.true (c-link-index.ensures.b_value c-if4.false).0 (c-link-index.ensures.b_value c-if4.false).1 c-if4.false
 
 pub shape_of-nodes-then-not-takes_integer : goal.shape_of-nodes-then-not-takes_integer
 shape_of-nodes-then-not-takes_integer c =
@@ -83,7 +83,7 @@ pub returns-then-not-takes_integer : goal.returns-then-not-takes_integer
 returns-then-not-takes_integer c =
     let R = c.loop-to.invariant in
     let e = c.end_run-then-not-takes_integer.ensures in
-    record { lower_bound = (omega (arith, e.0, R.from), omega (arith, e.0, R.within)); goes = run_over R e.0 e.1; fact = λ n l t. over_integer R e.1 e.0 t c.if-k-eq-SYMBOL_LINK.false c.takes_integer.ensures.value (not-true _ c.if-not-takes_integer.true) }
+    record { lower_bound = (omega (arith, e.0, R.from), omega (arith, e.0, R.within)); goes = run_over R e.0 e.1; fact = λ n l t. over_integer R e.1 e.0 t c.if-k-eq-SYMBOL_LINK.false c.takes_integer.ensures.value c.if-not-takes_integer.true }
 
 pub put_integer-n-requires : goal.put_integer-n-requires
 put_integer-n-requires c =
@@ -91,12 +91,12 @@ put_integer-n-requires c =
     let R = c-loop.invariant in
     let inside = at_inside R in
     let a = c.args in
-    let t = c.takes_integer.ensures.k_value (not-false _ c.if-not-takes_integer.false) in
+    let t = c.takes_integer.ensures.k_value c.if-not-takes_integer.false in
     (omega (arith, c.if-input-at-lt6.false, inside, size_small (get_or a.input.now (c-loop.at + 1) 0)), (node_room R t.2).0)
 
 pub shape_of-nodes-then-n-eq0 : goal.shape_of-nodes-then-n-eq0
 shape_of-nodes-then-n-eq0 c =
-    c.put_integer-n.auto.1.0 ∙ c.loop-to.invariant.nodes
+    c.put_integer-n.auto.nodes ∙ c.loop-to.invariant.nodes
 
 pub shape_of-references-then-n-eq0 : goal.shape_of-references-then-n-eq0
 shape_of-references-then-n-eq0 c =
@@ -123,13 +123,13 @@ overflow_add-at-in-loop-to-3 c =
 
 pub overflow_add-c : goal.overflow_add-c
 overflow_add-c c =
-    let t = c.takes_integer.ensures.k_value (not-false _ c.if-not-takes_integer.false) in
+    let t = c.takes_integer.ensures.k_value c.if-not-takes_integer.false in
     let fits = (node_room c.loop-to.invariant t.2).1 in
     record { fits = omega (arith, fits) }
 
 pub overflow_cast-references : goal.overflow_cast-references
 overflow_cast-references c =
-    let t = c.takes_integer.ensures.k_value (not-false _ c.if-not-takes_integer.false) in
+    let t = c.takes_integer.ensures.k_value c.if-not-takes_integer.false in
     omega (arith, (node_room c.loop-to.invariant t.2).1)
 
 pub bounds-references-to-in-loop-to : goal.bounds-references-to-in-loop-to
@@ -143,10 +143,10 @@ loop-to-preserved c =
     let c-put-integer = c.put_integer-n in
     let R = c.loop-to.invariant in
     let inside = at_inside R in
-    let t = c.takes_integer.ensures.k_value (not-false _ c.if-not-takes_integer.false) in
+    let t = c.takes_integer.ensures.k_value c.if-not-takes_integer.false in
     let p = c-put-integer.ensures in
     let n = p.value c.if-n-eq0.false in
-    run_integer R c-put-integer.result (c.small_next.ensures.0 (not-false _ c.if-not-small_next.false)).0 c.loop-to-test.true (omega (arith, c.if-input-at-lt6.false, inside)) t.0 n.1 t.1 t.2 n.0 p.at_bound (p.nodes_after c.if-n-eq0.false) c-put-integer.auto.1.0
+    run_integer R c-put-integer.result (c.small_next.ensures.0 c.if-not-small_next.false).0 c.loop-to-test.true (omega (arith, c.if-input-at-lt6.false, inside)) t.0 n.1 t.1 t.2 n.0 p.at_bound (p.nodes_after c.if-n-eq0.false) c-put-integer.auto.nodes
 
 pub shape_of-nodes : goal.shape_of-nodes
 shape_of-nodes c =

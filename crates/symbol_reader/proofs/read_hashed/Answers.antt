@@ -91,4 +91,4 @@ returns c =
     let a = c.args in
     let k = a.c.now in
     let S = sought c8 in
-    let H = c.requires.2.2 in record { meets = λ room limit re ob. hashed_meets S H (c.intern_symbol-r.ensures.meets room limit re ob (λ l s m z G. list_symbolic S H l (z ∙ get_or-set_other k 0 4 (at_of k + a.n) 0 (omega arith)) G)); upper_bound = λ l. omega (arith, c.intern_symbol-r.ensures.upper_bound l, get_or-set_other c.intern_symbol-r.new.1.1.1.1.0 8 1 (looked_of k + (c.probe-p.result + 1)) 0 (omega arith)) }
+    let H = c.requires.2.2 in record { meets = λ room limit re ob. hashed_meets S H (c.intern_symbol-r.ensures.meets room limit re ob (λ l s m z G. list_symbolic S H l (z ∙ get_or-set_other k 0 4 (at_of k + a.n) 0 (omega arith)) G)); upper_bound = λ l. omega (arith, c.intern_symbol-r.ensures.upper_bound l, get_or-set_other c.intern_symbol-r.new.c 8 1 (looked_of k + (c.probe-p.result + 1)) 0 (omega arith)) }

@@ -13,22 +13,6 @@ use Rattle.symbol_search.specs.Search.{DIFFERENT}
 use Rattle.symbol_search.proofs.measure_symbol.Goals as goal
 
 -- what was counted and the bytes just compared fit 64 bits
-total_fits : (c : tie.After-compare-name invariant-loop decreases-loop) →
-    let turn = c.before.before.before.before.loop in
-    let k = c.compare-name.result in
-    (k < DIFFERENT → turn.total + k < 18446744073709551616) × (DIFFERENT ≤ k → turn.total + (k - DIFFERENT) < 18446744073709551616)
-total_fits c =
-    let c3 = c.before.before.before in
-    let turn = c3.before.loop in
-    let c11 = c3.before.before.before.before.before.before.before.before in
-    let p = c11.requires in
-    let a = c11.args in
-    let H = p.3.2 in
-    let y = entry_symbolic turn.i refl H.holds c3.loop-test.true in
-    let q = c.compare-name.ensures H.room H.state _ _ _ _ y H.holds in
-    let z = length_span a.input.now a.at a.n p.0 p.1 in
-    let f = turned_fits H.holds _ turn.i (turn.invariant.2 H.room H.state _ _ _ refl H.holds) c3.loop-test.true c.before.if1.false (H.holds.noted.counted p.2) (omega (arith, z, p.0, p.1)) in
-    (λ l. omega (arith, (q.same l).1, f), λ l. omega (arith, (q.other l).1, f))
 
 pub loop-i-init : goal.loop-i-init
 loop-i-init c = (refl, omega arith, λ room s re ob k e H. turned_start H _ refl _)
@@ -50,7 +34,16 @@ compare_name-k-requires c =
     (p.0, p.1, (H.room, H.state, p.3.0, _, p.3.1, _, entry_symbolic c.loop-i.i refl H.holds c.loop-i-test.true, H.holds))
 
 pub overflow_add-c : goal.overflow_add-c
-overflow_add-c c = record { fits = (total_fits c).0 c.if-k-lt-DIFFERENT.true }
+overflow_add-c c =
+    let turn = c.loop-i in
+    let p = c.requires in
+    let a = c.args in
+    let H = p.3.2 in
+    let y = entry_symbolic turn.i refl H.holds c.loop-i-test.true in
+    let q = c.compare_name-k.ensures H.room H.state _ _ _ _ y H.holds in
+    let z = length_span a.input.now a.at a.n p.0 p.1 in
+    let f = turned_fits H.holds _ turn.i (turn.invariant.2 H.room H.state _ _ _ refl H.holds) c.loop-i-test.true c.if-h-next.false (H.holds.noted.counted p.2) (omega (arith, z, p.0, p.1)) in
+    record { fits = omega (arith, (q.same c.if-k-lt-DIFFERENT.true).1, f) }
 
 pub returns-then-k-lt-DIFFERENT : goal.returns-then-k-lt-DIFFERENT
 returns-then-k-lt-DIFFERENT c =
@@ -69,7 +62,16 @@ returns-then-k-lt-DIFFERENT c =
     )
 
 pub overflow_add-total : goal.overflow_add-total
-overflow_add-total c = record { fits = (total_fits c).1 c.if-k-lt-DIFFERENT.false }
+overflow_add-total c =
+    let turn = c.loop-i in
+    let p = c.requires in
+    let a = c.args in
+    let H = p.3.2 in
+    let y = entry_symbolic turn.i refl H.holds c.loop-i-test.true in
+    let q = c.compare_name-k.ensures H.room H.state _ _ _ _ y H.holds in
+    let z = length_span a.input.now a.at a.n p.0 p.1 in
+    let f = turned_fits H.holds _ turn.i (turn.invariant.2 H.room H.state _ _ _ refl H.holds) c.loop-i-test.true c.if-h-next.false (H.holds.noted.counted p.2) (omega (arith, z, p.0, p.1)) in
+    record { fits = omega (arith, (q.other c.if-k-lt-DIFFERENT.false).1, f) }
 
 pub overflow_add-next : goal.overflow_add-next
 overflow_add-next c =

@@ -78,4 +78,4 @@ pub returns : goal.returns
 returns c =
     let p = c.requires in
     let h = p.3 in
-    let q = c.loop-p.invariant.2 h.0 h.1 h.2 h.3 h.4 h.5 h.6 in let whole = absurd (never_round h.6 refl (not_empty p.2) c.args.start (λ j l. (q j (omega (arith, l, c.loop-p-test.false))).0)) in record { upper_bound = whole.0; probe = whole.1 }
+    let q = c.loop-p.invariant.2 h.0 h.1 h.2 h.3 h.4 h.5 h.6 in absurd (never_round h.6 refl (not_empty p.2) c.args.start (λ j l. (q j (omega (arith, l, c.loop-p-test.false))).0))

@@ -13,7 +13,7 @@ pub check_class-requires : goal.check_class-requires
 check_class-requires c =
     let told = c.in-Accepted.is in
     let begun = c.begin_class.ensures.fits_if in
-    (below_of _ _ told begun.1, (fit_of _ _ _ _ _ told begun.0).fits.nodes_fit)
+    (below_of _ _ told begun.1, (fit_of _ _ _ _ _ told begun.says).fits.nodes_fit)
 
 pub check_class_name-requires : goal.check_class_name-requires
 check_class_name-requires c =
@@ -23,14 +23,14 @@ pub bounds-nodes-at : goal.bounds-nodes-at
 bounds-nodes-at c =
     let told = c.in-Accepted.is in
     let begun = c.begin_class.ensures.fits_if in
-    let l = inside (fit_of _ _ _ _ _ told begun.0) (below_of _ _ told begun.1) c.size.ensures in
+    let l = inside (fit_of _ _ _ _ _ told begun.says) (below_of _ _ told begun.1) c.size.ensures in
     omega arith
 
 pub bounds-nodes-at-in-Accepted-check_class_name : goal.bounds-nodes-at-in-Accepted-check_class_name
 bounds-nodes-at-in-Accepted-check_class_name c =
     let told = c.in-Accepted.is in
     let begun = c.begin_class.ensures.fits_if in
-    let l = inside (fit_of _ _ _ _ _ told begun.0) (below_of _ _ told begun.1) c.size.ensures in
+    let l = inside (fit_of _ _ _ _ _ told begun.says) (below_of _ _ told begun.1) c.size.ensures in
     omega arith
 
 pub returns-in-Accepted-check_class_name : goal.returns-in-Accepted-check_class_name
@@ -41,10 +41,10 @@ returns-in-Accepted-check_class_name c =
     let told = c.in-Accepted.is in
     let begun = c.begin_class.ensures in
     let class = accepted (check_class a.h) L c.in-Accepted-check_class.is (c.check_class.ensures L refl refl) in
-    build_on (handles_checked (a.h ∷ optional_node a.class)) _ L (accepted (handles_checked (a.h ∷ optional_node a.class)) L told begun.0)
+    build_on (handles_checked (a.h ∷ optional_node a.class)) _ L (accepted (handles_checked (a.h ∷ optional_node a.class)) L told begun.says)
     (build_on (check_class a.h) _ L class
     (build_on (check_names (optional_node a.class)) _ L (accepted (check_names (optional_node a.class)) L c.in-Accepted-check_class_name.is (c.check_class_name.ensures L refl refl))
-    (class_set a.nodes.now a.references.now a.bytes.now a.counts a.h a.class _ c.size.ensures (below_of _ _ told begun.1.1) class)))
+    (class_set a.nodes.now a.references.now a.bytes.now a.counts a.h a.class _ c.size.ensures (below_of _ _ told begun.fits_if.1) class)))
 
 pub returns-in-Refused-check_class_name : goal.returns-in-Refused-check_class_name
 unfolding exchange_class

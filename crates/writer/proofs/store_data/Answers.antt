@@ -13,7 +13,7 @@ store_low-requires c =
 
 pub shape_of-output : goal.shape_of-output
 shape_of-output c =
-    c.store_low.auto.0 ∙ length-set c.args.output.now _ _
+    c.store_low.auto.output ∙ length-set c.args.output.now _ _
 
 pub returns : goal.returns
 returns c =

@@ -8,7 +8,7 @@ use Rattle.writer.proofs.store_tagged.Goals as goal
 
 pub shape_of-output : goal.shape_of-output
 shape_of-output c =
-    c.store_fixnum.auto.0 ∙ length-set c.args.output.now _ _
+    c.store_fixnum.auto.output ∙ length-set c.args.output.now _ _
 
 pub returns : goal.returns
 returns c =

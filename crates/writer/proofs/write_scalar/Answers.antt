@@ -8,7 +8,7 @@ write_symbol-requires c =
     let args = c.args in
     let kinds = c.in-3 in
     let pre = c.requires in
-    ready_as (λ A p. (p.0, symbol_here p.0.noded args.v p.1 kinds.keys2)) (pre)
+    ready_as (λ A p. (p.0, symbol_here p.0.noded args.v p.1 kinds.is)) (pre)
 
 pub returns-in-2 : goal.returns-in-2
 returns-in-2 c =
@@ -16,7 +16,7 @@ returns-in-2 c =
     let kinds = c.in-2 in
     let write-tagged = c.write_tagged in
     let v = args.v in
-    λ A room limit level inner l b h. lead_as (fixnum_same room A level inner v _ (fixnum_row l.noded v b kinds.keys1)) (write-tagged.ensures A room limit _)
+    λ A room limit level inner l b h. lead_as (fixnum_same room A level inner v _ (fixnum_row l.noded v b kinds.is)) (write-tagged.ensures A room limit _)
 
 pub returns-in-3 : goal.returns-in-3
 returns-in-3 c =
@@ -24,7 +24,7 @@ returns-in-3 c =
     let kinds = c.in-3 in
     let write_symbol = c.write_symbol in
     let v = args.v in
-    λ A room limit level inner l b h. lead_as (symbol_same room A level inner v _ _ (symbol_row_here l.noded v b kinds.keys2)) (write_symbol.ensures A room limit l (symbol_here l.noded v b kinds.keys2))
+    λ A room limit level inner l b h. lead_as (symbol_same room A level inner v _ _ (symbol_row_here l.noded v b kinds.is)) (write_symbol.ensures A room limit l (symbol_here l.noded v b kinds.is))
 
 pub returns-after-nodes-v-eq1 : goal.returns-after-nodes-v-eq1
 returns-after-nodes-v-eq1 c =
@@ -33,7 +33,7 @@ returns-after-nodes-v-eq1 c =
     let kinds = c.in-1 in
     let write_byte = c.write_byte in
     let v = args.v in
-    λ A room limit level inner l b h. lead_as (bool_byte room A level inner v _ if1.k (bool_row l.noded v b kinds.keys3) (λ t. t.taken) (λ t. t.left) if1.branch) (write_byte.ensures A room limit _)
+    λ A room limit level inner l b h. lead_as (bool_byte room A level inner v _ if1.k (bool_row l.noded v b kinds.is) (λ t. t.true) (λ t. t.false) if1.branch) (write_byte.ensures A room limit _)
 
 pub returns-in_default : goal.returns-in_default
 returns-in_default c =

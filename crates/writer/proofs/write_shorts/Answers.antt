@@ -32,7 +32,7 @@ pub shape_of-output-then-p-eq0 : goal.shape_of-output-then-p-eq0
 shape_of-output-then-p-eq0 c =
     let write-short = c.write_short-p in
     let turn = c.loop-i in
-    write-short.auto.1.1.0 ∙ turn.invariant.output_length
+    write-short.auto.output ∙ turn.invariant.output_length
 
 pub returns-then-p-eq0 : goal.returns-then-p-eq0
 returns-then-p-eq0 c =
@@ -44,7 +44,7 @@ returns-then-p-eq0 c =
     let write-short = c.write_short-p in
     let f = pre.fact in
     let b = member_below a.start a.n turn.i _ f.1 f.2 loop-test.true size.ensures in
-    let three = pre.holds.counts in record { upper_bound = turn.invariant.within; goes = running_stop turn.invariant (short_none c.if-p-eq0.true (write-short.ensures.shorts pre.arena 0 0 0 (set a.c.now 0 turn.at) f.0 b (get_or-set_same a.c.now 0 turn.at 0 (omega (arith, three))))); fact = λ l k. write-short.ensures.fact (short_as write-short.auto.1.1.0 (get_or-set_same turn.c 0 turn.at 0 (omega (arith, three, ap length turn.invariant.same_counts))) (sym size.ensures) k) c.if-p-eq0.true }
+    let three = pre.holds.counts in record { upper_bound = turn.invariant.within; goes = running_stop turn.invariant (short_none c.if-p-eq0.true (write-short.ensures.shorts pre.arena 0 0 0 (set a.c.now 0 turn.at) f.0 b (get_or-set_same a.c.now 0 turn.at 0 (omega (arith, three))))); fact = λ l k. write-short.ensures.fact (short_as write-short.auto.output (get_or-set_same turn.c 0 turn.at 0 (omega (arith, three, ap length turn.invariant.same_counts))) (sym size.ensures) k) c.if-p-eq0.true }
 
 pub loop-i-preserved : goal.loop-i-preserved
 loop-i-preserved c =
@@ -53,7 +53,7 @@ loop-i-preserved c =
     let loop-test = c.loop-i-test in
     let size = c.size in
     let write-short = c.write_short-p in
-    running_on turn.invariant pre.holds.counts loop-test.true _ _ _ size.ensures write-short.auto.1.1.0 c.if-p-eq0.false write-short.ensures.shorts
+    running_on turn.invariant pre.holds.counts loop-test.true _ _ _ size.ensures write-short.auto.output c.if-p-eq0.false write-short.ensures.shorts
 
 pub shape_of-output : goal.shape_of-output
 shape_of-output c =
