@@ -50,11 +50,11 @@ module _ (room : ℕ) (A : Arena) (level : Writer) (inner : ℕ → Writer) (v :
   unfolding write_row
   nil_same e = ap (write_row room A level inner v) e
 
-  true_same : (x : ℕ) → node A v ≡ bool (eqb x 1) → x ≡ 1 → write_row room A level inner v (node A v) ≡ write room (TRUE ∷ [])
+  pub true_same : (x : ℕ) → node A v ≡ bool (eqb x 1) → x ≡ 1 → write_row room A level inner v (node A v) ≡ write room (TRUE ∷ [])
   unfolding write_row
   true_same x e q = ap (write_row room A level inner v) (e ∙ ap bool (eq-eqb x 1 q))
 
-  false_same : (x : ℕ) → node A v ≡ bool (eqb x 1) → (x ≡ 1 → ⊥) → write_row room A level inner v (node A v) ≡ write room (FALSE ∷ [])
+  pub false_same : (x : ℕ) → node A v ≡ bool (eqb x 1) → (x ≡ 1 → ⊥) → write_row room A level inner v (node A v) ≡ write room (FALSE ∷ [])
   unfolding write_row
   false_same x e q = ap (write_row room A level inner v) (e ∙ ap bool (ne_eqb x 1 q))
 

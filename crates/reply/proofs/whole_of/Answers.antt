@@ -13,7 +13,8 @@ returns-in-NotANumber c = ap reading_whole (sym c.in-NotANumber.is)
 pub returns-in-Whole : goal.returns-in-Whole
 unfolding reading_whole
 returns-in-Whole c =
-    c.whole_word.ensures ∙ ap reading_whole (sym c.in-Whole.is)
+    let fits : SFits w32 c.in-Whole.n = record { sfits = c.in-Whole.known_told-1-own.given.0.1 } in
+    c.whole_word.ensures ∙ ap word (to_z-of_z fits) ∙ ap reading_whole (sym c.in-Whole.is)
 
 pub returns-in-Double : goal.returns-in-Double
 unfolding reading_whole

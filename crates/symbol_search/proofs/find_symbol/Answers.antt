@@ -28,7 +28,7 @@ next_like-j-requires c =
 
 pub returns-then-count-j : goal.returns-then-count-j
 returns-then-count-j c =
-    let q = (length_span c.args.input.now c.args.at c.args.n c.requires.0 c.requires.1, c.last_byte-last.ensures) in
+    let q : Ends (span c.args.input.now c.args.at c.args.n) c.args.n c.last_byte-last.result = (length_span c.args.input.now c.args.at c.args.n c.requires.0 c.requires.1, c.last_byte-last.ensures) in
     λ room s re ob k e H.
     let found = (H.known.names refl).interned.names _ ∙ c.loop-i.invariant room s re ob k e H ∙ c.next_like-j.ensures.symbols_value room s _ re ob k _ e H q ∙ found_none H c.next_like-j.result _ (omega (arith, e, c.if-count-j.true)) in
     record { there = λ l. absurd (omega (arith, l)); symbol = λ l. absurd (omega (arith, l)); none = λ l. found }
@@ -50,7 +50,7 @@ returns-then-is_named c =
     let j = c.next_like-j.result in
     let w = c.wide.ensures in
     let symbols = c.args.symbols.now in
-    let q = (length_span c.args.input.now c.args.at c.args.n c.requires.0 c.requires.1, c.last_byte-last.ensures) in
+    let q : Ends (span c.args.input.now c.args.at c.args.n) c.args.n c.last_byte-last.result = (length_span c.args.input.now c.args.at c.args.n c.requires.0 c.requires.1, c.last_byte-last.ensures) in
     λ room s re ob k e H.
     let lt : j < symbols_of k = omega (arith, e, c.if-count-j.false) in
     let y = entry_symbolic j refl H lt in
@@ -65,7 +65,7 @@ loop-i-smaller c =
 pub loop-i-preserved : goal.loop-i-preserved
 loop-i-preserved c =
     let j = c.next_like-j.result in
-    let q = (length_span c.args.input.now c.args.at c.args.n c.requires.0 c.requires.1, c.last_byte-last.ensures) in
+    let q : Ends (span c.args.input.now c.args.at c.args.n) c.args.n c.last_byte-last.result = (length_span c.args.input.now c.args.at c.args.n c.requires.0 c.requires.1, c.last_byte-last.ensures) in
     λ room s re ob k e H.
     let lt : j < symbols_of k = omega (arith, e, c.if-count-j.false) in
     c.loop-i.invariant room s re ob k e H ∙ c.next_like-j.ensures.symbols_value room s _ re ob k _ e H q ∙ found_on H j lt _ c.if-is_named.false (c.is_named.ensures room s re _ ob k (entry_symbolic j refl H lt) H)

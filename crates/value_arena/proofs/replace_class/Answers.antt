@@ -13,7 +13,7 @@ pub check_class-requires : goal.check_class-requires
 check_class-requires c =
     let told = c.in-Accepted.is in
     let begun = c.begin_class.ensures.fits_if in
-    (below_of _ _ told begun.1, (fit_of _ _ _ _ _ told begun.says).fits.nodes_fit)
+    (below_of _ _ told begun.1, (fit_of _ _ _ _ _ told begun.0).fits.nodes_fit)
 
 pub check_class_name-requires : goal.check_class_name-requires
 check_class_name-requires c =
@@ -23,14 +23,14 @@ pub bounds-nodes-at : goal.bounds-nodes-at
 bounds-nodes-at c =
     let told = c.in-Accepted.is in
     let begun = c.begin_class.ensures.fits_if in
-    let l = inside (fit_of _ _ _ _ _ told begun.says) (below_of _ _ told begun.1) c.size.ensures in
+    let l = inside (fit_of _ _ _ _ _ told begun.0) (below_of _ _ told begun.1) c.size.ensures in
     omega arith
 
 pub bounds-nodes-at-in-Accepted-check_class_name : goal.bounds-nodes-at-in-Accepted-check_class_name
 bounds-nodes-at-in-Accepted-check_class_name c =
     let told = c.in-Accepted.is in
     let begun = c.begin_class.ensures.fits_if in
-    let l = inside (fit_of _ _ _ _ _ told begun.says) (below_of _ _ told begun.1) c.size.ensures in
+    let l = inside (fit_of _ _ _ _ _ told begun.0) (below_of _ _ told begun.1) c.size.ensures in
     omega arith
 
 pub returns-in-Accepted-check_class_name : goal.returns-in-Accepted-check_class_name

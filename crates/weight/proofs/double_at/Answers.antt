@@ -15,9 +15,8 @@ unfolding as_double pure
 returns-in-Whole c =
     let a = c.args in
     let e = c.read_node.ensures in
-    let n = c.n-1.given in
-    let fits : SFits w32 n.0.0 = record { sfits = c.in-Whole.known_told-1-own.given.0.1 } in
-    λ L k. converted L a.nodes.now a.bytes.now a.stored a.h k e n.1 ∙ ap (λ (z : ℤ). ok (of_int binary64 z) L) (sym (to_z-of_z fits))
+    let fits : SFits w32 c.in-Whole.n = record { sfits = c.in-Whole.known_told-1-own.given.0.1 } in
+    λ L k. converted L a.nodes.now a.bytes.now a.stored a.h k e c.in-Whole.is ∙ ap (λ (z : ℤ). ok (of_int binary64 z) L) (sym (to_z-of_z fits))
 
 pub returns-in-Double : goal.returns-in-Double
 unfolding as_double pure

@@ -1,6 +1,11 @@
 -- The proof of write_scalar.
 use Rattle.writer.specs.Laws.{lead_as, ready_as}
-use Rattle.writer.proofs.Scalars.{fixnum_row, bool_row, symbol_here, symbol_row_here, nil_row, fixnum_same, nil_same, symbol_same, bool_byte}
+use Rattle.writer.proofs.Scalars.{fixnum_row, bool_row, symbol_here, symbol_row_here, nil_row, fixnum_same, nil_same, symbol_same, true_same, false_same}
+use mathlib.Core.List.{[], ◌∷◌}
+use mathlib.Core.Path.{sym, ap, ◌∙◌}
+use Prim.Native.Nat.{ℕ}
+use Rattle.definition.specs.Dump.{write}
+use Rattle.writer.proofs.write_scalar.Goals.{then-nodes-v-eq1, else-nodes-v-eq1}
 use Rattle.writer.proofs.write_scalar.Goals as goal
 
 pub write_symbol-requires : goal.write_symbol-requires
@@ -28,12 +33,13 @@ returns-in-3 c =
 
 pub returns-after-nodes-v-eq1 : goal.returns-after-nodes-v-eq1
 returns-after-nodes-v-eq1 c =
-    let args = c.args in
-    let if1 = c.if-nodes-v-eq1 in
-    let kinds = c.in-1 in
-    let write_byte = c.write_byte in
-    let v = args.v in
-    λ A room limit level inner l b h. lead_as (bool_byte room A level inner v _ if1.k (bool_row l.noded v b kinds.is) (λ t. t.true) (λ t. t.false) if1.branch) (write_byte.ensures A room limit _)
+    let v = c.args.v in
+    λ A room limit level inner l b h.
+    let row = bool_row l.noded v b c.in-1.is in
+    elim c.if-nodes-v-eq1.branch [
+      then-nodes-v-eq1 w ↦ lead_as (true_same room A level inner v _ row w.if-nodes-v-eq1.true ∙ ap (λ (k : ℕ). write room (k ∷ [])) (sym w.k-is)) (c.write_byte.ensures A room limit _)
+      | else-nodes-v-eq1 w ↦ lead_as (false_same room A level inner v _ row w.if-nodes-v-eq1.false ∙ ap (λ (k : ℕ). write room (k ∷ [])) (sym w.k-is)) (c.write_byte.ensures A room limit _)
+    ]
 
 pub returns-in_default : goal.returns-in_default
 returns-in_default c =
