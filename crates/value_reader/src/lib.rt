@@ -29,7 +29,7 @@ const NONE: usize = 2;
 // `more` is 1, one value, which is the answer. Integers and symbol links are most of a recipe: as many of them as come
 // next are read in a loop of their own. All members of all kinds are read here, and a value is read at one place, so that
 // a level of nesting is one call deep.
-#[cycle(read_array_read_hash_read_inner_read_members_read_object_read_value_read_variables)]
+#[cycle(readers)]
 fn read_members(
     input: &[u8],
     nodes: &mut [u32],
@@ -98,7 +98,7 @@ fn read_members(
     0
 }
 
-#[cycle(read_array_read_hash_read_inner_read_members_read_object_read_value_read_variables)]
+#[cycle(readers)]
 fn read_array(
     input: &[u8],
     nodes: &mut [u32],
@@ -154,7 +154,7 @@ fn defaults(k: u8) -> usize
 }
 
 // A hash, with a default where `more` is 1.
-#[cycle(read_array_read_hash_read_inner_read_members_read_object_read_value_read_variables)]
+#[cycle(readers)]
 fn read_hash(
     input: &[u8],
     nodes: &mut [u32],
@@ -212,7 +212,7 @@ fn read_hash(
     )
 }
 
-#[cycle(read_array_read_hash_read_inner_read_members_read_object_read_value_read_variables)]
+#[cycle(readers)]
 fn read_object(
     input: &[u8],
     nodes: &mut [u32],
@@ -274,7 +274,7 @@ fn read_object(
 
 // The value after `I`, which is noted where dump writes no `I` before it; a string, which is the most frequent, with no call
 // of the reader of members.
-#[cycle(read_array_read_hash_read_inner_read_members_read_object_read_value_read_variables)]
+#[cycle(readers)]
 fn read_inner(
     input: &[u8],
     nodes: &mut [u32],
@@ -328,7 +328,7 @@ fn read_inner(
 }
 
 // What follows `I`: a value, then its variables; only then it is tested whether it can have any.
-#[cycle(read_array_read_hash_read_inner_read_members_read_object_read_value_read_variables)]
+#[cycle(readers)]
 fn read_variables(
     input: &[u8],
     nodes: &mut [u32],
@@ -386,7 +386,7 @@ fn read_variables(
 }
 
 // A value, while there are levels left: its class, its kind byte, and the rest.
-#[cycle(read_array_read_hash_read_inner_read_members_read_object_read_value_read_variables)]
+#[cycle(readers)]
 fn read_value(
     input: &[u8],
     nodes: &mut [u32],
