@@ -1,6 +1,6 @@
 -- The proof of dump.
 use mathlib.Core.Path.{◌∙◌}
-use Rattle.dump.proofs.Whole.{Sound, past, tables_wrong, arena_wrong, ready_start, written_fits, refused_answer, accepted, turned_down}
+use Rattle.dump.proofs.Whole.{past, tables_wrong, arena_wrong, ready_start, written_fits, refused_answer, accepted, turned_down}
 use Rattle.definition.specs.Arena.{tables_of}
 use Rattle.dump.proofs.dump.Goals as goal
 
@@ -17,14 +17,14 @@ check-requires c =
 pub write_root-w-requires : goal.write_root-w-requires
 write_root-w-requires c =
     let a = c.args in
-    let S : Sound a.nodes.now a.references.now a.bytes.now a.counts a.scratch.now a.output.now a.limit c.size-root.result = past c.wrong_slice-w.ensures.value c.wrong_slice-w.ensures.allowed c.if-w-ne0.false c.check.ensures.result_value c.in-Right.is c.size-root.ensures in
+    let S = past c.wrong_slice-w.ensures.value c.wrong_slice-w.ensures.allowed c.if-w-ne0.false c.check.ensures.result_value c.in-Right.is c.size-root.ensures in
     let zero-words = c.zero_words in
     ready_start S zero-words.ensures
 
 pub zero_bytes-requires : goal.zero_bytes-requires
 zero_bytes-requires c =
     let a = c.args in
-    let S : Sound a.nodes.now a.references.now a.bytes.now a.counts a.scratch.now a.output.now a.limit c.size-root.result = past c.wrong_slice-w.ensures.value c.wrong_slice-w.ensures.allowed c.if-w-ne0.false c.check.ensures.result_value c.in-Right.is c.size-root.ensures in
+    let S = past c.wrong_slice-w.ensures.value c.wrong_slice-w.ensures.allowed c.if-w-ne0.false c.check.ensures.result_value c.in-Right.is c.size-root.ensures in
     let zero-words = c.zero_words in
     let write_root = c.write_root-w in
     let if2 = c.if-w-eq-DONE in
@@ -33,7 +33,7 @@ zero_bytes-requires c =
 pub returns-then-w-eq-DONE : goal.returns-then-w-eq-DONE
 returns-then-w-eq-DONE c =
     let a = c.args in
-    let S : Sound a.nodes.now a.references.now a.bytes.now a.counts a.scratch.now a.output.now a.limit c.size-root.result = past c.wrong_slice-w.ensures.value c.wrong_slice-w.ensures.allowed c.if-w-ne0.false c.check.ensures.result_value c.in-Right.is c.size-root.ensures in
+    let S = past c.wrong_slice-w.ensures.value c.wrong_slice-w.ensures.allowed c.if-w-ne0.false c.check.ensures.result_value c.in-Right.is c.size-root.ensures in
     let zero-words = c.zero_words in
     let write_root = c.write_root-w in
     let zero-words2 = c.zero_words-in-Right in
@@ -44,7 +44,7 @@ returns-then-w-eq-DONE c =
 pub refusal-requires : goal.refusal-requires
 refusal-requires c =
     let a = c.args in
-    let S : Sound a.nodes.now a.references.now a.bytes.now a.counts a.scratch.now a.output.now a.limit c.size-root.result = past c.wrong_slice-w.ensures.value c.wrong_slice-w.ensures.allowed c.if-w-ne0.false c.check.ensures.result_value c.in-Right.is c.size-root.ensures in
+    let S = past c.wrong_slice-w.ensures.value c.wrong_slice-w.ensures.allowed c.if-w-ne0.false c.check.ensures.result_value c.in-Right.is c.size-root.ensures in
     let zero-words = c.zero_words in
     let write_root = c.write_root-w in
     let if2 = c.if-w-eq-DONE in
@@ -61,7 +61,7 @@ returns-in-Wrong c =
 pub returns-else-w-eq-DONE : goal.returns-else-w-eq-DONE
 returns-else-w-eq-DONE c =
     let a = c.args in
-    let S : Sound a.nodes.now a.references.now a.bytes.now a.counts a.scratch.now a.output.now a.limit c.size-root.result = past c.wrong_slice-w.ensures.value c.wrong_slice-w.ensures.allowed c.if-w-ne0.false c.check.ensures.result_value c.in-Right.is c.size-root.ensures in
+    let S = past c.wrong_slice-w.ensures.value c.wrong_slice-w.ensures.allowed c.if-w-ne0.false c.check.ensures.result_value c.in-Right.is c.size-root.ensures in
     let zero-words = c.zero_words in
     let write_root = c.write_root-w in
     let zero-words2 = c.zero_words-in-Right in

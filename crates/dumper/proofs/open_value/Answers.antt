@@ -16,8 +16,9 @@ use Rattle.dumper.proofs.open_value.Goals as goal
 
 pub open_list-requires : goal.open_list-requires
 open_list-requires c =
+    let h = here c.args.nodes.now c.args.references.now c.args.bytes.now c.args.v c.args.levels in
     let is = c.in-4.is in
-    ready_as (λ A f. f.1) (class_ready (here c.args.nodes.now c.args.references.now c.args.bytes.now c.args.v c.args.levels) 4 is (omega arith) _ (omega arith) (array_class (here c.args.nodes.now c.args.references.now c.args.bytes.now c.args.v c.args.levels) is) c.requires)
+    ready_as (λ A f. f.1) (class_ready h 4 is (omega arith) _ (omega arith) (array_class h is) c.requires)
 
 pub returns-then-class-eq0 : goal.returns-then-class-eq0
 returns-then-class-eq0 c =
@@ -27,13 +28,15 @@ returns-then-class-eq0 c =
 
 pub open_classed-requires : goal.open_classed-requires
 open_classed-requires c =
+    let h = here c.args.nodes.now c.args.references.now c.args.bytes.now c.args.v c.args.levels in
     let is = c.in-4.is in
-    class_ready (here c.args.nodes.now c.args.references.now c.args.bytes.now c.args.v c.args.levels) 4 is (omega arith) _ (omega arith) (array_class (here c.args.nodes.now c.args.references.now c.args.bytes.now c.args.v c.args.levels) is) c.requires
+    class_ready h 4 is (omega arith) _ (omega arith) (array_class h is) c.requires
 
 pub open_list-requires-then-class-eq0-2 : goal.open_list-requires-then-class-eq0-2
 open_list-requires-then-class-eq0-2 c =
+    let h = here c.args.nodes.now c.args.references.now c.args.bytes.now c.args.v c.args.levels in
     let is = c.in-5.is in
-    ready_as (λ A f. f.1) (class_ready (here c.args.nodes.now c.args.references.now c.args.bytes.now c.args.v c.args.levels) 5 is (omega arith) _ (omega arith) (hash_class (here c.args.nodes.now c.args.references.now c.args.bytes.now c.args.v c.args.levels) is) c.requires)
+    ready_as (λ A f. f.1) (class_ready h 5 is (omega arith) _ (omega arith) (hash_class h is) c.requires)
 
 pub returns-then-class-eq0-2 : goal.returns-then-class-eq0-2
 returns-then-class-eq0-2 c =
@@ -49,8 +52,9 @@ returns-then-class-eq0-2 c =
 
 pub open_classed-requires-in-5 : goal.open_classed-requires-in-5
 open_classed-requires-in-5 c =
+    let h = here c.args.nodes.now c.args.references.now c.args.bytes.now c.args.v c.args.levels in
     let is = c.in-5.is in
-    class_ready (here c.args.nodes.now c.args.references.now c.args.bytes.now c.args.v c.args.levels) 5 is (omega arith) _ (omega arith) (hash_class (here c.args.nodes.now c.args.references.now c.args.bytes.now c.args.v c.args.levels) is) c.requires
+    class_ready h 5 is (omega arith) _ (omega arith) (hash_class h is) c.requires
 
 pub open_text-requires : goal.open_text-requires
 open_text-requires c =
@@ -61,16 +65,19 @@ open_text-requires c =
 
 pub open_bignum-requires : goal.open_bignum-requires
 open_bignum-requires c =
-    ready_as (λ A f. (f.0.noded, f.1)) (class_ready (here c.args.nodes.now c.args.references.now c.args.bytes.now c.args.v c.args.levels) 10 c.in-10.is (omega arith) 0 (omega arith) (λ A l b. no_class A) c.requires)
+    let h = here c.args.nodes.now c.args.references.now c.args.bytes.now c.args.v c.args.levels in
+    ready_as (λ A f. (f.0.noded, f.1)) (class_ready h 10 c.in-10.is (omega arith) 0 (omega arith) (λ A l b. no_class A) c.requires)
 
 pub returns-else-class-eq0 : goal.returns-else-class-eq0
 returns-else-class-eq0 c =
+    let h = here c.args.nodes.now c.args.references.now c.args.bytes.now c.args.v c.args.levels in
     let a = c.args in
     let is = c.in-4.is in
-    let f = c.open_classed.ensures in record { heads = λ A room limit l li b. head_as (array_open room A (write_level limit a.levels) (write_value room A limit a.levels) a.v _ _ _ _ _ (array_row l.noded a.v b is) is) (f A room limit l (is_object l.noded a.v b 4 is (omega arith) (omega arith)) (array_class (here c.args.nodes.now c.args.references.now c.args.bytes.now c.args.v c.args.levels) is A l b) _); members_in = λ A l b e. in_array l a.v b is }
+    let f = c.open_classed.ensures in record { heads = λ A room limit l li b. head_as (array_open room A (write_level limit a.levels) (write_value room A limit a.levels) a.v _ _ _ _ _ (array_row l.noded a.v b is) is) (f A room limit l (is_object l.noded a.v b 4 is (omega arith) (omega arith)) (array_class h is A l b) _); members_in = λ A l b e. in_array l a.v b is }
 
 pub returns-else-class-eq0-2 : goal.returns-else-class-eq0-2
 returns-else-class-eq0-2 c =
+    let h = here c.args.nodes.now c.args.references.now c.args.bytes.now c.args.v c.args.levels in
     let a = c.args in
     let if2 = c.if-nodes-v-eq0 in
     let byte : (room : ℕ) (A : Arena) → if2.k ≡ hash_byte room A (get_or a.nodes.now (a.v * width + DEFAULT) 0) = λ room A.
@@ -79,7 +86,7 @@ returns-else-class-eq0-2 c =
       | else-nodes-v-eq0 w ↦ default_byte room A _ if2.k (λ (t : get_or a.nodes.now (a.v * width + DEFAULT) 0 ≡ 0). t) (λ t. t) (inr (w.if-nodes-v-eq0.false, w.k-is))
     ] in
     let is = c.in-5.is in
-    let f = c.open_classed-in-5.ensures in record { heads = λ A room limit l li b. head_as (hash_open room A (write_level limit a.levels) (write_value room A limit a.levels) a.v if2.k _ _ _ _ _ (hash_row l.noded a.v b is) (byte room A) is) (f A room limit l (is_object l.noded a.v b 5 is (omega arith) (omega arith)) (hash_class (here c.args.nodes.now c.args.references.now c.args.bytes.now c.args.v c.args.levels) is A l b) _); members_in = λ A l b e. in_hash l a.v b is }
+    let f = c.open_classed-in-5.ensures in record { heads = λ A room limit l li b. head_as (hash_open room A (write_level limit a.levels) (write_value room A limit a.levels) a.v if2.k _ _ _ _ _ (hash_row l.noded a.v b is) (byte room A) is) (f A room limit l (is_object l.noded a.v b 5 is (omega arith) (omega arith)) (hash_class h is A l b) _); members_in = λ A l b e. in_hash l a.v b is }
 
 pub returns-in-6 : goal.returns-in-6
 returns-in-6 c =
