@@ -128,11 +128,10 @@ returns-in-10 c =
 pub returns-in_default : goal.returns-in_default
 returns-in_default c =
     let a = c.args in
-    let r = c.in_default.in_default-own.rest in
     let write-scalar = c.write_scalar in
     let w = c.whole-in_default.ensures in record {
       heads = λ A room limit l li b.
           head_whole w.value.0 w.value.1
-          (lead_head (write-scalar.ensures A room limit (write_level limit a.levels) (write_value room A limit a.levels) l b (low_kind l.noded a.v b r.0.0.0.0.0.0.1 r.0.0.0.0.0.1 r.0.0.0.0.1 r.0.0.0.1 r.0.0.1 r.0.1 r.1)));
+          (lead_head (write-scalar.ensures A room limit (write_level limit a.levels) (write_value room A limit a.levels) l b (low_kind l.noded a.v b (λ e. omega (arith, e)) (λ e. omega (arith, e)) (λ e. omega (arith, e)) (λ e. omega (arith, e)) (λ e. omega (arith, e)) (λ e. omega (arith, e)) (λ e. omega (arith, e)))));
       members_in = λ A l b e. absurd (w.fact e);
     }
