@@ -1,5 +1,6 @@
 // dump: the writers that call one another, and the call.
 #![tactic(auto)]
+
 ghost use Rattle.std.specs.Prelude.{◌≡◌, ℕ, ◌-◌, ◌<◌, length};
 ghost use Rattle.definition.specs.Arena.{Arena, range};
 ghost use Rattle.definition.specs.Dump.{write_elements, write_value, dump_call, dump_call_of};

@@ -1,5 +1,6 @@
 // What dump's writers do before a value's members; the slices that dump takes.
 #![tactic(auto)]
+
 ghost use Rattle.std.specs.Prelude.{◌≡◌, ℕ, ◌+◌, ◌*◌, ◌<◌, length, get_or};
 ghost use Rattle.definition.specs.Node.{width, LIST, COUNT, DEFAULT};
 ghost use Rattle.definition.specs.Arena.{Arena, node, range};

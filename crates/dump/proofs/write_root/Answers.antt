@@ -1,7 +1,6 @@
 -- The proof of write_root.
 use Rattle.writer.specs.Laws.{ready}
 use Rattle.dump.proofs.Whole.{no_first, no_second, wholly}
-use borrow.Author.Rules.{rules}
 use Rattle.dump.proofs.write_root.Goals as goal
 
 pub returns-then-a-ne-DONE : goal.returns-then-a-ne-DONE

@@ -1,33 +1,29 @@
 -- The proof of open_user_defined.
 use native.Mathlib.Omega.{arith}
 use mathlib.Core.Path.{refl, ◌∙◌}
-use Rattle.dumper.proofs.Bodies.{Here, here, text_rest, pairs_ready, some_variables, first_stops, name_ready, name_stops, name_done, text_stops, text_done, whole, variables_answer, object_ready, user_inside, user_pairs, user_name, user_first}
+use Rattle.dumper.proofs.Bodies.{here, text_rest, pairs_ready, some_variables, first_stops, name_ready, name_stops, name_done, text_stops, text_done, whole, variables_answer, object_ready, user_inside, user_pairs, user_name, user_first}
 use Rattle.dumper.proofs.open_user_defined.Goals as goal
-
-abbrev place : tie.Start → Here
-place s =
-    here s.args.nodes.now s.args.references.now s.args.bytes.now s.args.v s.args.levels
 
 pub open_marked-w-requires : goal.open_marked-w-requires
 open_marked-w-requires c =
-    let h = place s in
+    let h = here c.args.nodes.now c.args.references.now c.args.bytes.now c.args.v c.args.levels in
     object_ready h 8 c.requires.0 (omega arith) (omega arith) c.requires.1
 
 pub returns-then-w-ne-DONE : goal.returns-then-w-ne-DONE
 returns-then-w-ne-DONE c =
-    let h = place s in
+    let h = here c.args.nodes.now c.args.references.now c.args.bytes.now c.args.v c.args.levels in
     let open-marked = c.open_marked-w in let whole = first_stops h 8 _ (user_first h c.requires.0 _ refl open-marked.ensures) c.if-w-ne-DONE.true in record { heads = whole.0; members_in = whole.1 }
 
 pub write_named-x-requires : goal.write_named-x-requires
 write_named-x-requires c =
-    let h = place s in
+    let h = here c.args.nodes.now c.args.references.now c.args.bytes.now c.args.v c.args.levels in
     let open-marked = c.open_marked-w in
     let if1 = c.if-w-ne-DONE in
     name_ready h 8 (text_rest h) _ _ (user_first h c.requires.0 _ c.size.ensures open-marked.ensures) if1.false (user_name h c.requires.0 _ c.size.ensures) c.requires.1
 
 pub returns-then-x-ne-DONE : goal.returns-then-x-ne-DONE
 returns-then-x-ne-DONE c =
-    let h = place s in
+    let h = here c.args.nodes.now c.args.references.now c.args.bytes.now c.args.v c.args.levels in
     let open-marked = c.open_marked-w in
     let if1 = c.if-w-ne-DONE in
     let size = c.size in
@@ -45,7 +41,7 @@ bounds-nodes-v-4 c =
 
 pub write_byte_string-s-requires : goal.write_byte_string-s-requires
 write_byte_string-s-requires c =
-    let h = place s in
+    let h = here c.args.nodes.now c.args.references.now c.args.bytes.now c.args.v c.args.levels in
     let f = c.requires.1.fact in
     user_inside h c.requires.0 c.requires.1.arena f.0 f.2
 
@@ -64,7 +60,7 @@ shape_of-output-then-s-ne-DONE c =
 
 pub returns-then-s-ne-DONE : goal.returns-then-s-ne-DONE
 returns-then-s-ne-DONE c =
-    let h = place s in
+    let h = here c.args.nodes.now c.args.references.now c.args.bytes.now c.args.v c.args.levels in
     let open-marked = c.open_marked-w in
     let if1 = c.if-w-ne-DONE in
     let size = c.size in
@@ -88,7 +84,7 @@ shape_of-output-then-f-eq0 c =
 
 pub returns-then-f-eq0 : goal.returns-then-f-eq0
 returns-then-f-eq0 c =
-    let h = place s in
+    let h = here c.args.nodes.now c.args.references.now c.args.bytes.now c.args.v c.args.levels in
     let open-marked = c.open_marked-w in
     let if1 = c.if-w-ne-DONE in
     let size = c.size in
@@ -141,7 +137,7 @@ bounds-nodes-v-6 c =
 
 pub open_variables-requires : goal.open_variables-requires
 open_variables-requires c =
-    let h = place s in
+    let h = here c.args.nodes.now c.args.references.now c.args.bytes.now c.args.v c.args.levels in
     let open-marked = c.open_marked-w in
     let if1 = c.if-w-ne-DONE in
     let size = c.size in
@@ -171,7 +167,7 @@ shape_of-output c =
 
 pub returns : goal.returns
 returns c =
-    let h = place s in
+    let h = here c.args.nodes.now c.args.references.now c.args.bytes.now c.args.v c.args.levels in
     let open-marked = c.open_marked-w in
     let if1 = c.if-w-ne-DONE in
     let size = c.size in

@@ -1,21 +1,24 @@
 -- The proof of open_value.
 use native.Mathlib.Omega.{arith}
-use Rattle.definition.specs.Dump.{write_level, write_value}
+use Prim.Native.Nat.{ℕ, ◌+◌, ◌*◌}
+use mathlib.Core.Logic.{inl, inr}
+use lib.ListN.{get_or}
+use Rattle.definition.specs.Node.{width, DEFAULT}
+use Rattle.definition.specs.Arena.{Arena}
+use Rattle.definition.specs.Dump.{write_level, write_value, hash_byte}
 use Rattle.writer.specs.Laws.{ready_as}
 use Rattle.object_writer.specs.Laws.{unclassed, lead_head, head_as, head_whole}
 use Rattle.dumper.proofs.Heads.{is_object, array_row, hash_row, low_kind, array_open, hash_open, default_byte, in_array, in_hash}
-use Rattle.dumper.proofs.Bodies.{Here, here, answers_as, class_ready, array_class, hash_class, no_class, float_inside, float_first, bignum_first}
-use mathlib.Core.Path.{◌∙◌}
+use Rattle.dumper.proofs.Bodies.{here, answers_as, class_ready, array_class, hash_class, no_class, float_inside, float_first, bignum_first}
+use mathlib.Core.Path.{◌≡◌, ◌∙◌}
+use Rattle.dumper.proofs.open_value.Goals.{then-nodes-v-eq0, else-nodes-v-eq0}
 use Rattle.dumper.proofs.open_value.Goals as goal
-
-abbrev place : tie.Start → Here
-place s =
-    here s.args.nodes.now s.args.references.now s.args.bytes.now s.args.v s.args.levels
 
 pub open_list-requires : goal.open_list-requires
 open_list-requires c =
+    let h = here c.args.nodes.now c.args.references.now c.args.bytes.now c.args.v c.args.levels in
     let is = c.in-4.is in
-    ready_as (λ A f. f.1) (class_ready (place s) 4 is (omega arith) _ (omega arith) (array_class (place s) is) c.requires)
+    ready_as (λ A f. f.1) (class_ready h 4 is (omega arith) _ (omega arith) (array_class h is) c.requires)
 
 pub returns-then-class-eq0 : goal.returns-then-class-eq0
 returns-then-class-eq0 c =
@@ -25,92 +28,110 @@ returns-then-class-eq0 c =
 
 pub open_classed-requires : goal.open_classed-requires
 open_classed-requires c =
+    let h = here c.args.nodes.now c.args.references.now c.args.bytes.now c.args.v c.args.levels in
     let is = c.in-4.is in
-    class_ready (place s) 4 is (omega arith) _ (omega arith) (array_class (place s) is) c.requires
+    class_ready h 4 is (omega arith) _ (omega arith) (array_class h is) c.requires
 
 pub open_list-requires-then-class-eq0-2 : goal.open_list-requires-then-class-eq0-2
 open_list-requires-then-class-eq0-2 c =
+    let h = here c.args.nodes.now c.args.references.now c.args.bytes.now c.args.v c.args.levels in
     let is = c.in-5.is in
-    ready_as (λ A f. f.1) (class_ready (place s) 5 is (omega arith) _ (omega arith) (hash_class (place s) is) c.requires)
+    ready_as (λ A f. f.1) (class_ready h 5 is (omega arith) _ (omega arith) (hash_class h is) c.requires)
 
 pub returns-then-class-eq0-2 : goal.returns-then-class-eq0-2
 returns-then-class-eq0-2 c =
     let a = c.args in
     let if2 = c.if-nodes-v-eq0 in
+    let byte : (room : ℕ) (A : Arena) → if2.k ≡ hash_byte room A (get_or a.nodes.now (a.v * width + DEFAULT) 0) = λ room A.
+    elim if2.branch [
+      | then-nodes-v-eq0 w ↦ default_byte room A _ if2.k (λ t. t) (λ (t : get_or a.nodes.now (a.v * width + DEFAULT) 0 ≡ 0 → ⊥). t) (inl (w.if-nodes-v-eq0.true, w.k-is))
+      | else-nodes-v-eq0 w ↦ default_byte room A _ if2.k (λ (t : get_or a.nodes.now (a.v * width + DEFAULT) 0 ≡ 0). t) (λ t. t) (inr (w.if-nodes-v-eq0.false, w.k-is))
+    ] in
     let is = c.in-5.is in
-    let f = c.open_list-then-class-eq0-2.ensures in record { heads = λ A room limit l li b. head_as (hash_open room A (write_level limit a.levels) (write_value room A limit a.levels) a.v if2.k _ _ _ _ _ (hash_row l.noded a.v b is) (default_byte room A _ if2.k (λ t. t.taken) (λ t. t.left) if2.branch) is ∙ unclassed room A a.v _ _ c.if-class-eq0-2.true) (f A room limit (is_object l.noded a.v b 5 is (omega arith) (omega arith)) _); members_in = λ A l b e. in_hash l a.v b is }
+    let f = c.open_list-then-class-eq0-2.ensures in record { heads = λ A room limit l li b. head_as (hash_open room A (write_level limit a.levels) (write_value room A limit a.levels) a.v if2.k _ _ _ _ _ (hash_row l.noded a.v b is) (byte room A) is ∙ unclassed room A a.v _ _ c.if-class-eq0-2.true) (f A room limit (is_object l.noded a.v b 5 is (omega arith) (omega arith)) _); members_in = λ A l b e. in_hash l a.v b is }
 
 pub open_classed-requires-in-5 : goal.open_classed-requires-in-5
 open_classed-requires-in-5 c =
+    let h = here c.args.nodes.now c.args.references.now c.args.bytes.now c.args.v c.args.levels in
     let is = c.in-5.is in
-    class_ready (place s) 5 is (omega arith) _ (omega arith) (hash_class (place s) is) c.requires
+    class_ready h 5 is (omega arith) _ (omega arith) (hash_class h is) c.requires
 
 pub open_text-requires : goal.open_text-requires
 open_text-requires c =
-    let h = place s in
+    let h = here c.args.nodes.now c.args.references.now c.args.bytes.now c.args.v c.args.levels in
     let kinds = c.in-9 in
     let f = c.requires.fact in
-    (float_inside h kinds.keys6 c.requires.arena f.0 f.2, class_ready h 9 kinds.keys6 (omega arith) 0 (omega arith) (λ A l b. no_class A) c.requires)
+    (float_inside h kinds.is c.requires.arena f.0 f.2, class_ready h 9 kinds.is (omega arith) 0 (omega arith) (λ A l b. no_class A) c.requires)
 
 pub open_bignum-requires : goal.open_bignum-requires
 open_bignum-requires c =
-    ready_as (λ A f. (f.0.noded, f.1)) (class_ready (place s) 10 c.in-10.is (omega arith) 0 (omega arith) (λ A l b. no_class A) c.requires)
+    let h = here c.args.nodes.now c.args.references.now c.args.bytes.now c.args.v c.args.levels in
+    ready_as (λ A f. (f.0.noded, f.1)) (class_ready h 10 c.in-10.is (omega arith) 0 (omega arith) (λ A l b. no_class A) c.requires)
 
 pub returns-else-class-eq0 : goal.returns-else-class-eq0
 returns-else-class-eq0 c =
+    let h = here c.args.nodes.now c.args.references.now c.args.bytes.now c.args.v c.args.levels in
     let a = c.args in
     let is = c.in-4.is in
-    let f = c.open_classed.ensures in record { heads = λ A room limit l li b. head_as (array_open room A (write_level limit a.levels) (write_value room A limit a.levels) a.v _ _ _ _ _ (array_row l.noded a.v b is) is) (f A room limit l (is_object l.noded a.v b 4 is (omega arith) (omega arith)) (array_class (place s) is A l b) _); members_in = λ A l b e. in_array l a.v b is }
+    let f = c.open_classed.ensures in record { heads = λ A room limit l li b. head_as (array_open room A (write_level limit a.levels) (write_value room A limit a.levels) a.v _ _ _ _ _ (array_row l.noded a.v b is) is) (f A room limit l (is_object l.noded a.v b 4 is (omega arith) (omega arith)) (array_class h is A l b) _); members_in = λ A l b e. in_array l a.v b is }
 
 pub returns-else-class-eq0-2 : goal.returns-else-class-eq0-2
 returns-else-class-eq0-2 c =
+    let h = here c.args.nodes.now c.args.references.now c.args.bytes.now c.args.v c.args.levels in
     let a = c.args in
     let if2 = c.if-nodes-v-eq0 in
+    let byte : (room : ℕ) (A : Arena) → if2.k ≡ hash_byte room A (get_or a.nodes.now (a.v * width + DEFAULT) 0) = λ room A.
+    elim if2.branch [
+      | then-nodes-v-eq0 w ↦ default_byte room A _ if2.k (λ t. t) (λ (t : get_or a.nodes.now (a.v * width + DEFAULT) 0 ≡ 0 → ⊥). t) (inl (w.if-nodes-v-eq0.true, w.k-is))
+      | else-nodes-v-eq0 w ↦ default_byte room A _ if2.k (λ (t : get_or a.nodes.now (a.v * width + DEFAULT) 0 ≡ 0). t) (λ t. t) (inr (w.if-nodes-v-eq0.false, w.k-is))
+    ] in
     let is = c.in-5.is in
-    let f = c.open_classed-in-5.ensures in record { heads = λ A room limit l li b. head_as (hash_open room A (write_level limit a.levels) (write_value room A limit a.levels) a.v if2.k _ _ _ _ _ (hash_row l.noded a.v b is) (default_byte room A _ if2.k (λ t. t.taken) (λ t. t.left) if2.branch) is) (f A room limit l (is_object l.noded a.v b 5 is (omega arith) (omega arith)) (hash_class (place s) is A l b) _); members_in = λ A l b e. in_hash l a.v b is }
+    let f = c.open_classed-in-5.ensures in record { heads = λ A room limit l li b. head_as (hash_open room A (write_level limit a.levels) (write_value room A limit a.levels) a.v if2.k _ _ _ _ _ (hash_row l.noded a.v b is) (byte room A) is) (f A room limit l (is_object l.noded a.v b 5 is (omega arith) (omega arith)) (hash_class h is A l b) _); members_in = λ A l b e. in_hash l a.v b is }
 
 pub returns-in-6 : goal.returns-in-6
 returns-in-6 c =
-    let h = place c in
+    let h = here c.args.nodes.now c.args.references.now c.args.bytes.now c.args.v c.args.levels in
     let kinds = c.in-6 in
     let open-named = c.open_named in
-    record { heads = answers_as h _ 6 kinds.keys3 open-named.ensures.heads; members_in = open-named.ensures.members_in }
+    record { heads = answers_as h _ 6 kinds.is open-named.ensures.heads; members_in = open-named.ensures.members_in }
 
 pub returns-in-7 : goal.returns-in-7
 returns-in-7 c =
-    let h = place c in
+    let h = here c.args.nodes.now c.args.references.now c.args.bytes.now c.args.v c.args.levels in
     let kinds = c.in-7 in
     let open-string = c.open_string in
-    record { heads = answers_as h _ 7 kinds.keys4 open-string.ensures.heads; members_in = open-string.ensures.members_in }
+    record { heads = answers_as h _ 7 kinds.is open-string.ensures.heads; members_in = open-string.ensures.members_in }
 
 pub returns-in-8 : goal.returns-in-8
 returns-in-8 c =
-    let h = place c in
+    let h = here c.args.nodes.now c.args.references.now c.args.bytes.now c.args.v c.args.levels in
     let kinds = c.in-8 in
     let open-user-defined = c.open_user_defined in
-    record { heads = answers_as h _ 8 kinds.keys5 open-user-defined.ensures.heads; members_in = open-user-defined.ensures.members_in }
+    record { heads = answers_as h _ 8 kinds.is open-user-defined.ensures.heads; members_in = open-user-defined.ensures.members_in }
 
 pub returns-in-9 : goal.returns-in-9
 returns-in-9 c =
-    let h = place c in
+    let h = here c.args.nodes.now c.args.references.now c.args.bytes.now c.args.v c.args.levels in
     let kinds = c.in-9 in
     let open-text = c.open_text in
     let w = c.whole.ensures in
-    record { heads = λ A room limit l li b. head_whole w.value.0 w.value.1 (float_first h kinds.keys6 open-text.ensures A room limit l li b); members_in = λ A l b e. absurd (w.fact e) }
+    record { heads = λ A room limit l li b. head_whole w.value.0 w.value.1 (float_first h kinds.is open-text.ensures A room limit l li b); members_in = λ A l b e. absurd (w.fact e) }
 
 pub returns-in-10 : goal.returns-in-10
 returns-in-10 c =
-    let h = place c in
+    let h = here c.args.nodes.now c.args.references.now c.args.bytes.now c.args.v c.args.levels in
     let kinds = c.in-10 in
     let open-bignum = c.open_bignum in
     let w = c.whole-in-10.ensures in
-    record { heads = λ A room limit l li b. head_whole w.value.0 w.value.1 (bignum_first h kinds.keys7 open-bignum.ensures A room limit l li b); members_in = λ A l b e. absurd (w.fact e) }
+    record { heads = λ A room limit l li b. head_whole w.value.0 w.value.1 (bignum_first h kinds.is open-bignum.ensures A room limit l li b); members_in = λ A l b e. absurd (w.fact e) }
 
 pub returns-in_default : goal.returns-in_default
 returns-in_default c =
     let a = c.args in
-    let r = c.in_default.in_default-own.rest in
     let write-scalar = c.write_scalar in
-    let w = c.whole-in_default.ensures in record { heads = λ A room limit l li b.
+    let w = c.whole-in_default.ensures in record {
+      heads = λ A room limit l li b.
           head_whole w.value.0 w.value.1
-          (lead_head (write-scalar.ensures A room limit (write_level limit a.levels) (write_value room A limit a.levels) l b (low_kind l.noded a.v b r.0.0.0.0.0.0.1 r.0.0.0.0.0.1 r.0.0.0.0.1 r.0.0.0.1 r.0.0.1 r.0.1 r.1))); members_in = λ A l b e. absurd (w.fact e) }
+          (lead_head (write-scalar.ensures A room limit (write_level limit a.levels) (write_value room A limit a.levels) l b (low_kind l.noded a.v b (λ e. omega (arith, e)) (λ e. omega (arith, e)) (λ e. omega (arith, e)) (λ e. omega (arith, e)) (λ e. omega (arith, e)) (λ e. omega (arith, e)) (λ e. omega (arith, e)))));
+      members_in = λ A l b e. absurd (w.fact e);
+    }
