@@ -1,319 +1,592 @@
-use Rattle.std.proofs.Common.{rules, ◌≡◌, ℕ, ◌-◌, ◌<◌, ◌≤◌, eqb, ◌+◌, ◌*◌, length, ◌/◌, ◌%◌, Bool, true, false, nat_lt, List, [], ◌∷◌, ◌++◌, slice_index_or, slice_set, bit_and, bit_or, Fits, w8, w32, w64, Bor, MutBor}
-use Rattle.definition.specs.Kind.{HASH_DEFAULT}
-use Rattle.definition.specs.State.{Room}
-use Rattle.definition.specs.Load.{read_array, read_hash, read_object, read_variables, read_value, read_symbol_like}
-use Rattle.load_state.specs.Holds.{lent, by_buckets, Held, Meets, nodes_of, references_of}
+-- The proofs of the readers that call one another.
+use native.Mathlib.Omega.{arith}
+use Prim.Native.Nat.{ℕ, ◌+◌, ◌-◌, ◌<◌}
+use mathlib.Core.Path.{refl, ◌≡◌, sym, ap}
+use Rattle.definition.specs.Run.{pure, pick}
+use Rattle.definition.specs.Node.{array, words, kind, hash, object}
+use Rattle.definition.specs.Load.{read_symbol_like, head, value_of, read_byte, read_instance_variables}
+use Rattle.definition.specs.Load as D
+use Rattle.load_state.specs.Holds.{lent, by_buckets}
+use Rattle.load_state.specs.Laws.{lead_first, lead_after, lead_stop, held_goes, lead_as, goes_to, held, grew}
+use Rattle.load_state.specs.Needs.{ten, nodes_small, space_fits, slot_room}
+use Rattle.value_reader.proofs.Members.{Open, opened, open_on, array_of, array_rest, contained, contained_stops, inside, no_more, names_any, one_each, down_3, hash_of, hash_rest, default_fits, nodes_few, after_members, string_leaf, down_2, Turning, turning_start, turned, all_turned, name_stop, value_stop, value_last, name_turned, value_turned, named_below, come_to, down_1, object_of, object_rest, list_parity, class_refused, no_kind, kind_led, kind_held, leaf_kind, defaults_one, hash_headed, down_0, opened_value, variables_after, variables_of, variables_rest, down_inner}
+use Rattle.load_state.specs.Names.{other_kind}
+use mathlib.Core.Logic.{inl}
 use Rattle.loader.specs.Parts.{after_i}
-use Rattle.run_reader.specs.Run.{members}
-use Rattle.value_reader.specs.Root.{whole}
-use Rattle.reader.specs.Answers.{REFUSED}
+use Rattle.input_reader.proofs.Heads.{kind_read, level_missing}
+use Rattle.leaf_reader.specs.Classes.{valued, wrappable}
+use Rattle.loader.proofs.Variables.{after_takes, takes_string}
+use Rattle.input_reader.proofs.Input.{byte_goes}
+use Rattle.leaf_reader.proofs.Classes.{array_valued, none_valued}
 use Rattle.value_reader.proofs.+readers.Goals as goal
 
--- src/lib.rt:120:9
-pub read_array-returns-then-h-ge-REFUSED-clause-meets :
-    goal.read_array-returns-then-h-ge-REFUSED-clause-meets
-read_array-returns-then-h-ge-REFUSED-clause-meets t c = ?
+pub read_array-open_node-h-requires : goal.read_array-open_node-h-requires
+read_array-open_node-h-requires t c =
+    (nodes_small c.requires, space_fits c.requires, ten c.requires)
 
--- src/lib.rt:122:9
+pub read_array-returns-then-h-ge-REFUSED : goal.read_array-returns-then-h-ge-REFUSED
+unfolding D.read_array
+read_array-returns-then-h-ge-REFUSED t c =
+    record { meets = λ room limit. lead_stop c.if-h-ge-REFUSED.true (lead_first _ (c.open_node-h.ensures.by_index _ room limit _ _ _)); upper_bound = λ l. absurd (omega arith) }
+
 pub read_array-read_words-n-requires : goal.read_array-read_words-n-requires
-read_array-read_words-n-requires t c = ?
+read_array-read_words-n-requires t c =
+    let opened_at : let l = c.open_node-h.new in let a = c.args in Open a.input.now (lent l.nodes a.references.now a.bytes.now (by_buckets a.symbols.now a.buckets.now) l.objects) l.c c.open_node-h.result (Unit {0}) = opened c.requires (λ room. (c.open_node-h.ensures.by_index _ room 0 _ _ _).goes c.if-h-ge-REFUSED.false) (c.open_node-h.ensures.upper_bound c.if-h-ge-REFUSED.false) in
+    (omega arith, (_, _, _, _, (opened_at).held))
 
--- src/lib.rt:124:9
-pub read_array-returns-then-n-ge-REFUSED-clause-meets :
-    goal.read_array-returns-then-n-ge-REFUSED-clause-meets
-read_array-returns-then-n-ge-REFUSED-clause-meets t c = ?
+pub read_array-returns-then-n-ge-REFUSED : goal.read_array-returns-then-n-ge-REFUSED
+unfolding D.read_array
+read_array-returns-then-n-ge-REFUSED t c =
+    record { meets = λ room limit. lead_after ((lead_first _ (c.open_node-h.ensures.by_index _ room limit _ _ _)).goes c.if-h-ge-REFUSED.false)
+          (lead_stop c.if-n-ge-REFUSED.true (c.read_words-n.ensures.leads room limit _ _ _ _ _)); upper_bound = λ l. absurd (omega arith) }
 
--- src/lib.rt:128:9
+pub read_array-overflow_sub-start : goal.read_array-overflow_sub-start
+read_array-overflow_sub-start t c =
+    omega (arith, c.read_words-n.ensures.upper_bound c.if-n-ge-REFUSED.false)
+
 pub read_array-read_members-w-requires : goal.read_array-read_members-w-requires
-read_array-read_members-w-requires t c = ?
+read_array-read_members-w-requires t c =
+    let opened_at : let l = c.open_node-h.new in let a = c.args in Open a.input.now (lent l.nodes a.references.now a.bytes.now (by_buckets a.symbols.now a.buckets.now) l.objects) l.c c.open_node-h.result (Unit {0}) = opened c.requires (λ room. (c.open_node-h.ensures.by_index _ room 0 _ _ _).goes c.if-h-ge-REFUSED.false) (c.open_node-h.ensures.upper_bound c.if-h-ge-REFUSED.false) in
+    let words_at : let l = c.open_node-h.new in let w = c.read_words-n.new in let a = c.args in Open a.input.now (lent l.nodes w.references a.bytes.now (by_buckets a.symbols.now a.buckets.now) l.objects) w.c c.open_node-h.result (Unit {0}) = open_on (opened_at) (λ room. (c.read_words-n.ensures.leads room 0 _ _ _ _ (λ p n. pure p)).goes c.if-n-ge-REFUSED.false) in
+    (down_3 _ t c.decreases, ((inside _ _).0, (inside _ 0).1, no_more, names_any _, (words_at).held))
 
--- src/lib.rt:144:9
-pub read_array-returns-then-w-ge-REFUSED-clause-meets :
-    goal.read_array-returns-then-w-ge-REFUSED-clause-meets
-read_array-returns-then-w-ge-REFUSED-clause-meets t c = ?
+pub read_array-returns-then-w-ge-REFUSED : goal.read_array-returns-then-w-ge-REFUSED
+unfolding D.read_array
+read_array-returns-then-w-ge-REFUSED t c =
+    let h = c.open_node-h.result in
+    let n = c.read_words-n.result in
+    let q = c.read_words-n.ensures.upper_bound c.if-n-ge-REFUSED.false in record { meets = λ room limit.
+          let name = read_symbol_like c.args.input.now room in
+          let inner = D.read_value c.args.input.now room limit c.args.levels in
+          lead_after ((lead_first _ (c.open_node-h.ensures.by_index _ room limit _ _ _)).goes c.if-h-ge-REFUSED.false)
+          (contained_stops name inner (array_of name inner h c.args.class) 1 2 0 n _ _ _ (array_rest name inner h _ n c.args.class) (one_each _ n) q.1 (c.read_words-n.ensures.leads room limit _ _ _ _ _) c.if-n-ge-REFUSED.false (c.read_members-w.ensures.meets room limit) c.if-w-ge-REFUSED.true); upper_bound = λ l. absurd (omega arith) }
 
--- src/lib.rt:146:38
 pub read_array-overflow_cast-start : goal.read_array-overflow_cast-start
-read_array-overflow_cast-start t c = ?
+read_array-overflow_cast-start t c =
+    let opened_at : let l = c.open_node-h.new in let a = c.args in Open a.input.now (lent l.nodes a.references.now a.bytes.now (by_buckets a.symbols.now a.buckets.now) l.objects) l.c c.open_node-h.result (Unit {0}) = opened c.requires (λ room. (c.open_node-h.ensures.by_index _ room 0 _ _ _).goes c.if-h-ge-REFUSED.false) (c.open_node-h.ensures.upper_bound c.if-h-ge-REFUSED.false) in
+    let words_at : let l = c.open_node-h.new in let w = c.read_words-n.new in let a = c.args in Open a.input.now (lent l.nodes w.references a.bytes.now (by_buckets a.symbols.now a.buckets.now) l.objects) w.c c.open_node-h.result (Unit {0}) = open_on (opened_at) (λ room. (c.read_words-n.ensures.leads room 0 _ _ _ _ (λ p n. pure p)).goes c.if-n-ge-REFUSED.false) in
+    let H = (words_at).held.holds in
+    omega (arith, (c.read_words-n.ensures.upper_bound c.if-n-ge-REFUSED.false).1, H.counted.count_references, H.laid.references.fits, H.fixed.small.references)
 
--- src/lib.rt:146:5
 pub read_array-fill_node-requires : goal.read_array-fill_node-requires
-read_array-fill_node-requires t c = ?
+read_array-fill_node-requires t c =
+    let opened_at : let l = c.open_node-h.new in let a = c.args in Open a.input.now (lent l.nodes a.references.now a.bytes.now (by_buckets a.symbols.now a.buckets.now) l.objects) l.c c.open_node-h.result (Unit {0}) = opened c.requires (λ room. (c.open_node-h.ensures.by_index _ room 0 _ _ _).goes c.if-h-ge-REFUSED.false) (c.open_node-h.ensures.upper_bound c.if-h-ge-REFUSED.false) in
+    let words_at : let l = c.open_node-h.new in let w = c.read_words-n.new in let a = c.args in Open a.input.now (lent l.nodes w.references a.bytes.now (by_buckets a.symbols.now a.buckets.now) l.objects) w.c c.open_node-h.result (Unit {0}) = open_on (opened_at) (λ room. (c.read_words-n.ensures.leads room 0 _ _ _ _ (λ p n. pure p)).goes c.if-n-ge-REFUSED.false) in
+    let members_at : let l = c.read_members-w.new in Open c.args.input.now (lent l.nodes l.references l.bytes (by_buckets l.symbols l.buckets) l.objects) l.c c.open_node-h.result (Unit {0}) = open_on (words_at) (λ room. (c.read_members-w.ensures.meets room 0).goes c.if-w-ge-REFUSED.false) in
+    let O = members_at in
+    (slot_room O.held O.below, c.if-h-ge-REFUSED.false)
 
--- src/lib.rt:101:1
-pub read_array-returns-clause-meets : goal.read_array-returns-clause-meets
-read_array-returns-clause-meets t c = ?
+pub read_array-returns : goal.read_array-returns
+unfolding D.read_array kind words
+read_array-returns t c =
+    let opened_at : let l = c.open_node-h.new in let a = c.args in Open a.input.now (lent l.nodes a.references.now a.bytes.now (by_buckets a.symbols.now a.buckets.now) l.objects) l.c c.open_node-h.result (Unit {0}) = opened c.requires (λ room. (c.open_node-h.ensures.by_index _ room 0 _ _ _).goes c.if-h-ge-REFUSED.false) (c.open_node-h.ensures.upper_bound c.if-h-ge-REFUSED.false) in
+    let words_at : let l = c.open_node-h.new in let w = c.read_words-n.new in let a = c.args in Open a.input.now (lent l.nodes w.references a.bytes.now (by_buckets a.symbols.now a.buckets.now) l.objects) w.c c.open_node-h.result (Unit {0}) = open_on (opened_at) (λ room. (c.read_words-n.ensures.leads room 0 _ _ _ _ (λ p n. pure p)).goes c.if-n-ge-REFUSED.false) in
+    let members_at : let l = c.read_members-w.new in Open c.args.input.now (lent l.nodes l.references l.bytes (by_buckets l.symbols l.buckets) l.objects) l.c c.open_node-h.result (Unit {0}) = open_on (words_at) (λ room. (c.read_members-w.ensures.meets room 0).goes c.if-w-ge-REFUSED.false) in
+    let O = members_at in
+    let h = c.open_node-h.result in
+    let n = c.read_words-n.result in
+    let q = c.read_words-n.ensures.upper_bound c.if-n-ge-REFUSED.false in record { meets = λ room limit.
+          let name = read_symbol_like c.args.input.now room in
+          let inner = D.read_value c.args.input.now room limit c.args.levels in
+          lead_after ((lead_first _ (c.open_node-h.ensures.by_index _ room limit _ _ _)).goes c.if-h-ge-REFUSED.false)
+          (contained name inner (array_of name inner h c.args.class) 1 2 0 n _ _ _ (array_rest name inner h _ n c.args.class) (one_each _ n) q.1 (c.read_words-n.ensures.leads room limit _ _ _ _ _) c.if-n-ge-REFUSED.false (c.read_members-w.ensures.meets room limit) c.if-w-ge-REFUSED.false
+          (c.fill_node.ensures.by_index _ room limit (array _ n c.args.class) _ _ _ _ _ refl (other_kind (array 0 0 0) refl) O.below (λ _. O.free tt))); upper_bound = λ l. omega (arith, c.fill_node.ensures.value, O.below) }
 
--- src/lib.rt:101:1
-pub read_array-returns-clause-upper_bound : goal.read_array-returns-clause-upper_bound
-read_array-returns-clause-upper_bound t c = ?
+pub read_hash-open_node-h-requires : goal.read_hash-open_node-h-requires
+read_hash-open_node-h-requires t c =
+    (nodes_small c.requires.1, space_fits c.requires.1, ten c.requires.1)
 
--- src/lib.rt:177:9
-pub read_hash-returns-then-h-ge-REFUSED-clause-meets :
-    goal.read_hash-returns-then-h-ge-REFUSED-clause-meets
-read_hash-returns-then-h-ge-REFUSED-clause-meets t c = ?
+pub read_hash-returns-then-h-ge-REFUSED : goal.read_hash-returns-then-h-ge-REFUSED
+unfolding D.read_hash
+read_hash-returns-then-h-ge-REFUSED t c =
+    record { meets = λ room limit. lead_stop c.if-h-ge-REFUSED.true (lead_first _ (c.open_node-h.ensures.by_index _ room limit _ _ _)); upper_bound = λ l. absurd (omega arith) }
 
--- src/lib.rt:179:9
 pub read_hash-read_words-n-requires : goal.read_hash-read_words-n-requires
-read_hash-read_words-n-requires t c = ?
+read_hash-read_words-n-requires t c =
+    let opened_at : let l = c.open_node-h.new in let a = c.args in Open a.input.now (lent l.nodes a.references.now a.bytes.now (by_buckets a.symbols.now a.buckets.now) l.objects) l.c c.open_node-h.result (Unit {0}) = opened c.requires.1 (λ room. (c.open_node-h.ensures.by_index _ room 0 _ _ _).goes c.if-h-ge-REFUSED.false) (c.open_node-h.ensures.upper_bound c.if-h-ge-REFUSED.false) in
+    (omega arith, (_, _, _, _, (opened_at).held))
 
--- src/lib.rt:181:9
-pub read_hash-returns-then-n-ge-REFUSED-clause-meets :
-    goal.read_hash-returns-then-n-ge-REFUSED-clause-meets
-read_hash-returns-then-n-ge-REFUSED-clause-meets t c = ?
+pub read_hash-returns-then-n-ge-REFUSED : goal.read_hash-returns-then-n-ge-REFUSED
+unfolding D.read_hash
+read_hash-returns-then-n-ge-REFUSED t c =
+    record { meets = λ room limit. lead_after ((lead_first _ (c.open_node-h.ensures.by_index _ room limit _ _ _)).goes c.if-h-ge-REFUSED.false)
+          (lead_stop c.if-n-ge-REFUSED.true (c.read_words-n.ensures.leads room limit _ _ _ _ _)); upper_bound = λ l. absurd (omega arith) }
 
--- src/lib.rt:185:9
+pub read_hash-overflow_sub-start : goal.read_hash-overflow_sub-start
+read_hash-overflow_sub-start t c =
+    omega (arith, c.read_words-n.ensures.upper_bound c.if-n-ge-REFUSED.false)
+
 pub read_hash-read_members-d-requires : goal.read_hash-read_members-d-requires
-read_hash-read_members-d-requires t c = ?
+read_hash-read_members-d-requires t c =
+    let opened_at : let l = c.open_node-h.new in let a = c.args in Open a.input.now (lent l.nodes a.references.now a.bytes.now (by_buckets a.symbols.now a.buckets.now) l.objects) l.c c.open_node-h.result (Unit {0}) = opened c.requires.1 (λ room. (c.open_node-h.ensures.by_index _ room 0 _ _ _).goes c.if-h-ge-REFUSED.false) (c.open_node-h.ensures.upper_bound c.if-h-ge-REFUSED.false) in
+    let words_at : let l = c.open_node-h.new in let w = c.read_words-n.new in let a = c.args in Open a.input.now (lent l.nodes w.references a.bytes.now (by_buckets a.symbols.now a.buckets.now) l.objects) w.c c.open_node-h.result (Unit {0}) = open_on (opened_at) (λ room. (c.read_words-n.ensures.leads room 0 _ _ _ _ (λ p n. pure p)).goes c.if-n-ge-REFUSED.false) in
+    (down_3 _ t c.decreases, ((inside _ _).0, (inside _ 0).1, c.requires.0, λ e. refl, (words_at).held))
 
--- src/lib.rt:201:9
-pub read_hash-returns-then-d-ge-REFUSED-clause-meets :
-    goal.read_hash-returns-then-d-ge-REFUSED-clause-meets
-read_hash-returns-then-d-ge-REFUSED-clause-meets t c = ?
+pub read_hash-returns-then-d-ge-REFUSED : goal.read_hash-returns-then-d-ge-REFUSED
+unfolding D.read_hash
+read_hash-returns-then-d-ge-REFUSED t c =
+    let h = c.open_node-h.result in
+    let n = c.read_words-n.result in
+    let q = c.read_words-n.ensures.upper_bound c.if-n-ge-REFUSED.false in record { meets = λ room limit.
+          let name = read_symbol_like c.args.input.now room in
+          let inner = D.read_value c.args.input.now room limit c.args.levels in
+          lead_after ((lead_first _ (c.open_node-h.ensures.by_index _ room limit _ _ _)).goes c.if-h-ge-REFUSED.false)
+          (contained_stops name inner (hash_of name inner h c.args.more c.args.class) 2 2 c.args.more n _ _ _ (hash_rest name inner h _ n c.args.more c.args.class c.requires.0) refl q.1 (c.read_words-n.ensures.leads room limit _ _ _ _ _) c.if-n-ge-REFUSED.false (c.read_members-d.ensures.meets room limit) c.if-d-ge-REFUSED.true); upper_bound = λ l. absurd (omega arith) }
 
--- src/lib.rt:207:9
 pub read_hash-overflow_cast-start : goal.read_hash-overflow_cast-start
-read_hash-overflow_cast-start t c = ?
+read_hash-overflow_cast-start t c =
+    let opened_at : let l = c.open_node-h.new in let a = c.args in Open a.input.now (lent l.nodes a.references.now a.bytes.now (by_buckets a.symbols.now a.buckets.now) l.objects) l.c c.open_node-h.result (Unit {0}) = opened c.requires.1 (λ room. (c.open_node-h.ensures.by_index _ room 0 _ _ _).goes c.if-h-ge-REFUSED.false) (c.open_node-h.ensures.upper_bound c.if-h-ge-REFUSED.false) in
+    let words_at : let l = c.open_node-h.new in let w = c.read_words-n.new in let a = c.args in Open a.input.now (lent l.nodes w.references a.bytes.now (by_buckets a.symbols.now a.buckets.now) l.objects) w.c c.open_node-h.result (Unit {0}) = open_on (opened_at) (λ room. (c.read_words-n.ensures.leads room 0 _ _ _ _ (λ p n. pure p)).goes c.if-n-ge-REFUSED.false) in
+    let H = (words_at).held.holds in
+    omega (arith, (c.read_words-n.ensures.upper_bound c.if-n-ge-REFUSED.false).1, H.counted.count_references, H.laid.references.fits, H.fixed.small.references)
 
--- src/lib.rt:210:9
+pub read_hash-overflow_cast-more : goal.read_hash-overflow_cast-more
+read_hash-overflow_cast-more t c =
+    omega (arith, c.requires.0)
+
 pub read_hash-overflow_add-d : goal.read_hash-overflow_add-d
-read_hash-overflow_add-d t c = ?
+read_hash-overflow_add-d t c =
+    let opened_at : let l = c.open_node-h.new in let a = c.args in Open a.input.now (lent l.nodes a.references.now a.bytes.now (by_buckets a.symbols.now a.buckets.now) l.objects) l.c c.open_node-h.result (Unit {0}) = opened c.requires.1 (λ room. (c.open_node-h.ensures.by_index _ room 0 _ _ _).goes c.if-h-ge-REFUSED.false) (c.open_node-h.ensures.upper_bound c.if-h-ge-REFUSED.false) in
+    let words_at : let l = c.open_node-h.new in let w = c.read_words-n.new in let a = c.args in Open a.input.now (lent l.nodes w.references a.bytes.now (by_buckets a.symbols.now a.buckets.now) l.objects) w.c c.open_node-h.result (Unit {0}) = open_on (opened_at) (λ room. (c.read_words-n.ensures.leads room 0 _ _ _ _ (λ p n. pure p)).goes c.if-n-ge-REFUSED.false) in
+    let members_at : let l = c.read_members-d.new in Open c.args.input.now (lent l.nodes l.references l.bytes (by_buckets l.symbols l.buckets) l.objects) l.c c.open_node-h.result (Unit {0}) = open_on (words_at) (λ room. (c.read_members-d.ensures.meets room 0).goes c.if-d-ge-REFUSED.false) in
+    let O = members_at in
+    let d = c.read_members-d.ensures.value c.if-d-ge-REFUSED.false in
+    default_fits _ _ _ c.requires.0 d.0 d.1 (nodes_few O.held)
 
--- src/lib.rt:203:5
 pub read_hash-fill_node-requires : goal.read_hash-fill_node-requires
-read_hash-fill_node-requires t c = ?
+read_hash-fill_node-requires t c =
+    let opened_at : let l = c.open_node-h.new in let a = c.args in Open a.input.now (lent l.nodes a.references.now a.bytes.now (by_buckets a.symbols.now a.buckets.now) l.objects) l.c c.open_node-h.result (Unit {0}) = opened c.requires.1 (λ room. (c.open_node-h.ensures.by_index _ room 0 _ _ _).goes c.if-h-ge-REFUSED.false) (c.open_node-h.ensures.upper_bound c.if-h-ge-REFUSED.false) in
+    let words_at : let l = c.open_node-h.new in let w = c.read_words-n.new in let a = c.args in Open a.input.now (lent l.nodes w.references a.bytes.now (by_buckets a.symbols.now a.buckets.now) l.objects) w.c c.open_node-h.result (Unit {0}) = open_on (opened_at) (λ room. (c.read_words-n.ensures.leads room 0 _ _ _ _ (λ p n. pure p)).goes c.if-n-ge-REFUSED.false) in
+    let members_at : let l = c.read_members-d.new in Open c.args.input.now (lent l.nodes l.references l.bytes (by_buckets l.symbols l.buckets) l.objects) l.c c.open_node-h.result (Unit {0}) = open_on (words_at) (λ room. (c.read_members-d.ensures.meets room 0).goes c.if-d-ge-REFUSED.false) in
+    let O = members_at in
+    (slot_room O.held O.below, c.if-h-ge-REFUSED.false)
 
--- src/lib.rt:157:1
-pub read_hash-returns-clause-meets : goal.read_hash-returns-clause-meets
-read_hash-returns-clause-meets t c = ?
+pub read_hash-returns : goal.read_hash-returns
+unfolding D.read_hash kind words
+read_hash-returns t c =
+    let opened_at : let l = c.open_node-h.new in let a = c.args in Open a.input.now (lent l.nodes a.references.now a.bytes.now (by_buckets a.symbols.now a.buckets.now) l.objects) l.c c.open_node-h.result (Unit {0}) = opened c.requires.1 (λ room. (c.open_node-h.ensures.by_index _ room 0 _ _ _).goes c.if-h-ge-REFUSED.false) (c.open_node-h.ensures.upper_bound c.if-h-ge-REFUSED.false) in
+    let words_at : let l = c.open_node-h.new in let w = c.read_words-n.new in let a = c.args in Open a.input.now (lent l.nodes w.references a.bytes.now (by_buckets a.symbols.now a.buckets.now) l.objects) w.c c.open_node-h.result (Unit {0}) = open_on (opened_at) (λ room. (c.read_words-n.ensures.leads room 0 _ _ _ _ (λ p n. pure p)).goes c.if-n-ge-REFUSED.false) in
+    let members_at : let l = c.read_members-d.new in Open c.args.input.now (lent l.nodes l.references l.bytes (by_buckets l.symbols l.buckets) l.objects) l.c c.open_node-h.result (Unit {0}) = open_on (words_at) (λ room. (c.read_members-d.ensures.meets room 0).goes c.if-d-ge-REFUSED.false) in
+    let O = members_at in
+    let h = c.open_node-h.result in
+    let n = c.read_words-n.result in
+    let q = c.read_words-n.ensures.upper_bound c.if-n-ge-REFUSED.false in record { meets = λ room limit.
+          let name = read_symbol_like c.args.input.now room in
+          let inner = D.read_value c.args.input.now room limit c.args.levels in
+          lead_after ((lead_first _ (c.open_node-h.ensures.by_index _ room limit _ _ _)).goes c.if-h-ge-REFUSED.false)
+          (contained name inner (hash_of name inner h c.args.more c.args.class) 2 2 c.args.more n _ _ _ (hash_rest name inner h _ n c.args.more c.args.class c.requires.0) refl q.1 (c.read_words-n.ensures.leads room limit _ _ _ _ _) c.if-n-ge-REFUSED.false (c.read_members-d.ensures.meets room limit) c.if-d-ge-REFUSED.false
+          (c.fill_node.ensures.by_index _ room limit (hash _ n (c.read_members-d.result + c.args.more) c.args.class) _ _ _ _ _ refl (other_kind (hash 0 0 0 0) refl) O.below (λ _. O.free tt))); upper_bound = λ l. omega (arith, c.fill_node.ensures.value, O.below) }
 
--- src/lib.rt:157:1
-pub read_hash-returns-clause-upper_bound : goal.read_hash-returns-clause-upper_bound
-read_hash-returns-clause-upper_bound t c = ?
-
--- src/lib.rt:298:17
 pub read_inner-read_leaf-requires : goal.read_inner-read_leaf-requires
-read_inner-read_leaf-requires t c = ?
+read_inner-read_leaf-requires t c =
+    (_, held_goes {m = λ room. read_byte _} {m' = λ room. _} c.requires (λ room. byte_goes c.if-at-input.true))
 
--- src/lib.rt:298:17
-pub read_inner-returns-then-input-at-eq-STRING-clause-meets :
-    goal.read_inner-returns-then-input-at-eq-STRING-clause-meets
-read_inner-returns-then-input-at-eq-STRING-clause-meets t c = ?
+pub read_inner-returns-then-input-at-eq-STRING : goal.read_inner-returns-then-input-at-eq-STRING
+unfolding head pick valued
+read_inner-returns-then-input-at-eq-STRING t c =
+    let c-read-leaf = c.read_leaf in
+    let c-args = c.args in
+    let some : c-args.levels ≡ 0 → ⊥ = omega (arith, c.if-levels-gt0.true) in record { meets = λ room limit.
+          lead_after (after_takes _ (takes_string c.if-input-at-eq-STRING.true))
+          (lead_after (goes_to (ap (λ (x : ℕ). value_of c-args.input.now room (D.read_value c-args.input.now room limit (c-args.levels - 1)) x (head x)) c.if-input-at-eq-STRING.true) (kind_read limit c-args.levels some c.if-at-input.true))
+          (c-read-leaf.ensures.meets room limit (D.read_value c-args.input.now room limit (c-args.levels - 1)) _ string_leaf (inl refl))); upper_bound = c-read-leaf.ensures.upper_bound }
 
--- src/lib.rt:313:5
+pub read_inner-note_inner-requires : goal.read_inner-note_inner-requires
+read_inner-note_inner-requires t c =
+    record { tables = _; held = c.requires }
+
 pub read_inner-read_members-requires : goal.read_inner-read_members-requires
-read_inner-read_members-requires t c = ?
+read_inner-read_members-requires t c =
+    let H = held_goes {m = λ room. after_i c.args.input.now (pure 0)} {m' = λ room. pure 0} c.requires (λ room. c.note_inner.ensures room _ (pure 0)) in
+    (down_2 _ t c.decreases, (omega arith, omega arith, omega arith, λ e. refl, H))
 
--- src/lib.rt:277:1
-pub read_inner-returns-clause-meets : goal.read_inner-returns-clause-meets
-read_inner-returns-clause-meets t c = ?
+pub read_inner-returns : goal.read_inner-returns
+read_inner-returns t c =
+    let c-args = c.args in
+    let k = c.read_members.ensures in record { meets = λ room limit.
+          let inner = D.read_value c-args.input.now room limit c-args.levels in
+          lead_after (c.note_inner.ensures room _ inner) (lead_as (sym (after_members (read_symbol_like c-args.input.now room) inner 2 0)) (k.meets room limit)); upper_bound = λ l. (k.value l).1 refl }
 
--- src/lib.rt:53:5
 pub read_members-loop-to-init : goal.read_members-loop-to-init
-read_members-loop-to-init t c = ?
+read_members-loop-to-init t c =
+    let p = c.requires in
+    turning_start p.0 p.1 p.4
 
--- src/lib.rt:54:13
+pub read_members-overflow_add-end : goal.read_members-overflow_add-end
+read_members-overflow_add-end t c =
+    let R = c.loop-to.invariant in
+    let H = R.held.holds in
+    record { fits = omega (arith, c.requires.2, R.inside, H.counted.count_references, H.laid.references.fits, H.fixed.small.references) }
+
 pub read_members-read_run-next-requires : goal.read_members-read_run-next-requires
-read_members-read_run-next-requires t c = ?
+read_members-read_run-next-requires t c =
+    let R = c.loop-to.invariant in
+    (R.within, R.inside, (_, _, _, R.held))
 
--- src/lib.rt:53:5
 pub read_members-loop-to-smaller-then-to-next : goal.read_members-loop-to-smaller-then-to-next
-read_members-loop-to-smaller-then-to-next t c = ?
+read_members-loop-to-smaller-then-to-next t c =
+    omega (arith, c.if-to-next.true, c.read_run-next.ensures.lower_bound.1)
 
--- src/lib.rt:53:5
 pub read_members-loop-to-preserved-then-to-next : goal.read_members-loop-to-preserved-then-to-next
-read_members-loop-to-preserved-then-to-next t c = ?
+read_members-loop-to-preserved-then-to-next t c =
+    let c-read-run = c.read_run-next in
+    let R = c.loop-to.invariant in
+    let k = c-read-run.ensures in
+    turned R c-read-run.result k.lower_bound.1 c-read-run.auto.nodes c-read-run.auto.references refl refl refl refl (λ room limit. k.goes room limit _ _ _)
 
--- src/lib.rt:70:17
 pub read_members-read_symbol_like-name-requires : goal.read_members-read_symbol_like-name-requires
-read_members-read_symbol_like-name-requires t c = ?
+read_members-read_symbol_like-name-requires t c =
+    let run_none : let a = c.args in let l = c.read_run-next.new in Turning a.input.now a.nodes.now a.references.now a.bytes.now (by_buckets a.symbols.now a.buckets.now) a.objects.now a.c.now a.start a.end a.names a.levels l.nodes l.references c.loop-to.bytes (by_buckets c.loop-to.symbols c.loop-to.buckets) c.loop-to.objects l.c c.loop-to.to = let r = c.read_run-next in let k = r.ensures in let same : r.result ≡ c.loop-to.to = omega (arith, k.lower_bound.0, c.if-to-next.false) in come_to (turned c.loop-to.invariant r.result k.lower_bound.1 r.auto.nodes r.auto.references refl refl refl refl (λ room limit. k.goes room limit _ _ _)) same in
+    let S = run_none in
+    (_, _, S.held)
 
--- src/lib.rt:72:17
-pub read_members-returns-then-name-ge-REFUSED-clause-meets :
-    goal.read_members-returns-then-name-ge-REFUSED-clause-meets
-read_members-returns-then-name-ge-REFUSED-clause-meets t c = ?
+pub read_members-returns-then-name-ge-REFUSED : goal.read_members-returns-then-name-ge-REFUSED
+read_members-returns-then-name-ge-REFUSED t c =
+    let run_none : let a = c.args in let l = c.read_run-next.new in Turning a.input.now a.nodes.now a.references.now a.bytes.now (by_buckets a.symbols.now a.buckets.now) a.objects.now a.c.now a.start a.end a.names a.levels l.nodes l.references c.loop-to.bytes (by_buckets c.loop-to.symbols c.loop-to.buckets) c.loop-to.objects l.c c.loop-to.to = let r = c.read_run-next in let k = r.ensures in let same : r.result ≡ c.loop-to.to = omega (arith, k.lower_bound.0, c.if-to-next.false) in come_to (turned c.loop-to.invariant r.result k.lower_bound.1 r.auto.nodes r.auto.references refl refl refl refl (λ room limit. k.goes room limit _ _ _)) same in
+    let c-if2 = c.if-to-names in
+    let S = run_none in
+    let lt = named_below _ _ _ _ c.requires.2 c.requires.3 c.loop-to-test.true c-if2.true in
+    record { meets = λ room limit. name_stop S c.args.more c.if-name-ge-REFUSED.true room limit lt c-if2.true (c.read_symbol_like-name.ensures.meets room limit _ _); value = λ l. absurd (omega arith) }
 
--- src/lib.rt:53:5
-pub read_members-loop-to-smaller-then-to-names : goal.read_members-loop-to-smaller-then-to-names
-read_members-loop-to-smaller-then-to-names t c = ?
+pub read_members-bounds-references-to : goal.read_members-bounds-references-to
+read_members-bounds-references-to t c =
+    let run_none : let a = c.args in let l = c.read_run-next.new in Turning a.input.now a.nodes.now a.references.now a.bytes.now (by_buckets a.symbols.now a.buckets.now) a.objects.now a.c.now a.start a.end a.names a.levels l.nodes l.references c.loop-to.bytes (by_buckets c.loop-to.symbols c.loop-to.buckets) c.loop-to.objects l.c c.loop-to.to = let r = c.read_run-next in let k = r.ensures in let same : r.result ≡ c.loop-to.to = omega (arith, k.lower_bound.0, c.if-to-next.false) in come_to (turned c.loop-to.invariant r.result k.lower_bound.1 r.auto.nodes r.auto.references refl refl refl refl (λ room limit. k.goes room limit _ _ _)) same in
+    let S = run_none in
+    let lt = named_below _ _ _ _ c.requires.2 c.requires.3 c.loop-to-test.true c.if-to-names.true in
+    let H = S.held.holds in
+    omega (arith, lt, S.inside, H.counted.count_references, H.laid.references.fits, H.laid.references.sized)
 
--- src/lib.rt:53:5
-pub read_members-loop-to-preserved-then-to-names :
-    goal.read_members-loop-to-preserved-then-to-names
-read_members-loop-to-preserved-then-to-names t c = ?
+pub read_members-loop-to-preserved-then-to-names : goal.read_members-loop-to-preserved-then-to-names
+read_members-loop-to-preserved-then-to-names t c =
+    let run_none : let a = c.args in let l = c.read_run-next.new in Turning a.input.now a.nodes.now a.references.now a.bytes.now (by_buckets a.symbols.now a.buckets.now) a.objects.now a.c.now a.start a.end a.names a.levels l.nodes l.references c.loop-to.bytes (by_buckets c.loop-to.symbols c.loop-to.buckets) c.loop-to.objects l.c c.loop-to.to = let r = c.read_run-next in let k = r.ensures in let same : r.result ≡ c.loop-to.to = omega (arith, k.lower_bound.0, c.if-to-next.false) in come_to (turned c.loop-to.invariant r.result k.lower_bound.1 r.auto.nodes r.auto.references refl refl refl refl (λ room limit. k.goes room limit _ _ _)) same in
+    let c-read-symbol-like = c.read_symbol_like-name in
+    let c-if2 = c.if-to-names in
+    let S = run_none in
+    let lt = named_below _ _ _ _ c.requires.2 c.requires.3 c.loop-to-test.true c-if2.true in
+    name_turned S lt c.if-name-ge-REFUSED.false c-read-symbol-like.auto.nodes refl c-read-symbol-like.auto.bytes c-read-symbol-like.auto.symbols c-read-symbol-like.auto.buckets refl c-if2.true (λ room limit. c-read-symbol-like.ensures.meets room limit _ _)
 
--- src/lib.rt:78:13
 pub read_members-read_value-v-requires : goal.read_members-read_value-v-requires
-read_members-read_value-v-requires t c = ?
+read_members-read_value-v-requires t c =
+    let run_none : let a = c.args in let l = c.read_run-next.new in Turning a.input.now a.nodes.now a.references.now a.bytes.now (by_buckets a.symbols.now a.buckets.now) a.objects.now a.c.now a.start a.end a.names a.levels l.nodes l.references c.loop-to.bytes (by_buckets c.loop-to.symbols c.loop-to.buckets) c.loop-to.objects l.c c.loop-to.to = let r = c.read_run-next in let k = r.ensures in let same : r.result ≡ c.loop-to.to = omega (arith, k.lower_bound.0, c.if-to-next.false) in come_to (turned c.loop-to.invariant r.result k.lower_bound.1 r.auto.nodes r.auto.references refl refl refl refl (λ room limit. k.goes room limit _ _ _)) same in
+    let S = run_none in
+    (down_1 _ t c.decreases, S.held)
 
--- src/lib.rt:90:13
-pub read_members-returns-then-v-ge-REFUSED-clause-meets :
-    goal.read_members-returns-then-v-ge-REFUSED-clause-meets
-read_members-returns-then-v-ge-REFUSED-clause-meets t c = ?
+pub read_members-returns-then-v-ge-REFUSED : goal.read_members-returns-then-v-ge-REFUSED
+read_members-returns-then-v-ge-REFUSED t c =
+    let run_none : let a = c.args in let l = c.read_run-next.new in Turning a.input.now a.nodes.now a.references.now a.bytes.now (by_buckets a.symbols.now a.buckets.now) a.objects.now a.c.now a.start a.end a.names a.levels l.nodes l.references c.loop-to.bytes (by_buckets c.loop-to.symbols c.loop-to.buckets) c.loop-to.objects l.c c.loop-to.to = let r = c.read_run-next in let k = r.ensures in let same : r.result ≡ c.loop-to.to = omega (arith, k.lower_bound.0, c.if-to-next.false) in come_to (turned c.loop-to.invariant r.result k.lower_bound.1 r.auto.nodes r.auto.references refl refl refl refl (λ room limit. k.goes room limit _ _ _)) same in
+    let S = run_none in
+    record { meets = λ room limit. value_stop S c.args.more c.loop-to-test.true c.requires.2 room limit c.if-v-ge-REFUSED.true c.if-to-names.false (c.read_value-v.ensures.meets room limit); value = λ l. absurd (omega arith) }
 
--- src/lib.rt:93:13
-pub read_members-returns-then-to-end-clause-meets :
-    goal.read_members-returns-then-to-end-clause-meets
-read_members-returns-then-to-end-clause-meets t c = ?
+pub read_members-returns-then-to-end : goal.read_members-returns-then-to-end
+read_members-returns-then-to-end t c =
+    let run_none : let a = c.args in let l = c.read_run-next.new in Turning a.input.now a.nodes.now a.references.now a.bytes.now (by_buckets a.symbols.now a.buckets.now) a.objects.now a.c.now a.start a.end a.names a.levels l.nodes l.references c.loop-to.bytes (by_buckets c.loop-to.symbols c.loop-to.buckets) c.loop-to.objects l.c c.loop-to.to = let r = c.read_run-next in let k = r.ensures in let same : r.result ≡ c.loop-to.to = omega (arith, k.lower_bound.0, c.if-to-next.false) in come_to (turned c.loop-to.invariant r.result k.lower_bound.1 r.auto.nodes r.auto.references refl refl refl refl (λ room limit. k.goes room limit _ _ _)) same in
+    let c-if5 = c.if-to-end in
+    let c-read-value = c.read_value-v in
+    let c-loop-test = c.loop-to-test in
+    let c-args = c.args in
+    let S = run_none in
+    let one : c-args.more ≡ 0 → ⊥ = omega (arith, c-loop-test.true, c-if5.true) in
+    record { meets = λ room limit. value_last S c-args.more c-loop-test.true c.requires.2 c-if5.true room limit (c-read-value.ensures.meets room limit); value = λ l. (λ e. absurd (one e), λ e. c-read-value.ensures.upper_bound l) }
 
--- src/lib.rt:53:5
-pub read_members-loop-to-smaller : goal.read_members-loop-to-smaller
-read_members-loop-to-smaller t c = ?
+pub read_members-offset_bounds-references-to-in-loop-to : goal.read_members-offset_bounds-references-to-in-loop-to
+read_members-offset_bounds-references-to-in-loop-to t c =
+    let R = c.loop-to.invariant in
+    let H = R.held.holds in
+    record { fits = omega (arith, R.within, R.inside, H.counted.count_references, H.laid.references.fits, H.fixed.small.references) }
 
--- src/lib.rt:53:5
+pub read_members-bounds-references-to-in-loop-to : goal.read_members-bounds-references-to-in-loop-to
+read_members-bounds-references-to-in-loop-to t c =
+    let run_none : let a = c.args in let l = c.read_run-next.new in Turning a.input.now a.nodes.now a.references.now a.bytes.now (by_buckets a.symbols.now a.buckets.now) a.objects.now a.c.now a.start a.end a.names a.levels l.nodes l.references c.loop-to.bytes (by_buckets c.loop-to.symbols c.loop-to.buckets) c.loop-to.objects l.c c.loop-to.to = let r = c.read_run-next in let k = r.ensures in let same : r.result ≡ c.loop-to.to = omega (arith, k.lower_bound.0, c.if-to-next.false) in come_to (turned c.loop-to.invariant r.result k.lower_bound.1 r.auto.nodes r.auto.references refl refl refl refl (λ room limit. k.goes room limit _ _ _)) same in
+    let c-if4 = c.if-v-ge-REFUSED in
+    let c-read-value = c.read_value-v in
+    let S = run_none in
+    let v = held {m = λ room. D.read_value _ room 0 _} {m' = λ room. _} S.held c-if4.false (λ room. c-read-value.ensures.meets room 0) in
+    let w = grew {m = λ room. D.read_value _ room 0 _} {m' = λ room. _} S.held c-if4.false (λ room. c-read-value.ensures.meets room 0) in
+    let H = v.holds in
+    omega (arith, c.if-to-end.false, S.within, S.inside, w.references, H.counted.count_references, H.laid.references.fits, H.laid.references.sized)
+
+pub read_members-overflow_add-to-in-loop-to : goal.read_members-overflow_add-to-in-loop-to
+read_members-overflow_add-to-in-loop-to t c =
+    let R = c.loop-to.invariant in
+    let H = R.held.holds in
+    record { fits = omega (arith, R.within, R.inside, H.counted.count_references, H.laid.references.fits, H.fixed.small.references) }
+
 pub read_members-loop-to-preserved : goal.read_members-loop-to-preserved
-read_members-loop-to-preserved t c = ?
+read_members-loop-to-preserved t c =
+    let run_none : let a = c.args in let l = c.read_run-next.new in Turning a.input.now a.nodes.now a.references.now a.bytes.now (by_buckets a.symbols.now a.buckets.now) a.objects.now a.c.now a.start a.end a.names a.levels l.nodes l.references c.loop-to.bytes (by_buckets c.loop-to.symbols c.loop-to.buckets) c.loop-to.objects l.c c.loop-to.to = let r = c.read_run-next in let k = r.ensures in let same : r.result ≡ c.loop-to.to = omega (arith, k.lower_bound.0, c.if-to-next.false) in come_to (turned c.loop-to.invariant r.result k.lower_bound.1 r.auto.nodes r.auto.references refl refl refl refl (λ room limit. k.goes room limit _ _ _)) same in
+    let c-read-value = c.read_value-v in
+    let c-read-run = c.read_run-next in
+    let c-loop = c.loop-to in
+    let S = run_none in
+    let lt : c-loop.to < c.args.end = omega (arith, c.if-to-end.false, S.within) in
+    let k = c-read-value.auto in
+    value_turned S lt c.if-v-ge-REFUSED.false k.nodes k.references k.bytes k.symbols k.buckets k.objects c.if-to-names.false (λ room limit. c-read-value.ensures.meets room limit)
 
--- src/lib.rt:32:1
-pub read_members-returns-clause-meets : goal.read_members-returns-clause-meets
-read_members-returns-clause-meets t c = ?
+pub read_members-returns : goal.read_members-returns
+read_members-returns t c =
+    let c-loop-test = c.loop-to-test in
+    let c-loop = c.loop-to in
+    record { meets = λ room limit. all_turned c-loop.invariant c.args.more c-loop-test.false room limit; value = λ l. (λ e. refl, λ e. absurd (omega (arith, e, c-loop-test.false, c-loop.invariant.within))) }
 
--- src/lib.rt:32:1
-pub read_members-returns-clause-value : goal.read_members-returns-clause-value
-read_members-returns-clause-value t c = ?
+pub read_object-open_node-h-requires : goal.read_object-open_node-h-requires
+read_object-open_node-h-requires t c =
+    (nodes_small c.requires, space_fits c.requires, ten c.requires)
 
--- src/lib.rt:233:9
-pub read_object-returns-then-h-ge-REFUSED-clause-meets :
-    goal.read_object-returns-then-h-ge-REFUSED-clause-meets
-read_object-returns-then-h-ge-REFUSED-clause-meets t c = ?
+pub read_object-returns-then-h-ge-REFUSED : goal.read_object-returns-then-h-ge-REFUSED
+unfolding D.read_object read_instance_variables
+read_object-returns-then-h-ge-REFUSED t c =
+    record { meets = λ room limit. lead_stop c.if-h-ge-REFUSED.true (lead_first _ (c.open_node-h.ensures.by_index _ room limit _ _ _)); upper_bound = λ l. absurd (omega arith) }
 
--- src/lib.rt:235:9
 pub read_object-read_symbol_like-name-requires : goal.read_object-read_symbol_like-name-requires
-read_object-read_symbol_like-name-requires t c = ?
+read_object-read_symbol_like-name-requires t c =
+    let opened_at : let l = c.open_node-h.new in let a = c.args in Open a.input.now (lent l.nodes a.references.now a.bytes.now (by_buckets a.symbols.now a.buckets.now) l.objects) l.c c.open_node-h.result (Unit {0}) = opened c.requires (λ room. (c.open_node-h.ensures.by_index _ room 0 _ _ _).goes c.if-h-ge-REFUSED.false) (c.open_node-h.ensures.upper_bound c.if-h-ge-REFUSED.false) in
+    (_, _, (opened_at).held)
 
--- src/lib.rt:237:9
-pub read_object-returns-then-name-ge-REFUSED-clause-meets :
-    goal.read_object-returns-then-name-ge-REFUSED-clause-meets
-read_object-returns-then-name-ge-REFUSED-clause-meets t c = ?
+pub read_object-returns-then-name-ge-REFUSED : goal.read_object-returns-then-name-ge-REFUSED
+unfolding D.read_object read_instance_variables
+read_object-returns-then-name-ge-REFUSED t c =
+    record { meets = λ room limit. lead_after ((lead_first _ (c.open_node-h.ensures.by_index _ room limit _ _ _)).goes c.if-h-ge-REFUSED.false) (lead_stop c.if-name-ge-REFUSED.true (lead_first _ (c.read_symbol_like-name.ensures.meets room limit _ _))); upper_bound = λ l. absurd (omega arith) }
 
--- src/lib.rt:239:9
 pub read_object-read_words-n-requires : goal.read_object-read_words-n-requires
-read_object-read_words-n-requires t c = ?
+read_object-read_words-n-requires t c =
+    let opened_at : let l = c.open_node-h.new in let a = c.args in Open a.input.now (lent l.nodes a.references.now a.bytes.now (by_buckets a.symbols.now a.buckets.now) l.objects) l.c c.open_node-h.result (Unit {0}) = opened c.requires (λ room. (c.open_node-h.ensures.by_index _ room 0 _ _ _).goes c.if-h-ge-REFUSED.false) (c.open_node-h.ensures.upper_bound c.if-h-ge-REFUSED.false) in
+    let named_at : let l = c.read_symbol_like-name.new in let a = c.args in Open a.input.now (lent l.nodes a.references.now l.bytes (by_buckets l.symbols l.buckets) c.open_node-h.new.objects) l.c c.open_node-h.result (Unit {0}) = open_on (opened_at) (λ room. (c.read_symbol_like-name.ensures.meets room 0 _ _).goes c.if-name-ge-REFUSED.false) in
+    (omega arith, (_, _, _, _, (named_at).held))
 
--- src/lib.rt:241:9
-pub read_object-returns-then-n-ge-REFUSED-clause-meets :
-    goal.read_object-returns-then-n-ge-REFUSED-clause-meets
-read_object-returns-then-n-ge-REFUSED-clause-meets t c = ?
+pub read_object-returns-then-n-ge-REFUSED : goal.read_object-returns-then-n-ge-REFUSED
+unfolding D.read_object read_instance_variables
+read_object-returns-then-n-ge-REFUSED t c =
+    record { meets = λ room limit. lead_after ((lead_first _ (c.open_node-h.ensures.by_index _ room limit _ _ _)).goes c.if-h-ge-REFUSED.false)
+          (lead_after ((lead_first _ (c.read_symbol_like-name.ensures.meets room limit _ _)).goes c.if-name-ge-REFUSED.false)
+          (lead_stop c.if-n-ge-REFUSED.true (c.read_words-n.ensures.leads room limit _ _ _ _ _))); upper_bound = λ l. absurd (omega arith) }
 
--- src/lib.rt:245:9
+pub read_object-overflow_sub-start : goal.read_object-overflow_sub-start
+read_object-overflow_sub-start t c =
+    omega (arith, c.read_words-n.ensures.upper_bound c.if-n-ge-REFUSED.false)
+
 pub read_object-read_members-w-requires : goal.read_object-read_members-w-requires
-read_object-read_members-w-requires t c = ?
+read_object-read_members-w-requires t c =
+    let opened_at : let l = c.open_node-h.new in let a = c.args in Open a.input.now (lent l.nodes a.references.now a.bytes.now (by_buckets a.symbols.now a.buckets.now) l.objects) l.c c.open_node-h.result (Unit {0}) = opened c.requires (λ room. (c.open_node-h.ensures.by_index _ room 0 _ _ _).goes c.if-h-ge-REFUSED.false) (c.open_node-h.ensures.upper_bound c.if-h-ge-REFUSED.false) in
+    let named_at : let l = c.read_symbol_like-name.new in let a = c.args in Open a.input.now (lent l.nodes a.references.now l.bytes (by_buckets l.symbols l.buckets) c.open_node-h.new.objects) l.c c.open_node-h.result (Unit {0}) = open_on (opened_at) (λ room. (c.read_symbol_like-name.ensures.meets room 0 _ _).goes c.if-name-ge-REFUSED.false) in
+    let words_at : let l = c.read_symbol_like-name.new in let w = c.read_words-n.new in let a = c.args in Open a.input.now (lent l.nodes w.references l.bytes (by_buckets l.symbols l.buckets) c.open_node-h.new.objects) w.c c.open_node-h.result (Unit {0}) = open_on (named_at) (λ room. (c.read_words-n.ensures.leads room 0 _ _ _ _ (λ p n. pure p)).goes c.if-n-ge-REFUSED.false) in
+    (down_3 _ t c.decreases, ((inside _ _).0, (inside _ 0).1, no_more, names_any _, (words_at).held))
 
--- src/lib.rt:261:9
-pub read_object-returns-then-w-ge-REFUSED-clause-meets :
-    goal.read_object-returns-then-w-ge-REFUSED-clause-meets
-read_object-returns-then-w-ge-REFUSED-clause-meets t c = ?
+pub read_object-returns-then-w-ge-REFUSED : goal.read_object-returns-then-w-ge-REFUSED
+unfolding D.read_object read_instance_variables
+read_object-returns-then-w-ge-REFUSED t c =
+    let h = c.open_node-h.result in
+    let w = c.read_symbol_like-name.result in
+    let n = c.read_words-n.result in
+    let q = c.read_words-n.ensures.upper_bound c.if-n-ge-REFUSED.false in record { meets = λ room limit.
+          let name = read_symbol_like c.args.input.now room in
+          let inner = D.read_value c.args.input.now room limit c.args.levels in
+          lead_after ((lead_first _ (c.open_node-h.ensures.by_index _ room limit _ _ _)).goes c.if-h-ge-REFUSED.false)
+          (lead_after ((lead_first _ (c.read_symbol_like-name.ensures.meets room limit _ _)).goes c.if-name-ge-REFUSED.false)
+          (contained_stops name inner (object_of name inner h w) 2 _ 0 n _ _ _ (object_rest name inner h _ n _ w (list_parity _ n q.1)) refl q.1 (c.read_words-n.ensures.leads room limit _ _ _ _ _) c.if-n-ge-REFUSED.false (c.read_members-w.ensures.meets room limit) c.if-w-ge-REFUSED.true)); upper_bound = λ l. absurd (omega arith) }
 
--- src/lib.rt:267:9
 pub read_object-overflow_cast-start : goal.read_object-overflow_cast-start
-read_object-overflow_cast-start t c = ?
+read_object-overflow_cast-start t c =
+    let opened_at : let l = c.open_node-h.new in let a = c.args in Open a.input.now (lent l.nodes a.references.now a.bytes.now (by_buckets a.symbols.now a.buckets.now) l.objects) l.c c.open_node-h.result (Unit {0}) = opened c.requires (λ room. (c.open_node-h.ensures.by_index _ room 0 _ _ _).goes c.if-h-ge-REFUSED.false) (c.open_node-h.ensures.upper_bound c.if-h-ge-REFUSED.false) in
+    let named_at : let l = c.read_symbol_like-name.new in let a = c.args in Open a.input.now (lent l.nodes a.references.now l.bytes (by_buckets l.symbols l.buckets) c.open_node-h.new.objects) l.c c.open_node-h.result (Unit {0}) = open_on (opened_at) (λ room. (c.read_symbol_like-name.ensures.meets room 0 _ _).goes c.if-name-ge-REFUSED.false) in
+    let words_at : let l = c.read_symbol_like-name.new in let w = c.read_words-n.new in let a = c.args in Open a.input.now (lent l.nodes w.references l.bytes (by_buckets l.symbols l.buckets) c.open_node-h.new.objects) w.c c.open_node-h.result (Unit {0}) = open_on (named_at) (λ room. (c.read_words-n.ensures.leads room 0 _ _ _ _ (λ p n. pure p)).goes c.if-n-ge-REFUSED.false) in
+    let H = (words_at).held.holds in
+    omega (arith, (c.read_words-n.ensures.upper_bound c.if-n-ge-REFUSED.false).1, H.counted.count_references, H.laid.references.fits, H.fixed.small.references)
 
--- src/lib.rt:263:5
 pub read_object-fill_node-requires : goal.read_object-fill_node-requires
-read_object-fill_node-requires t c = ?
+read_object-fill_node-requires t c =
+    let opened_at : let l = c.open_node-h.new in let a = c.args in Open a.input.now (lent l.nodes a.references.now a.bytes.now (by_buckets a.symbols.now a.buckets.now) l.objects) l.c c.open_node-h.result (Unit {0}) = opened c.requires (λ room. (c.open_node-h.ensures.by_index _ room 0 _ _ _).goes c.if-h-ge-REFUSED.false) (c.open_node-h.ensures.upper_bound c.if-h-ge-REFUSED.false) in
+    let named_at : let l = c.read_symbol_like-name.new in let a = c.args in Open a.input.now (lent l.nodes a.references.now l.bytes (by_buckets l.symbols l.buckets) c.open_node-h.new.objects) l.c c.open_node-h.result (Unit {0}) = open_on (opened_at) (λ room. (c.read_symbol_like-name.ensures.meets room 0 _ _).goes c.if-name-ge-REFUSED.false) in
+    let words_at : let l = c.read_symbol_like-name.new in let w = c.read_words-n.new in let a = c.args in Open a.input.now (lent l.nodes w.references l.bytes (by_buckets l.symbols l.buckets) c.open_node-h.new.objects) w.c c.open_node-h.result (Unit {0}) = open_on (named_at) (λ room. (c.read_words-n.ensures.leads room 0 _ _ _ _ (λ p n. pure p)).goes c.if-n-ge-REFUSED.false) in
+    let members_at : let l = c.read_members-w.new in Open c.args.input.now (lent l.nodes l.references l.bytes (by_buckets l.symbols l.buckets) l.objects) l.c c.open_node-h.result (Unit {0}) = open_on (words_at) (λ room. (c.read_members-w.ensures.meets room 0).goes c.if-w-ge-REFUSED.false) in
+    let O = members_at in
+    (slot_room O.held O.below, c.if-h-ge-REFUSED.false)
 
--- src/lib.rt:215:1
-pub read_object-returns-clause-meets : goal.read_object-returns-clause-meets
-read_object-returns-clause-meets t c = ?
+pub read_object-returns : goal.read_object-returns
+unfolding D.read_object read_instance_variables kind words
+read_object-returns t c =
+    let opened_at : let l = c.open_node-h.new in let a = c.args in Open a.input.now (lent l.nodes a.references.now a.bytes.now (by_buckets a.symbols.now a.buckets.now) l.objects) l.c c.open_node-h.result (Unit {0}) = opened c.requires (λ room. (c.open_node-h.ensures.by_index _ room 0 _ _ _).goes c.if-h-ge-REFUSED.false) (c.open_node-h.ensures.upper_bound c.if-h-ge-REFUSED.false) in
+    let named_at : let l = c.read_symbol_like-name.new in let a = c.args in Open a.input.now (lent l.nodes a.references.now l.bytes (by_buckets l.symbols l.buckets) c.open_node-h.new.objects) l.c c.open_node-h.result (Unit {0}) = open_on (opened_at) (λ room. (c.read_symbol_like-name.ensures.meets room 0 _ _).goes c.if-name-ge-REFUSED.false) in
+    let words_at : let l = c.read_symbol_like-name.new in let w = c.read_words-n.new in let a = c.args in Open a.input.now (lent l.nodes w.references l.bytes (by_buckets l.symbols l.buckets) c.open_node-h.new.objects) w.c c.open_node-h.result (Unit {0}) = open_on (named_at) (λ room. (c.read_words-n.ensures.leads room 0 _ _ _ _ (λ p n. pure p)).goes c.if-n-ge-REFUSED.false) in
+    let members_at : let l = c.read_members-w.new in Open c.args.input.now (lent l.nodes l.references l.bytes (by_buckets l.symbols l.buckets) l.objects) l.c c.open_node-h.result (Unit {0}) = open_on (words_at) (λ room. (c.read_members-w.ensures.meets room 0).goes c.if-w-ge-REFUSED.false) in
+    let O = members_at in
+    let h = c.open_node-h.result in
+    let w = c.read_symbol_like-name.result in
+    let n = c.read_words-n.result in
+    let q = c.read_words-n.ensures.upper_bound c.if-n-ge-REFUSED.false in record { meets = λ room limit.
+          let name = read_symbol_like c.args.input.now room in
+          let inner = D.read_value c.args.input.now room limit c.args.levels in
+          lead_after ((lead_first _ (c.open_node-h.ensures.by_index _ room limit _ _ _)).goes c.if-h-ge-REFUSED.false)
+          (lead_after ((lead_first _ (c.read_symbol_like-name.ensures.meets room limit _ _)).goes c.if-name-ge-REFUSED.false)
+          (contained name inner (object_of name inner h w) 2 _ 0 n _ _ _ (object_rest name inner h _ n _ w (list_parity _ n q.1)) refl q.1 (c.read_words-n.ensures.leads room limit _ _ _ _ _) c.if-n-ge-REFUSED.false (c.read_members-w.ensures.meets room limit) c.if-w-ge-REFUSED.false
+          (c.fill_node.ensures.by_index _ room limit (object _ n w) _ _ _ _ _ refl (other_kind (object 0 0 0) refl) O.below (λ _. O.free tt)))); upper_bound = λ l. omega (arith, c.fill_node.ensures.value, O.below) }
 
--- src/lib.rt:215:1
-pub read_object-returns-clause-upper_bound : goal.read_object-returns-clause-upper_bound
-read_object-returns-clause-upper_bound t c = ?
+pub read_value-returns-then-levels-eq0 : goal.read_value-returns-then-levels-eq0
+read_value-returns-then-levels-eq0 t c =
+    record { meets = λ room limit. level_missing limit c.args.levels c.if-levels-eq0.true; upper_bound = λ l. absurd (omega arith) }
 
--- src/lib.rt:406:9
-pub read_value-returns-then-levels-eq0-clause-meets :
-    goal.read_value-returns-then-levels-eq0-clause-meets
-read_value-returns-then-levels-eq0-clause-meets t c = ?
+pub read_value-read_class-class-requires : goal.read_value-read_class-class-requires
+read_value-read_class-class-requires t c =
+    (_, _, c.requires)
 
--- src/lib.rt:410:9
-pub read_value-returns-then-class-ge-REFUSED-clause-meets :
-    goal.read_value-returns-then-class-ge-REFUSED-clause-meets
-read_value-returns-then-class-ge-REFUSED-clause-meets t c = ?
+pub read_value-returns-then-class-ge-REFUSED : goal.read_value-returns-then-class-ge-REFUSED
+read_value-returns-then-class-ge-REFUSED t c =
+    let k = c.read_class-class.ensures in
+    record { meets = λ room limit. class_refused c.args.levels _ c.if-levels-eq0.false (k.meets room limit _ _) c.if-class-ge-REFUSED.true; upper_bound = λ l. absurd (omega arith) }
 
--- src/lib.rt:414:9
-pub read_value-returns-then-input-at-clause-meets :
-    goal.read_value-returns-then-input-at-clause-meets
-read_value-returns-then-input-at-clause-meets t c = ?
+pub read_value-returns-then-input-at : goal.read_value-returns-then-input-at
+read_value-returns-then-input-at t c =
+    let k = c.read_class-class.ensures in
+    record { meets = λ room limit. no_kind c.args.levels _ c.if-levels-eq0.false (k.meets room limit _ _) c.if-class-ge-REFUSED.false c.if-input-at.true; upper_bound = λ l. absurd (omega arith) }
 
--- src/lib.rt:419:29
 pub read_value-read_array-requires : goal.read_value-read_array-requires
-read_value-read_array-requires t c = ?
+read_value-read_array-requires t c =
+    let k = c.read_class-class.ensures in
+    let H = kind_held c.requires c.if-class-ge-REFUSED.false (λ room. k.meets room 0 _ _) c.if-input-at.false in
+    (down_0 _ t c.if-levels-eq0.false c.decreases, H)
 
--- src/lib.rt:431:54
 pub read_value-read_hash-requires : goal.read_value-read_hash-requires
-read_value-read_hash-requires t c = ?
+read_value-read_hash-requires t c =
+    let k = c.read_class-class.ensures in
+    let H = kind_held c.requires c.if-class-ge-REFUSED.false (λ room. k.meets room 0 _ _) c.if-input-at.false in
+    (down_0 _ t c.if-levels-eq0.false c.decreases, (defaults_one c.in-123.is c.defaults.ensures.0 c.defaults.ensures.1, H))
 
--- src/lib.rt:444:30
 pub read_value-read_object-requires : goal.read_value-read_object-requires
-read_value-read_object-requires t c = ?
+read_value-read_object-requires t c =
+    let k = c.read_class-class.ensures in
+    let H = kind_held c.requires c.if-class-ge-REFUSED.false (λ room. k.meets room 0 _ _) c.if-input-at.false in
+    (down_0 _ t c.if-levels-eq0.false c.decreases, H)
 
--- src/lib.rt:455:42
 pub read_value-read_variables-requires : goal.read_value-read_variables-requires
-read_value-read_variables-requires t c = ?
+read_value-read_variables-requires t c =
+    let k = c.read_class-class.ensures in
+    let H = kind_held c.requires c.if-class-ge-REFUSED.false (λ room. k.meets room 0 _ _) c.if-input-at.false in
+    (down_0 _ t c.if-levels-eq0.false c.decreases, H)
 
--- src/lib.rt:466:14
 pub read_value-read_leaf-requires : goal.read_value-read_leaf-requires
-read_value-read_leaf-requires t c = ?
+read_value-read_leaf-requires t c =
+    let k = c.read_class-class.ensures in
+    let H = kind_held c.requires c.if-class-ge-REFUSED.false (λ room. k.meets room 0 _ _) c.if-input-at.false in
+    (_, H)
 
--- src/lib.rt:389:1
-pub read_value-returns-in-91-clause-meets : goal.read_value-returns-in-91-clause-meets
-read_value-returns-in-91-clause-meets t c = ?
+pub read_value-returns-in-91 : goal.read_value-returns-in-91
+read_value-returns-in-91 t c =
+    let a = c.args in
+    let k = c.read_class-class.ensures in
+    let l = c.if-class-ge-REFUSED.false in record { meets = λ room limit.
+          let inner = D.read_value a.input.now room limit (a.levels - 1) in
+          lead_after (kind_led a.levels _ c.if-levels-eq0.false (k.meets room limit _ _) l c.if-input-at.false)
+          (lead_as (array_valued a.input.now room inner _ c.in-91.is) (c.read_array.ensures.meets room limit)); upper_bound = c.read_array.ensures.upper_bound }
 
--- src/lib.rt:389:1
-pub read_value-returns-in-123-clause-meets : goal.read_value-returns-in-123-clause-meets
-read_value-returns-in-123-clause-meets t c = ?
+pub read_value-returns-in-123 : goal.read_value-returns-in-123
+read_value-returns-in-123 t c =
+    let a = c.args in
+    let k = c.read_class-class.ensures in
+    let l = c.if-class-ge-REFUSED.false in record { meets = λ room limit.
+          let inner = D.read_value a.input.now room limit (a.levels - 1) in
+          lead_after (kind_led a.levels _ c.if-levels-eq0.false (k.meets room limit _ _) l c.if-input-at.false)
+          (hash_headed c.in-123.is c.defaults.ensures.0 c.defaults.ensures.1 inner _ (c.read_hash.ensures.meets room limit)); upper_bound = c.read_hash.ensures.upper_bound }
 
--- src/lib.rt:389:1
-pub read_value-returns-in-111-clause-meets : goal.read_value-returns-in-111-clause-meets
-read_value-returns-in-111-clause-meets t c = ?
+pub read_value-returns-in-111 : goal.read_value-returns-in-111
+unfolding head pick value_of wrappable
+read_value-returns-in-111 t c =
+    let a = c.args in
+    let k = c.read_class-class.ensures in
+    let l = c.if-class-ge-REFUSED.false in record { meets = λ room limit.
+          let inner = D.read_value a.input.now room limit (a.levels - 1) in
+          lead_after (kind_led a.levels _ c.if-levels-eq0.false (k.meets room limit _ _) l c.if-input-at.false)
+          (lead_as (none_valued a.input.now room inner _ (k.follows l) c.in-111.is refl) (c.read_object.ensures.meets room limit)); upper_bound = c.read_object.ensures.upper_bound }
 
--- src/lib.rt:389:1
-pub read_value-returns-in-73-clause-meets : goal.read_value-returns-in-73-clause-meets
-read_value-returns-in-73-clause-meets t c = ?
+pub read_value-returns-in-73 : goal.read_value-returns-in-73
+unfolding head pick value_of wrappable
+read_value-returns-in-73 t c =
+    let a = c.args in
+    let k = c.read_class-class.ensures in
+    let l = c.if-class-ge-REFUSED.false in record { meets = λ room limit.
+          let inner = D.read_value a.input.now room limit (a.levels - 1) in
+          lead_after (kind_led a.levels _ c.if-levels-eq0.false (k.meets room limit _ _) l c.if-input-at.false)
+          (lead_as (none_valued a.input.now room inner _ (k.follows l) c.in-73.is refl) (c.read_variables.ensures.meets room limit)); upper_bound = c.read_variables.ensures.upper_bound }
 
--- src/lib.rt:389:1
-pub read_value-returns-in_default-clause-meets : goal.read_value-returns-in_default-clause-meets
-read_value-returns-in_default-clause-meets t c = ?
+pub read_value-returns-in_default : goal.read_value-returns-in_default
+read_value-returns-in_default t c =
+    let a = c.args in
+    let k = c.read_class-class.ensures in
+    let l = c.if-class-ge-REFUSED.false in record { meets = λ room limit.
+          let inner = D.read_value a.input.now room limit (a.levels - 1) in
+          lead_after (kind_led a.levels _ c.if-levels-eq0.false (k.meets room limit _ _) l c.if-input-at.false)
+          (let o = c.in_default.in_default-own.rest in
+          let n = leaf_kind _ _ (k.follows l) o.0.0.0.1 o.0.0.1 o.0.1 o.1 in
+          c.read_leaf.ensures.meets room limit inner _ n.0 n.1); upper_bound = c.read_leaf.ensures.upper_bound }
 
--- src/lib.rt:347:9
 pub read_variables-read_inner-h-requires : goal.read_variables-read_inner-h-requires
-read_variables-read_inner-h-requires t c = ?
+read_variables-read_inner-h-requires t c =
+    (down_inner _ t c.decreases, c.requires)
 
--- src/lib.rt:359:9
-pub read_variables-returns-then-h-ge-REFUSED-clause-meets :
-    goal.read_variables-returns-then-h-ge-REFUSED-clause-meets
-read_variables-returns-then-h-ge-REFUSED-clause-meets t c = ?
+pub read_variables-returns-then-h-ge-REFUSED : goal.read_variables-returns-then-h-ge-REFUSED
+read_variables-returns-then-h-ge-REFUSED t c =
+    let a = c.args in
+    record { meets = λ room limit. lead_as (variables_after a.input.now room (D.read_value a.input.now room limit a.levels)) (lead_stop c.if-h-ge-REFUSED.true (lead_first _ (c.read_inner-h.ensures.meets room limit))); upper_bound = λ l. absurd (omega arith) }
 
--- src/lib.rt:361:9
 pub read_variables-read_words-n-requires : goal.read_variables-read_words-n-requires
-read_variables-read_words-n-requires t c = ?
+read_variables-read_words-n-requires t c =
+    let opened_at : let l = c.read_inner-h.new in Open c.args.input.now (lent l.nodes l.references l.bytes (by_buckets l.symbols l.buckets) l.objects) l.c c.read_inner-h.result ⊥ = opened_value c.requires (λ room. (c.read_inner-h.ensures.meets room 0).goes c.if-h-ge-REFUSED.false) (c.read_inner-h.ensures.upper_bound c.if-h-ge-REFUSED.false) in
+    (omega arith, (_, _, _, _, (opened_at).held))
 
--- src/lib.rt:363:9
-pub read_variables-returns-then-n-ge-REFUSED-clause-meets :
-    goal.read_variables-returns-then-n-ge-REFUSED-clause-meets
-read_variables-returns-then-n-ge-REFUSED-clause-meets t c = ?
+pub read_variables-returns-then-n-ge-REFUSED : goal.read_variables-returns-then-n-ge-REFUSED
+unfolding read_instance_variables
+read_variables-returns-then-n-ge-REFUSED t c =
+    let a = c.args in
+    record { meets = λ room limit. lead_as (variables_after a.input.now room (D.read_value a.input.now room limit a.levels)) (lead_after ((lead_first _ (c.read_inner-h.ensures.meets room limit)).goes c.if-h-ge-REFUSED.false) (lead_stop c.if-n-ge-REFUSED.true (c.read_words-n.ensures.leads room limit _ _ _ _ _))); upper_bound = λ l. absurd (omega arith) }
 
--- src/lib.rt:367:9
+pub read_variables-overflow_sub-start : goal.read_variables-overflow_sub-start
+read_variables-overflow_sub-start t c =
+    omega (arith, c.read_words-n.ensures.upper_bound c.if-n-ge-REFUSED.false)
+
 pub read_variables-read_members-done-requires : goal.read_variables-read_members-done-requires
-read_variables-read_members-done-requires t c = ?
+read_variables-read_members-done-requires t c =
+    let opened_at : let l = c.read_inner-h.new in Open c.args.input.now (lent l.nodes l.references l.bytes (by_buckets l.symbols l.buckets) l.objects) l.c c.read_inner-h.result ⊥ = opened_value c.requires (λ room. (c.read_inner-h.ensures.meets room 0).goes c.if-h-ge-REFUSED.false) (c.read_inner-h.ensures.upper_bound c.if-h-ge-REFUSED.false) in
+    let words_at : let l = c.read_inner-h.new in let w = c.read_words-n.new in let a = c.args in Open a.input.now (lent l.nodes w.references l.bytes (by_buckets l.symbols l.buckets) l.objects) w.c c.read_inner-h.result ⊥ = open_on (opened_at) (λ room. (c.read_words-n.ensures.leads room 0 _ _ _ _ (λ p n. pure p)).goes c.if-n-ge-REFUSED.false) in
+    (down_3 _ t c.decreases, ((inside _ _).0, (inside _ 0).1, no_more, names_any _, (words_at).held))
 
--- src/lib.rt:383:9
-pub read_variables-returns-then-done-ge-REFUSED-clause-meets :
-    goal.read_variables-returns-then-done-ge-REFUSED-clause-meets
-read_variables-returns-then-done-ge-REFUSED-clause-meets t c = ?
+pub read_variables-returns-then-done-ge-REFUSED : goal.read_variables-returns-then-done-ge-REFUSED
+unfolding read_instance_variables
+read_variables-returns-then-done-ge-REFUSED t c =
+    let h = c.read_inner-h.result in
+    let n = c.read_words-n.result in
+    let q = c.read_words-n.ensures.upper_bound c.if-n-ge-REFUSED.false in record { meets = λ room limit.
+          let name = read_symbol_like c.args.input.now room in
+          let inner = D.read_value c.args.input.now room limit c.args.levels in
+          lead_as (variables_after c.args.input.now room inner)
+          (lead_after ((lead_first _ (c.read_inner-h.ensures.meets room limit)).goes c.if-h-ge-REFUSED.false)
+          (contained_stops name inner (variables_of name inner h) 2 _ 0 n _ _ _ (variables_rest name inner h _ n _ (list_parity _ n q.1)) refl q.1 (c.read_words-n.ensures.leads room limit _ _ _ _ _) c.if-n-ge-REFUSED.false (c.read_members-done.ensures.meets room limit) c.if-done-ge-REFUSED.true)); upper_bound = λ l. absurd (omega arith) }
 
--- src/lib.rt:385:29
 pub read_variables-overflow_cast-start : goal.read_variables-overflow_cast-start
-read_variables-overflow_cast-start t c = ?
+read_variables-overflow_cast-start t c =
+    let opened_at : let l = c.read_inner-h.new in Open c.args.input.now (lent l.nodes l.references l.bytes (by_buckets l.symbols l.buckets) l.objects) l.c c.read_inner-h.result ⊥ = opened_value c.requires (λ room. (c.read_inner-h.ensures.meets room 0).goes c.if-h-ge-REFUSED.false) (c.read_inner-h.ensures.upper_bound c.if-h-ge-REFUSED.false) in
+    let words_at : let l = c.read_inner-h.new in let w = c.read_words-n.new in let a = c.args in Open a.input.now (lent l.nodes w.references l.bytes (by_buckets l.symbols l.buckets) l.objects) w.c c.read_inner-h.result ⊥ = open_on (opened_at) (λ room. (c.read_words-n.ensures.leads room 0 _ _ _ _ (λ p n. pure p)).goes c.if-n-ge-REFUSED.false) in
+    let H = (words_at).held.holds in
+    omega (arith, (c.read_words-n.ensures.upper_bound c.if-n-ge-REFUSED.false).1, H.counted.count_references, H.laid.references.fits, H.fixed.small.references)
 
--- src/lib.rt:385:5
 pub read_variables-set_variables-requires : goal.read_variables-set_variables-requires
-read_variables-set_variables-requires t c = ?
+read_variables-set_variables-requires t c =
+    let opened_at : let l = c.read_inner-h.new in Open c.args.input.now (lent l.nodes l.references l.bytes (by_buckets l.symbols l.buckets) l.objects) l.c c.read_inner-h.result ⊥ = opened_value c.requires (λ room. (c.read_inner-h.ensures.meets room 0).goes c.if-h-ge-REFUSED.false) (c.read_inner-h.ensures.upper_bound c.if-h-ge-REFUSED.false) in
+    let words_at : let l = c.read_inner-h.new in let w = c.read_words-n.new in let a = c.args in Open a.input.now (lent l.nodes w.references l.bytes (by_buckets l.symbols l.buckets) l.objects) w.c c.read_inner-h.result ⊥ = open_on (opened_at) (λ room. (c.read_words-n.ensures.leads room 0 _ _ _ _ (λ p n. pure p)).goes c.if-n-ge-REFUSED.false) in
+    let members_at : let l = c.read_members-done.new in Open c.args.input.now (lent l.nodes l.references l.bytes (by_buckets l.symbols l.buckets) l.objects) l.c c.read_inner-h.result ⊥ = open_on (words_at) (λ room. (c.read_members-done.ensures.meets room 0).goes c.if-done-ge-REFUSED.false) in
+    let O = members_at in
+    (slot_room O.held O.below, c.if-h-ge-REFUSED.false)
 
--- src/lib.rt:331:1
-pub read_variables-returns-clause-meets : goal.read_variables-returns-clause-meets
-read_variables-returns-clause-meets t c = ?
-
--- src/lib.rt:331:1
-pub read_variables-returns-clause-upper_bound : goal.read_variables-returns-clause-upper_bound
-read_variables-returns-clause-upper_bound t c = ?
+pub read_variables-returns : goal.read_variables-returns
+unfolding read_instance_variables
+read_variables-returns t c =
+    let opened_at : let l = c.read_inner-h.new in Open c.args.input.now (lent l.nodes l.references l.bytes (by_buckets l.symbols l.buckets) l.objects) l.c c.read_inner-h.result ⊥ = opened_value c.requires (λ room. (c.read_inner-h.ensures.meets room 0).goes c.if-h-ge-REFUSED.false) (c.read_inner-h.ensures.upper_bound c.if-h-ge-REFUSED.false) in
+    let words_at : let l = c.read_inner-h.new in let w = c.read_words-n.new in let a = c.args in Open a.input.now (lent l.nodes w.references l.bytes (by_buckets l.symbols l.buckets) l.objects) w.c c.read_inner-h.result ⊥ = open_on (opened_at) (λ room. (c.read_words-n.ensures.leads room 0 _ _ _ _ (λ p n. pure p)).goes c.if-n-ge-REFUSED.false) in
+    let members_at : let l = c.read_members-done.new in Open c.args.input.now (lent l.nodes l.references l.bytes (by_buckets l.symbols l.buckets) l.objects) l.c c.read_inner-h.result ⊥ = open_on (words_at) (λ room. (c.read_members-done.ensures.meets room 0).goes c.if-done-ge-REFUSED.false) in
+    let O = members_at in
+    let h = c.read_inner-h.result in
+    let n = c.read_words-n.result in
+    let q = c.read_words-n.ensures.upper_bound c.if-n-ge-REFUSED.false in record { meets = λ room limit.
+          let name = read_symbol_like c.args.input.now room in
+          let inner = D.read_value c.args.input.now room limit c.args.levels in
+          lead_as (variables_after c.args.input.now room inner)
+          (lead_after ((lead_first _ (c.read_inner-h.ensures.meets room limit)).goes c.if-h-ge-REFUSED.false)
+          (contained name inner (variables_of name inner h) 2 _ 0 n _ _ _ (variables_rest name inner h _ n _ (list_parity _ n q.1)) refl q.1 (c.read_words-n.ensures.leads room limit _ _ _ _ _) c.if-n-ge-REFUSED.false (c.read_members-done.ensures.meets room limit) c.if-done-ge-REFUSED.false
+          (c.set_variables.ensures.by_index _ room limit _ _ _ _ _ O.below))); upper_bound = λ l. omega (arith, c.set_variables.ensures.value l, O.below) }
