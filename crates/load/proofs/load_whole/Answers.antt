@@ -8,25 +8,6 @@ use Rattle.value_reader.specs.Root.{whole}
 use Rattle.load.proofs.Whole.{held_begin, not_taken, loaded, load_refused, lists_same, emptied}
 use Rattle.load.proofs.load_whole.Goals as goal
 
--- what is held after the root value
-held_root : (c : tie.Else2) →
-    let c25 = c.before.before.before.before.before.before.before.before.before.before.before.before.before.before.before.before.before.before.before.before.before.before.before.before.before in
-    let c50 = c25.before.before.before.before.before.before.before.before.before.before.before.before.before.before.before.before.before.before.before.before.before.before.before.before.before in
-    let k = c25.read-root.new.1 in
-    Held c50.args.input.now (lent k.0 k.1.0 k.1.1.0 (by_buckets k.1.1.1.0 k.1.1.1.1.1.0) k.1.1.1.1.0) k.1.1.1.1.1.1.0
-held_root c =
-    let c25 = c.before.before.before.before.before.before.before.before.before.before.before.before.before.before.before.before.before.before.before.before.before.before.before.before.before in
-    let c35 = c25.before.before.before.before.before.before.before.before.before.before in
-    let c39 = c35.before.before.before.before in
-    let c41 = c39.before.before in
-    let c42 = c41.before in
-    let c50 = c42.before.before.before.before.before.before.before.before in
-    let a = c50.args in
-    let p = c50.requires in
-    let T = lists a.nodes.now a.references.now a.bytes.now a.symbols.now a.objects.now in
-    let H = held_begin a.input.now T a.buckets.now a.counted a.wrong (c42.wrong-slice.ensures.1 c41.if1.false) p.0 p.1 c39.put-node.ensures (emptied a.buckets.now a.buckets.now c35.zero-words.ensures refl) in
-    held {m = λ room. whole a.input.now room a.limit} {m' = λ room. _} H c.if2.false (λ room. c25.read-root.ensures.0 room)
-
 pub returns-then-w-ne0 : goal.returns-then-w-ne0
 returns-then-w-ne0 c =
     let a = c.args in
@@ -73,37 +54,61 @@ pub returns-then-h-ge-REFUSED : goal.returns-then-h-ge-REFUSED
 returns-then-h-ge-REFUSED c =
     let a = c.args in
     let T = lists a.nodes.now a.references.now a.bytes.now a.symbols.now a.objects.now in
-    let k = c.read_root-h.new.nodes in
-    let n = c.read_root-h.auto.nodes in
+    let k = c.read_root-h.new in
+    let n = c.read_root-h.auto in
     let w = c.wrong_slice-w.ensures in
     let e = load_refused a.input.now T a.buckets.now a.limit a.counted a.wrong _ w.value c.if-w-ne0.false (w.allowed c.if-w-ne0.false) c.requires.0 c.requires.1 c.put_node.ensures (emptied a.buckets.now a.buckets.now c.zero_words.ensures refl) (c.read_root-h.ensures.meets (room_of T)) c.if-h-ge-REFUSED.true c.refusal_of.ensures c.refused-then-h-ge-REFUSED.ensures
     (lists_same
-    (emptied k.0 a.nodes.now c.zero_words-then-h-ge-REFUSED.ensures (n.0 ∙ c.put_node.auto.nodes))
-    (emptied k.1.0 a.references.now c.zero_words-then-h-ge-REFUSED-2.ensures n.1.0)
-    (emptied k.1.1.0 a.bytes.now c.zero_bytes.ensures n.1.1.0)
-    (emptied k.1.1.1.0 a.symbols.now c.zero_words-2.ensures n.1.1.1.0)
-    (emptied k.1.1.1.1.0 a.objects.now c.zero_words-3.ensures n.1.1.1.1.0))
-    (emptied k.1.1.1.1.1.0 a.buckets.now c.zero_words-4.ensures (n.1.1.1.1.1.0 ∙ c.zero_words.auto.words)) in
+    (emptied k.nodes a.nodes.now c.zero_words-then-h-ge-REFUSED.ensures (n.nodes ∙ c.put_node.auto.nodes))
+    (emptied k.references a.references.now c.zero_words-then-h-ge-REFUSED-2.ensures n.references)
+    (emptied k.bytes a.bytes.now c.zero_bytes.ensures n.bytes)
+    (emptied k.symbols a.symbols.now c.zero_words-2.ensures n.symbols)
+    (emptied k.objects a.objects.now c.zero_words-3.ensures n.objects))
+    (emptied k.buckets a.buckets.now c.zero_words-4.ensures (n.buckets ∙ c.zero_words.auto.words)) in
     record { objects_after = e.0; objects_after_2 = e.1; buckets_after = e.2 }
 
 pub overflow_mul-c : goal.overflow_mul-c
 overflow_mul-c c =
-    let G = (held_root c).holds in
+    -- what is held after the root value
+    let a = c.args in
+    let k = c.read_root-h.new in
+    let T = lists a.nodes.now a.references.now a.bytes.now a.symbols.now a.objects.now in
+    let H = held_begin a.input.now T a.buckets.now a.counted a.wrong (c.wrong_slice-w.ensures.allowed c.if-w-ne0.false) c.requires.0 c.requires.1 c.put_node.ensures (emptied a.buckets.now a.buckets.now c.zero_words.ensures refl) in
+    let root : Held a.input.now (lent k.nodes k.references k.bytes (by_buckets k.symbols k.buckets) k.objects) k.c = held {m = λ room. whole a.input.now room a.limit} {m' = λ room. _} H c.if-h-ge-REFUSED.false (λ room. c.read_root-h.ensures.meets room) in
+    let G = root.holds in
     record { fits = omega (arith, G.counted.count_nodes, G.counted.room_nodes, G.fixed.small.nodes) }
 
 pub zero_words-requires-5 : goal.zero_words-requires-5
 zero_words-requires-5 c =
-    let G = (held_root c).holds in
+    -- what is held after the root value
+    let a = c.args in
+    let k = c.read_root-h.new in
+    let T = lists a.nodes.now a.references.now a.bytes.now a.symbols.now a.objects.now in
+    let H = held_begin a.input.now T a.buckets.now a.counted a.wrong (c.wrong_slice-w.ensures.allowed c.if-w-ne0.false) c.requires.0 c.requires.1 c.put_node.ensures (emptied a.buckets.now a.buckets.now c.zero_words.ensures refl) in
+    let root : Held a.input.now (lent k.nodes k.references k.bytes (by_buckets k.symbols k.buckets) k.objects) k.c = held {m = λ room. whole a.input.now room a.limit} {m' = λ room. _} H c.if-h-ge-REFUSED.false (λ room. c.read_root-h.ensures.meets room) in
+    let G = root.holds in
     omega (arith, G.counted.count_nodes, G.counted.room_nodes, G.laid.nodes.sized)
 
 pub zero_words-requires-6 : goal.zero_words-requires-6
 zero_words-requires-6 c =
-    let G = (held_root c5).holds in
+    -- what is held after the root value
+    let a = c.args in
+    let k = c.read_root-h.new in
+    let T = lists a.nodes.now a.references.now a.bytes.now a.symbols.now a.objects.now in
+    let H = held_begin a.input.now T a.buckets.now a.counted a.wrong (c.wrong_slice-w.ensures.allowed c.if-w-ne0.false) c.requires.0 c.requires.1 c.put_node.ensures (emptied a.buckets.now a.buckets.now c.zero_words.ensures refl) in
+    let root : Held a.input.now (lent k.nodes k.references k.bytes (by_buckets k.symbols k.buckets) k.objects) k.c = held {m = λ room. whole a.input.now room a.limit} {m' = λ room. _} H c.if-h-ge-REFUSED.false (λ room. c.read_root-h.ensures.meets room) in
+    let G = root.holds in
     omega (arith, G.counted.count_references, G.laid.references.fits, G.laid.references.sized)
 
 pub zero_bytes-requires-2 : goal.zero_bytes-requires-2
 zero_bytes-requires-2 c =
-    let G = (held_root c9).holds in
+    -- what is held after the root value
+    let a = c.args in
+    let k = c.read_root-h.new in
+    let T = lists a.nodes.now a.references.now a.bytes.now a.symbols.now a.objects.now in
+    let H = held_begin a.input.now T a.buckets.now a.counted a.wrong (c.wrong_slice-w.ensures.allowed c.if-w-ne0.false) c.requires.0 c.requires.1 c.put_node.ensures (emptied a.buckets.now a.buckets.now c.zero_words.ensures refl) in
+    let root : Held a.input.now (lent k.nodes k.references k.bytes (by_buckets k.symbols k.buckets) k.objects) k.c = held {m = λ room. whole a.input.now room a.limit} {m' = λ room. _} H c.if-h-ge-REFUSED.false (λ room. c.read_root-h.ensures.meets room) in
+    let G = root.holds in
     omega (arith, G.counted.count_bytes, G.laid.bytes.fits, G.laid.bytes.sized)
 
 pub shape_of-nodes : goal.shape_of-nodes
@@ -134,15 +139,15 @@ pub returns : goal.returns
 returns c =
     let a = c.args in
     let T = lists a.nodes.now a.references.now a.bytes.now a.symbols.now a.objects.now in
-    let k = c.read_root-h.new.nodes in
-    let n = c.read_root-h.auto.nodes in
+    let k = c.read_root-h.new in
+    let n = c.read_root-h.auto in
     let w = c.wrong_slice-w.ensures in
     let e = loaded a.input.now T a.buckets.now a.limit a.counted a.wrong _ w.value c.if-w-ne0.false (w.allowed c.if-w-ne0.false) c.requires.0 c.requires.1 c.put_node.ensures (emptied a.buckets.now a.buckets.now c.zero_words.ensures refl) (c.read_root-h.ensures.meets (room_of T)) c.compared.ensures c.if-h-ge-REFUSED.false
     c.zero_words-5.ensures
     c.zero_words-6.ensures
     c.zero_bytes-2.ensures
-    (emptied k.1.1.1.0 a.symbols.now c.zero_words-2.ensures n.1.1.1.0)
-    (emptied k.1.1.1.1.0 a.objects.now c.zero_words-3.ensures n.1.1.1.1.0)
-    (emptied k.1.1.1.1.1.0 a.buckets.now c.zero_words-4.ensures (n.1.1.1.1.1.0 ∙ c.zero_words.auto.words))
-    (n.1.1.1.1.1.0 ∙ c.zero_words.auto.words) in
+    (emptied k.symbols a.symbols.now c.zero_words-2.ensures n.symbols)
+    (emptied k.objects a.objects.now c.zero_words-3.ensures n.objects)
+    (emptied k.buckets a.buckets.now c.zero_words-4.ensures (n.buckets ∙ c.zero_words.auto.words))
+    (n.buckets ∙ c.zero_words.auto.words) in
     record { objects_after = e.0; objects_after_2 = e.1; buckets_after = e.2 }
