@@ -1,5 +1,6 @@
 // Whether the slices lent have allowed lengths, and whether an arena is well formed.
 #![tactic(auto)]
+
 ghost use Rattle.std.specs.Prelude.{◌≡◌, true, [], ◌∷◌, ◌+◌, ◌*◌, ◌/◌, ◌<◌, ◌≤◌, eqb, length, take, drop};
 ghost use Rattle.definition.specs.Node.{width, is_row, row_of, rows, vars};
 ghost use Rattle.definition.specs.Magnitude.{magnitude};

@@ -1,5 +1,6 @@
 // What a recipe costs at given prices, in cents.
 #![tactic(auto)]
+
 ghost use Rattle.std.specs.Prelude.{◌≡◌, List, [], ℕ, ◌+◌, ◌*◌, ◌/◌, ◌<◌, ◌≤◌, length, get_or, drop};
 ghost use Rattle.definition.specs.Run.{ok};
 ghost use Rattle.definition.specs.Run as R;

@@ -1,5 +1,6 @@
 // A Bignum's number: the magnitude that two words or bytes of the input say, and its fewest units.
 #![tactic(auto)]
+
 ghost use Rattle.std.specs.Prelude.{◌≡◌, ◌+◌, ◌≤◌, length, take, drop};
 ghost use Rattle.definition.specs.Integer.{little, low_bytes};
 ghost use Rattle.definition.specs.Magnitude.{magnitude, fewest_units};

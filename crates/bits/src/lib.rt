@@ -1,5 +1,6 @@
 // A number of 32 bits in two's complement, and back.
 #![tactic(auto)]
+
 ghost use Rattle.std.specs.Prelude.{◌≡◌};
 ghost use Rattle.definition.specs.Refused as R;
 ghost use Rattle.definition.specs.Build.{bits};

@@ -1,5 +1,6 @@
 // The builder's calls, by the numbers that stored cases have.
 #![tactic(auto)]
+
 use bits::signed;
 use definition::{Counts, Created};
 use value_arena::{

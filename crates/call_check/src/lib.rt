@@ -1,5 +1,6 @@
 // What is tested before a call over an arena: tables and arena, handles, names, a value, and the other slices that a builder takes.
 #![tactic(auto)]
+
 ghost use Rattle.std.specs.Prelude.{◌≡◌, Bool, List, [], ◌∷◌, ℕ, ◌-◌, ◌*◌, ◌/◌, ◌<◌, ◌≤◌, length};
 ghost use Rattle.definition.specs.Node.{width, optional_node};
 ghost use Rattle.definition.specs.Arena.{firsts, lowest};

@@ -1,5 +1,6 @@
 // A number's text in a Float: an optional minus, digits, and a point with digits after it; and its double.
 #![tactic(auto)]
+
 ghost use Rattle.std.specs.Prelude.{◌≡◌, ◌+◌, ◌-◌, ◌*◌, ◌^◌, ◌≤◌, ◌<◌, length, drop};
 ghost use Rattle.std.proofs.Math.Option.{some};
 ghost use Rattle.definition.specs.Weight.{is_digit, digits, decimal_if, unsigned, decimal, whole_number, with_sign, quotient, text_reading};

@@ -1,5 +1,6 @@
 // FNV-1a, 32 bits: the hash of a name.
 #![tactic(auto)]
+
 ghost use Rattle.std.specs.Prelude.{◌≡◌, ◌+◌, ◌*◌, ◌%◌, ◌≤◌, length, take, drop};
 ghost use Rattle.definition.specs.Buckets.{exclusive_or, fnv_1a};
 

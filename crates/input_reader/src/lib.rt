@@ -3,6 +3,7 @@
 // What is lent and the counts `c` hold a state of the definition before a call. Below REFUSED the number answered is the
 // value that the definition's reader gives there, and a state is held again; from REFUSED on it is the reader's refusal.
 #![tactic(auto)]
+
 ghost use Rattle.std.specs.Prelude.{◌≡◌, ℕ, ◌+◌, ◌<◌, ◌≤◌, length};
 ghost use Rattle.definition.specs.State.{Room};
 ghost use Rattle.definition.specs.Load.{read_header, read_integer, read_count, read_bytes, read_byte_string};

@@ -3,6 +3,7 @@
 // What is lent and the counts `c` hold a state of the definition before a call. Below REFUSED the number answered is the
 // value that the definition's reader gives there, and a state is held again; from REFUSED on it is the reader's refusal.
 #![tactic(auto)]
+
 ghost use Rattle.std.specs.Prelude.{◌≡◌, List, [], ◌∷◌, ℕ, ◌+◌, ◌*◌, ◌/◌, ◌%◌, ◌<◌, ◌≤◌, ◌⊎◌, eqb, length, get_or};
 ghost use Rattle.definition.specs.Integer.{low_bytes};
 ghost use Rattle.definition.specs.Magnitude.{sign, sign_byte, bignum_row};

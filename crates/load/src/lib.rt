@@ -1,5 +1,6 @@
 // load: the calls, from the test of what is lent to the zeros behind what was read.
 #![tactic(auto)]
+
 ghost use Rattle.std.specs.Prelude.{◌≡◌, false, ◌⊎◌, ◌-◌, ◌/◌, ◌<◌, ◌≤◌, length};
 ghost use Rattle.definition.specs.Node.{width};
 ghost use Rattle.definition.specs.Slice.{greatest_length};

@@ -3,6 +3,7 @@
 // What is lent and the counts `c` hold a state of the definition before a call. Below REFUSED the number answered is the
 // value that the definition's reader gives there, and a state is held again; from REFUSED on it is the reader's refusal.
 #![tactic(auto)]
+
 ghost use Rattle.std.specs.Prelude.{◌≡◌, true, List, [], ◌∷◌, ℕ, ◌+◌, ◌-◌, ◌*◌, ◌/◌, ◌<◌, ◌≤◌, length, get_or};
 ghost use Rattle.definition.specs.Node.{Row, words, nil, width};
 ghost use Rattle.definition.specs.State.{Room, Reader};

@@ -4,6 +4,7 @@
 // is accepted. Its two details and what else the call answers go into the answer words, doubles into a slice of their own
 // (reply/specs/Reply). Fewer words or doubles than a call writes are refused with 1, and nothing is touched then.
 #![tactic(auto)]
+
 ghost use Rattle.std.specs.Prelude.{◌≡◌};
 ghost use Rattle.definition.specs.Arena.{counts_of, tables_of};
 ghost use Rattle.definition.specs.Load.{lists, load_call};

@@ -1,5 +1,6 @@
 // A node added behind the others, or no room for it; a symbol found by its name.
 #![tactic(auto)]
+
 ghost use Rattle.std.specs.Prelude.{◌≡◌, List, [], ◌∷◌, ℕ, ◌-◌, ◌*◌, ◌<◌, ◌≤◌, length, take};
 ghost use Rattle.definition.specs.Node.{width, Row, words, rows};
 ghost use Rattle.definition.specs.Arena.{Arena, node, named, find_symbol};

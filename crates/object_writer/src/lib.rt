@@ -1,5 +1,6 @@
 // What dump writes first of an object: a link or its number, `I`, its class, its byte, a count, a byte string or a Bignum's number.
 #![tactic(auto)]
+
 ghost use Rattle.std.specs.Prelude.{◌≡◌, [], ◌∷◌, ◌++◌, ℕ, ◌+◌, ◌*◌, ◌≤◌, eqb, length, get_or, take, drop};
 ghost use Rattle.definition.specs.Integer.{integer_bytes};
 ghost use Rattle.definition.specs.Kind.{BIGNUM};

@@ -1,6 +1,7 @@
 // What stands in the input at an offset: integers and the header; the numbers that readers answer; and the reader, an input
 // with an offset.
 #![tactic(auto)]
+
 ghost use Rattle.std.specs.Prelude.{◌≡◌, ◌⊎◌, List, [], ◌∷◌, ℕ, ◌+◌, ◌-◌, ◌*◌, ◌^◌, ◌<◌, ◌≤◌, length, take, drop};
 ghost use Rattle.definition.specs.Integer.{value, form, low_bytes, integer_bytes, wrong_sign};
 ghost use Rattle.definition.specs.Integer as integer;

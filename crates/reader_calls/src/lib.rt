@@ -1,6 +1,7 @@
 // The reader's functions on an input and an offset, each of a reader that is started somewhere and then moved there: for callers
 // that hold no reader.
 #![tactic(auto)]
+
 ghost use Rattle.std.specs.Prelude.{◌≡◌};
 ghost use Rattle.definition.specs.Reader.{left, next_byte, next_header, next_integer, next_byte_string};
 

@@ -1,5 +1,6 @@
 // The numbers of documents 01 and 02 for a refusal, for programs that print them.
 #![tactic(auto)]
+
 ghost use Rattle.std.specs.Prelude.{◌≡◌, false};
 ghost use Rattle.definition.specs.Refused.{numbers_told, answer_told};
 

@@ -1,5 +1,6 @@
 // The answers of load, dump, the arena's functions, weighing and costing as words and doubles, for programs in C.
 #![tactic(auto)]
+
 ghost use Rattle.std.specs.Prelude.{◌≡◌, [], ◌∷◌, ◌≤◌, length};
 ghost use Rattle.std.proofs.lemmas.List.Edits.{sets};
 ghost use Rattle.definition.specs.Refused.{answer_numbers};

@@ -2,6 +2,7 @@
 // and weighed, and a recipe's cost. What reads from a Reader is there on a slice and an offset too (load_at, byte_from ..): a
 // caller of these needs no proof by hand.
 #![tactic(auto)]
+
 pub use batch_cost::batch_cost;
 pub use definition::{
     Answer, Begun, Bignum, Costed, Counts, Created, Decimal, Dumped, Fault, Hashed, LIMIT, Loaded,

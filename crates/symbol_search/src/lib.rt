@@ -2,6 +2,7 @@
 //
 // What is lent and the counts hold a state of the definition.
 #![tactic(auto)]
+
 ghost use Rattle.std.specs.Prelude.{◌≡◌, List, ℕ, suc, ◌+◌, ◌-◌, ◌*◌, ◌%◌, ◌<◌, ◌≤◌, true, false, length, get_or, set, take, drop};
 ghost use Rattle.definition.specs.Node.{nil, width, LENGTH};
 ghost use Rattle.definition.specs.Arena.{named, compared_among};

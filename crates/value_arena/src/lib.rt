@@ -1,5 +1,6 @@
 // The arena's getters and builder on lent tables: value_arena.rs.
 #![tactic(auto)]
+
 ghost use Rattle.std.specs.Prelude.{◌≡◌, [], ◌∷◌, ℕ, ◌-◌, length};
 ghost use Rattle.definition.specs.Run.{Run};
 ghost use Rattle.definition.specs.Node.{Row, bool, words};

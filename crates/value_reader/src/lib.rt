@@ -3,6 +3,7 @@
 // Contracts speak of what is held (crate load_state). `levels` are those still allowed: in the value reader for the value, in the
 // others for the members. They fall from a value to its members.
 #![tactic(auto)]
+
 ghost use Rattle.std.specs.Prelude.{◌≡◌, ℕ, ◌-◌, ◌<◌, ◌≤◌, eqb};
 ghost use Rattle.definition.specs.Kind.{HASH_DEFAULT};
 ghost use Rattle.definition.specs.State.{Room};

@@ -1,5 +1,6 @@
 // A node read as a number, and wet weight from dry weight.
 #![tactic(auto)]
+
 ghost use Rattle.std.specs.Prelude.{◌≡◌, take};
 ghost use Rattle.definition.specs.Node.{row};
 ghost use Rattle.definition.specs.Build.{Lent, lent, words_at};

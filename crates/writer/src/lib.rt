@@ -1,5 +1,6 @@
 // Dump's writers of bytes, integers, Bignums' numbers, symbols and scalars, and the numbers that writers answer.
 #![tactic(auto)]
+
 ghost use Rattle.std.specs.Prelude.{◌≡◌, List, [], ◌∷◌, ◌++◌, ℕ, suc, ◌+◌, ◌-◌, ◌*◌, ◌<◌, ◌≤◌, length, get_or, take, drop};
 ghost use Rattle.std.proofs.lemmas.List.Edits.{sets};
 ghost use Rattle.definition.specs.Integer.{integer_bytes, low_bytes, fewest};

@@ -31,6 +31,9 @@ read_magnitude-requires c =
 pub returns : goal.returns
 unfolding read_bignum
 returns c =
-    let m = c.read_magnitude.ensures in record { meets = λ room limit re by sy.
+    let m = c.read_magnitude.ensures in record {
+      meets = λ room limit re by sy.
           lead_after ((lead_first _ (c.read_sign-b.ensures.meets room limit _)).goes c.if-b-ge-REFUSED.false)
-          (lead_after ((c.read_units-n.ensures.leads room limit _ _).goes c.if-n-ge-REFUSED.false) (m.meets room limit re by sy)); upper_bound = m.upper_bound }
+          (lead_after ((c.read_units-n.ensures.leads room limit _ _).goes c.if-n-ge-REFUSED.false) (m.meets room limit re by sy));
+      upper_bound = m.upper_bound;
+    }

@@ -27,10 +27,13 @@ pub returns-then-not-is_wrappable : goal.returns-then-not-is_wrappable
 returns-then-not-is_wrappable c =
     let k = c.read_symbol_like-name.ensures in
     let q = c.not_wrappable.ensures in
-    let e = c.is_wrappable.ensures in record { meets = λ room limit re ob.
+    let e = c.is_wrappable.ensures in record {
+      meets = λ room limit re ob.
           met_as q.0
           (lead_after (class_passed c.requires.0)
-          (lead_after ((lead_first _ (k.meets room limit re ob)).goes c.if-name-ge-REFUSED.false) (wrapped_other _ c.if-input-at.false q.1 (sym e ∙ c.if-not-is_wrappable.true)))); follows = λ l. absurd (omega (arith, q.0, l)) }
+          (lead_after ((lead_first _ (k.meets room limit re ob)).goes c.if-name-ge-REFUSED.false) (wrapped_other _ c.if-input-at.false q.1 (sym e ∙ c.if-not-is_wrappable.true))));
+      follows = λ l. absurd (omega (arith, q.0, l));
+    }
 
 pub returns : goal.returns
 returns c =

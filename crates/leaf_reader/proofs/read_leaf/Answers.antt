@@ -78,8 +78,11 @@ pub returns-in_default : goal.returns-in_default
 unfolding value_of
 returns-in_default c =
     let c-args = c.args in
-    let r = c.in_default.in_default-own.rest in record { meets = λ room limit inner re l u.
+    let r = c.in_default.in_default-own.rest in record {
+      meets = λ room limit inner re l u.
           plain inner u (λ e. r.0.0.0.0.0.0.0.1 (inl e)) (headed inner c-args.k Unknown
           (other c-args.k l r.0.0.0.0.0.0.0.0.0.1 r.0.0.0.0.0.0.0.0.1 r.0.0.0.0.0.0.0.1 r.0.0.0.0.0.0.1
           r.0.0.0.0.0.1 r.0.0.0.0.1 r.0.0.0.1 r.0.0.1 r.0.1 r.1)
-          (refuses (InvalidKind c-args.k) (omega arith) (at_kind limit c-args.k (omega arith)))); upper_bound = λ l. absurd (omega arith) }
+          (refuses (InvalidKind c-args.k) (omega arith) (at_kind limit c-args.k (omega arith))));
+      upper_bound = λ l. absurd (omega arith);
+    }

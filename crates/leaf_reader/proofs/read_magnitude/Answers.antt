@@ -29,6 +29,9 @@ unfolding kind bignum_row
 returns c =
     let p = c.requires in
     let e = c.magnitude_at-m.ensures in
-    let o = c.add_object_node.ensures in record { meets = λ room limit re by sy.
+    let o = c.add_object_node.ensures in record {
+      meets = λ room limit re by sy.
           lead_after (magnitude_read _ _ _ p.2 p.1 p.3.3.holds.fixed.ten e.value e.input_value c.if-m-ge-TOO_BIG.false)
-          (lead_after (c.note_bignum.ensures _ room _) (o.by_index _ room limit _ re by sy c.sign_word.ensures (other_kind (bignum 0 0 false) refl))); upper_bound = λ l. (o.upper_bound l).0 }
+          (lead_after (c.note_bignum.ensures _ room _) (o.by_index _ room limit _ re by sy c.sign_word.ensures (other_kind (bignum 0 0 false) refl)));
+      upper_bound = λ l. (o.upper_bound l).0;
+    }

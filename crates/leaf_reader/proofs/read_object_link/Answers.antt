@@ -15,7 +15,10 @@ entry_at-requires c =
 pub returns : goal.returns
 unfolding read_object_link
 returns c =
-    record { meets = λ room limit a b d e. linked (λ s. s.objects) MissingObject (c.read_count-n.ensures.meets room limit _) c.entry_at.ensures (omega arith) (at_object limit) objects_listed; upper_bound = λ l.
+    record {
+      meets = λ room limit a b d e. linked (λ s. s.objects) MissingObject (c.read_count-n.ensures.meets room limit _) c.entry_at.ensures (omega arith) (at_object limit) objects_listed;
+      upper_bound = λ l.
           let i = entry_inside c.entry_at.ensures (omega arith) l in
           let H = held {m = λ room. read_count _} {m' = λ room. _} c.requires.4 i.0 (λ room. c.read_count-n.ensures.meets room 0 _) in
-          omega (arith, i.2, object_below H i.1) }
+          omega (arith, i.2, object_below H i.1);
+    }

@@ -25,9 +25,12 @@ add_bytes-start-requires c =
 pub returns-then-start-ge-REFUSED : goal.returns-then-start-ge-REFUSED
 unfolding read_text
 returns-then-start-ge-REFUSED c =
-    record { by_index = λ room limit row re sy ws pl.
+    record {
+      by_index = λ room limit row re sy ws pl.
           lead_after ((lead_first _ (c.read_byte_string-n.ensures.spans room limit _)).goes c.if-n-ge-REFUSED.false)
-          (lead_stop c.if-start-ge-REFUSED.true (lead_first _ (c.add_bytes-start.ensures.meets room limit _ _ _ _))); upper_bound = λ l. absurd (omega arith) }
+          (lead_stop c.if-start-ge-REFUSED.true (lead_first _ (c.add_bytes-start.ensures.meets room limit _ _ _ _)));
+      upper_bound = λ l. absurd (omega arith);
+    }
 
 pub add_object_node-requires : goal.add_object_node-requires
 add_object_node-requires c =
@@ -46,7 +49,10 @@ returns c =
     let a = c.args in
     let n = c-read-byte-string.ensures.upper_bound c-if1.false in
     let st = c-add-bytes.result in
-    let e = span_length a.input.now c-read-byte-string.new.c c-read-byte-string.result n.0 n.1 in record { by_index = λ room limit row re sy ws pl.
+    let e = span_length a.input.now c-read-byte-string.new.c c-read-byte-string.result n.0 n.1 in record {
+      by_index = λ room limit row re sy ws pl.
           lead_after ((lead_first _ (c-read-byte-string.ensures.spans room limit _)).goes c-if1.false)
           (lead_after ((lead_first _ (c-add-bytes.ensures.meets room limit _ _ _ _)).goes c.if-start-ge-REFUSED.false)
-          (c-add-object-node.ensures.by_index _ room limit (row st _) _ _ _ (ws st _ ∙ ap (λ (k : ℕ). a.kind ∷ st ∷ k ∷ 0 ∷ 0 ∷ a.name ∷ 0 ∷ a.class ∷ []) e) (pl st _))); upper_bound = λ l. (c-add-object-node.ensures.upper_bound l).0 }
+          (c-add-object-node.ensures.by_index _ room limit (row st _) _ _ _ (ws st _ ∙ ap (λ (k : ℕ). a.kind ∷ st ∷ k ∷ 0 ∷ 0 ∷ a.name ∷ 0 ∷ a.class ∷ []) e) (pl st _)));
+      upper_bound = λ l. (c-add-object-node.ensures.upper_bound l).0;
+    }

@@ -20,6 +20,9 @@ read_text-requires c =
 pub returns : goal.returns
 unfolding read_user_defined kind words
 returns c =
-    let c-read-text = c.read_text in record { meets = λ room limit re.
+    let c-read-text = c.read_text in record {
+      meets = λ room limit re.
           lead_after ((lead_first _ (c.read_symbol_like-name.ensures.meets room limit _ _)).goes c.if-name-ge-REFUSED.false)
-          (c-read-text.ensures.by_index room limit (λ start n. user start n _ absent) _ _ (λ start n. refl) (λ start n. other_kind (user start n 0 absent) refl)); upper_bound = c-read-text.ensures.upper_bound }
+          (c-read-text.ensures.by_index room limit (λ start n. user start n _ absent) _ _ (λ start n. refl) (λ start n. other_kind (user start n 0 absent) refl));
+      upper_bound = c-read-text.ensures.upper_bound;
+    }

@@ -51,6 +51,9 @@ returns c =
     let n = c-read-count.result in
     let w = n * c.args.each in
     let e = is REFERENCES (references_of l + w) l H.holds.fixed.ten (omega arith) in
-    let start : references_of l ≡ references_of l + w - w = omega arith in record { leads = λ room limit no by sy ob k.
+    let start : references_of l ≡ references_of l + w - w = omega arith in record {
+      leads = λ room limit no by sy ob k.
           lead_after ((lead_first _ (c-read-count.ensures.meets room limit _)).goes c-if1.false)
-          (given (λ s G. c-if1.false) (goes_to (ap (λ (x : ℕ). k x n) (start ∙ ap (λ (x : ℕ). x - w) (sym e))) (goes_first (λ x. k x n) (words_reserved w c.if-references-at.false c.zero_range.ensures)))); upper_bound = λ h. (c-read-count.ensures.upper_bound c-if1.false, omega (arith, e)) }
+          (given (λ s G. c-if1.false) (goes_to (ap (λ (x : ℕ). k x n) (start ∙ ap (λ (x : ℕ). x - w) (sym e))) (goes_first (λ x. k x n) (words_reserved w c.if-references-at.false c.zero_range.ensures))));
+      upper_bound = λ h. (c-read-count.ensures.upper_bound c-if1.false, omega (arith, e));
+    }

@@ -91,7 +91,10 @@ returns c =
     let above : 4 - (256 - get_or l at 0) ≡ get_or l at 0 - 252 = omega arith in
     let f = of_many _ many in
     let ones = c.ones_above.ensures in
-    let v = c.little-2.result in record { value = under_ones l (at + 1) _ _ _ (omega arith) (omega arith) (omega (arith, b.0, size_many _ many top)) ones c.little-2.ensures.value
+    let v = c.little-2.result in record {
+      value = under_ones l (at + 1) _ _ _ (omega arith) (omega arith) (omega (arith, b.0, size_many _ many top)) ones c.little-2.ensures.value
           ∙ ap (λ (x : ℕ). little (take (256 - x) (drop (at + 1) l)) (256 ^ (4 - (256 - x)) - 1)) b.0
           ∙ ap (λ (k : ℕ). little (take (256 - get_or l at 0) (drop (at + 1) l)) (256 ^ k - 1)) above
-          ∙ sym (ap (word_of _) f); at_value = data_data _ _ f (ap (λ (x : ℕ). take (256 - x) (drop (at + 1) l)) (sym b.0) ∙ c.little-2.ensures.input_value ∙ sym (low_ones _ _ v (omega arith) ones) ∙ ap (λ (x : ℕ). low_bytes (256 - x) (c.ones_above.result + v)) b.0) }
+          ∙ sym (ap (word_of _) f);
+      at_value = data_data _ _ f (ap (λ (x : ℕ). take (256 - x) (drop (at + 1) l)) (sym b.0) ∙ c.little-2.ensures.input_value ∙ sym (low_ones _ _ v (omega arith) ones) ∙ ap (λ (x : ℕ). low_bytes (256 - x) (c.ones_above.result + v)) b.0);
+    }

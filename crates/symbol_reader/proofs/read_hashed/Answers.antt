@@ -12,7 +12,6 @@ use Rattle.symbol_reader.proofs.Hashed.{Sought, list_symbolic, known_below, at_a
 use Rattle.symbol_search.proofs.Probing.{looked_fits}
 use Rattle.symbol_reader.proofs.read_hashed.Goals as goal
 
-
 pub probe-p-requires : goal.probe-p-requires
 probe-p-requires c =
     let p = c.requires in
@@ -49,7 +48,7 @@ intern_symbol-r-requires c =
     let k = a.c.now in
     -- what the search has come to
     let S : Sought a.input.now a.nodes.now a.bytes.now a.symbols.now a.buckets.now a.c.now a.n c.fnv_1a.result c.probe-p.result c.word_on-i.result c.symbol_in.result =
-        record { inside = c.requires.0; words = c.requires.1; hash = c.fnv_1a.ensures; probe = λ room s re ob m G. c.probe-p.ensures.probe room s re _ ob m G; place = c.word_on-i.ensures.0; zero = c.symbol_in.ensures.0; other = c.symbol_in.ensures.1 } in
+    record { inside = c.requires.0; words = c.requires.1; hash = c.fnv_1a.ensures; probe = λ room s re ob m G. c.probe-p.ensures.probe room s re _ ob m G; place = c.word_on-i.ensures.0; zero = c.symbol_in.ensures.0; other = c.symbol_in.ensures.1 } in
     let H = p.2.2 in
     let e = at_after S H in
     (omega (arith, e), omega (arith, e, p.0), omega arith, λ l. omega (arith, known_below S H l, get_or-set_other k 0 1 (at_of k + a.n) 0 (omega arith)), (p.2.0, p.2.1, held_after S H))
@@ -60,7 +59,7 @@ returns-then-r-ge-REFUSED c =
     let k = a.c.now in
     -- what the search has come to
     let S : Sought a.input.now a.nodes.now a.bytes.now a.symbols.now a.buckets.now a.c.now a.n c.fnv_1a.result c.probe-p.result c.word_on-i.result c.symbol_in.result =
-        record { inside = c.requires.0; words = c.requires.1; hash = c.fnv_1a.ensures; probe = λ room s re ob m G. c.probe-p.ensures.probe room s re _ ob m G; place = c.word_on-i.ensures.0; zero = c.symbol_in.ensures.0; other = c.symbol_in.ensures.1 } in
+    record { inside = c.requires.0; words = c.requires.1; hash = c.fnv_1a.ensures; probe = λ room s re ob m G. c.probe-p.ensures.probe room s re _ ob m G; place = c.word_on-i.ensures.0; zero = c.symbol_in.ensures.0; other = c.symbol_in.ensures.1 } in
     let H = c.requires.2.2 in
     record { meets = λ room limit re ob. lead_stop c.if-r-ge-REFUSED.true (hashed_meets S H (c.intern_symbol-r.ensures.meets room limit re ob (λ l s m z G. list_symbolic S H l (z ∙ get_or-set_other k 0 4 (at_of k + a.n) 0 (omega arith)) G))); upper_bound = λ l. absurd (omega (arith, l, c.if-r-ge-REFUSED.true)) }
 
@@ -81,5 +80,5 @@ returns c =
     let k = a.c.now in
     -- what the search has come to
     let S : Sought a.input.now a.nodes.now a.bytes.now a.symbols.now a.buckets.now a.c.now a.n c.fnv_1a.result c.probe-p.result c.word_on-i.result c.symbol_in.result =
-        record { inside = c.requires.0; words = c.requires.1; hash = c.fnv_1a.ensures; probe = λ room s re ob m G. c.probe-p.ensures.probe room s re _ ob m G; place = c.word_on-i.ensures.0; zero = c.symbol_in.ensures.0; other = c.symbol_in.ensures.1 } in
+    record { inside = c.requires.0; words = c.requires.1; hash = c.fnv_1a.ensures; probe = λ room s re ob m G. c.probe-p.ensures.probe room s re _ ob m G; place = c.word_on-i.ensures.0; zero = c.symbol_in.ensures.0; other = c.symbol_in.ensures.1 } in
     let H = c.requires.2.2 in record { meets = λ room limit re ob. hashed_meets S H (c.intern_symbol-r.ensures.meets room limit re ob (λ l s m z G. list_symbolic S H l (z ∙ get_or-set_other k 0 4 (at_of k + a.n) 0 (omega arith)) G)); upper_bound = λ l. omega (arith, c.intern_symbol-r.ensures.upper_bound l, get_or-set_other c.intern_symbol-r.new.c 8 1 (looked_of k + (c.probe-p.result + 1)) 0 (omega arith)) }

@@ -39,7 +39,10 @@ intern_symbol-requires c =
 pub returns : goal.returns
 unfolding read_symbol
 returns c =
-    let found = c.search_symbol-known.ensures in record { meets = λ room limit re ob.
+    let found = c.search_symbol-known.ensures in record {
+      meets = λ room limit re ob.
           lead_after ((lead_part _ (c.read_length-n.ensures.leads room limit _)).goes c.if-n-ge-REFUSED.false)
           (without_words c.args.buckets.now (omega (arith, c.if-buckets-gt0.false))
-          (lead_after (found.goes room re ob) (c.intern_symbol.ensures.meets room limit re ob (λ l s m z G. found.symbolic room s re ob m z l G)))); upper_bound = c.intern_symbol.ensures.upper_bound }
+          (lead_after (found.goes room re ob) (c.intern_symbol.ensures.meets room limit re ob (λ l s m z G. found.symbolic room s re ob m z l G))));
+      upper_bound = c.intern_symbol.ensures.upper_bound;
+    }

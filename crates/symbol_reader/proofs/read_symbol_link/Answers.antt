@@ -15,7 +15,10 @@ entry_at-requires c =
 pub returns : goal.returns
 unfolding read_symbol_link
 returns c =
-    record { meets = λ room limit a b d e f. linked (λ s. s.symbols) MissingSymbol (c.read_count-n.ensures.meets room limit _) c.entry_at.ensures (omega arith) (at_symbol limit) symbols_listed; upper_bound = λ l.
+    record {
+      meets = λ room limit a b d e f. linked (λ s. s.symbols) MissingSymbol (c.read_count-n.ensures.meets room limit _) c.entry_at.ensures (omega arith) (at_symbol limit) symbols_listed;
+      upper_bound = λ l.
           let i = entry_inside c.entry_at.ensures (omega arith) l in
           let H = held {m = λ room. read_count _} {m' = λ room. _} c.requires.5 i.0 (λ room. c.read_count-n.ensures.meets room 0 _) in
-          omega (arith, i.2, symbol_below H i.1) }
+          omega (arith, i.2, symbol_below H i.1);
+    }

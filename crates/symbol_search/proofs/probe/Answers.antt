@@ -50,9 +50,12 @@ pub returns-then-has_name : goal.returns-then-has_name
 returns-then-has_name c =
     let l = c.loop-p-test.true in
     let a = c.args in
-    let e = word_at a.buckets.now (a.start + c.loop-p.p) c.loop-p.i c.loop-p.invariant.1 in record { upper_bound = l; probe = λ room s re sy ob k H.
+    let e = word_at a.buckets.now (a.start + c.loop-p.p) c.loop-p.i c.loop-p.invariant.1 in record {
+      upper_bound = l;
+      probe = λ room s re sy ob k H.
           let y = subst (λ (h : ℕ). Symbolic (get_or s.nodes h nil)) (sym e) (word_symbolic H refl (not_empty c.requires.2) (a.start + c.loop-p.p) (λ z. c.if-h-eq0.false (e ∙ z))) in
-          record { inside = l; before = c.loop-p.invariant.2 room s re sy ob k H; ends = inr (ap (λ (h : ℕ). named s.bytes (span a.input.now a.at a.n) (get_or s.nodes h nil)) (sym e) ∙ sym (c.has_name.ensures room s re (by_buckets sy a.buckets.now) ob k y H) ∙ c.if-has_name.true) } }
+          record { inside = l; before = c.loop-p.invariant.2 room s re sy ob k H; ends = inr (ap (λ (h : ℕ). named s.bytes (span a.input.now a.at a.n) (get_or s.nodes h nil)) (sym e) ∙ sym (c.has_name.ensures room s re (by_buckets sy a.buckets.now) ob k y H) ∙ c.if-has_name.true) };
+    }
 
 pub next_word-i-requires : goal.next_word-i-requires
 next_word-i-requires c =

@@ -20,7 +20,10 @@ returns c =
     let c-if1 = c.if-c-at in
     let a = c.args in
     let l = a.c.now in
-    let h : nodes_of l * width + width ≤ length a.nodes.now = omega (arith, c-if1.false) in record { by_index = λ input room limit row re by sy ob e f. row_added row _ e f c-if1.false c-put-node.ensures; upper_bound = λ k. (
+    let h : nodes_of l * width + width ≤ length a.nodes.now = omega (arith, c-if1.false) in record {
+      by_index = λ input room limit row re by sy ob e f. row_added row _ e f c-if1.false c-put-node.ensures;
+      upper_bound = λ k. (
         omega (arith, is NODES (nodes_of l + 1) l c.requires.2 (omega arith)),
         λ n. stored_free a.nodes.now (nodes_of l) a.kind (a.a ∷ a.b ∷ 0 ∷ a.n ∷ a.name ∷ 0 ∷ a.class ∷ []) c-put-node.ensures h n,
-      ) }
+      );
+    }

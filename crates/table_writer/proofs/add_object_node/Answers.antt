@@ -23,5 +23,8 @@ returns c =
     let c-if1 = c.if-h-ge-REFUSED in
     let c-add-node = c.add_node-h in
     let n = c-add-node.ensures.upper_bound c-if1.false in
-    let o = c.add_object.ensures in record { by_index = λ input room limit row re by sy e f.
-          lead_after ((lead_first _ (c-add-node.ensures.by_index input room limit row re by sy _ e f)).goes c-if1.false) (o.by_index input room limit _ re by sy); upper_bound = λ l. let q = o.value l in (omega (arith, n.0, q.0, q.1), λ k. subst (Free c-add-node.new.nodes) (sym q.0) (n.1 k)) }
+    let o = c.add_object.ensures in record {
+      by_index = λ input room limit row re by sy e f.
+          lead_after ((lead_first _ (c-add-node.ensures.by_index input room limit row re by sy _ e f)).goes c-if1.false) (o.by_index input room limit _ re by sy);
+      upper_bound = λ l. let q = o.value l in (omega (arith, n.0, q.0, q.1), λ k. subst (Free c-add-node.new.nodes) (sym q.0) (n.1 k));
+    }

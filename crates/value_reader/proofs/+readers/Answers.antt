@@ -37,8 +37,11 @@ read_array-read_words-n-requires t c =
 pub read_array-returns-then-n-ge-REFUSED : goal.read_array-returns-then-n-ge-REFUSED
 unfolding D.read_array
 read_array-returns-then-n-ge-REFUSED t c =
-    record { meets = λ room limit. lead_after ((lead_first _ (c.open_node-h.ensures.by_index _ room limit _ _ _)).goes c.if-h-ge-REFUSED.false)
-          (lead_stop c.if-n-ge-REFUSED.true (c.read_words-n.ensures.leads room limit _ _ _ _ _)); upper_bound = λ l. absurd (omega arith) }
+    record {
+      meets = λ room limit. lead_after ((lead_first _ (c.open_node-h.ensures.by_index _ room limit _ _ _)).goes c.if-h-ge-REFUSED.false)
+          (lead_stop c.if-n-ge-REFUSED.true (c.read_words-n.ensures.leads room limit _ _ _ _ _));
+      upper_bound = λ l. absurd (omega arith);
+    }
 
 pub read_array-overflow_sub-start : goal.read_array-overflow_sub-start
 read_array-overflow_sub-start t c =
@@ -55,11 +58,14 @@ unfolding D.read_array
 read_array-returns-then-w-ge-REFUSED t c =
     let h = c.open_node-h.result in
     let n = c.read_words-n.result in
-    let q = c.read_words-n.ensures.upper_bound c.if-n-ge-REFUSED.false in record { meets = λ room limit.
+    let q = c.read_words-n.ensures.upper_bound c.if-n-ge-REFUSED.false in record {
+      meets = λ room limit.
           let name = read_symbol_like c.args.input.now room in
           let inner = D.read_value c.args.input.now room limit c.args.levels in
           lead_after ((lead_first _ (c.open_node-h.ensures.by_index _ room limit _ _ _)).goes c.if-h-ge-REFUSED.false)
-          (contained_stops name inner (array_of name inner h c.args.class) 1 2 0 n _ _ _ (array_rest name inner h _ n c.args.class) (one_each _ n) q.1 (c.read_words-n.ensures.leads room limit _ _ _ _ _) c.if-n-ge-REFUSED.false (c.read_members-w.ensures.meets room limit) c.if-w-ge-REFUSED.true); upper_bound = λ l. absurd (omega arith) }
+          (contained_stops name inner (array_of name inner h c.args.class) 1 2 0 n _ _ _ (array_rest name inner h _ n c.args.class) (one_each _ n) q.1 (c.read_words-n.ensures.leads room limit _ _ _ _ _) c.if-n-ge-REFUSED.false (c.read_members-w.ensures.meets room limit) c.if-w-ge-REFUSED.true);
+      upper_bound = λ l. absurd (omega arith);
+    }
 
 pub read_array-overflow_cast-start : goal.read_array-overflow_cast-start
 read_array-overflow_cast-start t c =
@@ -85,12 +91,15 @@ read_array-returns t c =
     let O = members_at in
     let h = c.open_node-h.result in
     let n = c.read_words-n.result in
-    let q = c.read_words-n.ensures.upper_bound c.if-n-ge-REFUSED.false in record { meets = λ room limit.
+    let q = c.read_words-n.ensures.upper_bound c.if-n-ge-REFUSED.false in record {
+      meets = λ room limit.
           let name = read_symbol_like c.args.input.now room in
           let inner = D.read_value c.args.input.now room limit c.args.levels in
           lead_after ((lead_first _ (c.open_node-h.ensures.by_index _ room limit _ _ _)).goes c.if-h-ge-REFUSED.false)
           (contained name inner (array_of name inner h c.args.class) 1 2 0 n _ _ _ (array_rest name inner h _ n c.args.class) (one_each _ n) q.1 (c.read_words-n.ensures.leads room limit _ _ _ _ _) c.if-n-ge-REFUSED.false (c.read_members-w.ensures.meets room limit) c.if-w-ge-REFUSED.false
-          (c.fill_node.ensures.by_index _ room limit (array _ n c.args.class) _ _ _ _ _ refl (other_kind (array 0 0 0) refl) O.below (λ _. O.free tt))); upper_bound = λ l. omega (arith, c.fill_node.ensures.value, O.below) }
+          (c.fill_node.ensures.by_index _ room limit (array _ n c.args.class) _ _ _ _ _ refl (other_kind (array 0 0 0) refl) O.below (λ _. O.free tt)));
+      upper_bound = λ l. omega (arith, c.fill_node.ensures.value, O.below);
+    }
 
 pub read_hash-open_node-h-requires : goal.read_hash-open_node-h-requires
 read_hash-open_node-h-requires t c =
@@ -109,8 +118,11 @@ read_hash-read_words-n-requires t c =
 pub read_hash-returns-then-n-ge-REFUSED : goal.read_hash-returns-then-n-ge-REFUSED
 unfolding D.read_hash
 read_hash-returns-then-n-ge-REFUSED t c =
-    record { meets = λ room limit. lead_after ((lead_first _ (c.open_node-h.ensures.by_index _ room limit _ _ _)).goes c.if-h-ge-REFUSED.false)
-          (lead_stop c.if-n-ge-REFUSED.true (c.read_words-n.ensures.leads room limit _ _ _ _ _)); upper_bound = λ l. absurd (omega arith) }
+    record {
+      meets = λ room limit. lead_after ((lead_first _ (c.open_node-h.ensures.by_index _ room limit _ _ _)).goes c.if-h-ge-REFUSED.false)
+          (lead_stop c.if-n-ge-REFUSED.true (c.read_words-n.ensures.leads room limit _ _ _ _ _));
+      upper_bound = λ l. absurd (omega arith);
+    }
 
 pub read_hash-overflow_sub-start : goal.read_hash-overflow_sub-start
 read_hash-overflow_sub-start t c =
@@ -127,11 +139,14 @@ unfolding D.read_hash
 read_hash-returns-then-d-ge-REFUSED t c =
     let h = c.open_node-h.result in
     let n = c.read_words-n.result in
-    let q = c.read_words-n.ensures.upper_bound c.if-n-ge-REFUSED.false in record { meets = λ room limit.
+    let q = c.read_words-n.ensures.upper_bound c.if-n-ge-REFUSED.false in record {
+      meets = λ room limit.
           let name = read_symbol_like c.args.input.now room in
           let inner = D.read_value c.args.input.now room limit c.args.levels in
           lead_after ((lead_first _ (c.open_node-h.ensures.by_index _ room limit _ _ _)).goes c.if-h-ge-REFUSED.false)
-          (contained_stops name inner (hash_of name inner h c.args.more c.args.class) 2 2 c.args.more n _ _ _ (hash_rest name inner h _ n c.args.more c.args.class c.requires.0) refl q.1 (c.read_words-n.ensures.leads room limit _ _ _ _ _) c.if-n-ge-REFUSED.false (c.read_members-d.ensures.meets room limit) c.if-d-ge-REFUSED.true); upper_bound = λ l. absurd (omega arith) }
+          (contained_stops name inner (hash_of name inner h c.args.more c.args.class) 2 2 c.args.more n _ _ _ (hash_rest name inner h _ n c.args.more c.args.class c.requires.0) refl q.1 (c.read_words-n.ensures.leads room limit _ _ _ _ _) c.if-n-ge-REFUSED.false (c.read_members-d.ensures.meets room limit) c.if-d-ge-REFUSED.true);
+      upper_bound = λ l. absurd (omega arith);
+    }
 
 pub read_hash-overflow_cast-start : goal.read_hash-overflow_cast-start
 read_hash-overflow_cast-start t c =
@@ -170,12 +185,15 @@ read_hash-returns t c =
     let O = members_at in
     let h = c.open_node-h.result in
     let n = c.read_words-n.result in
-    let q = c.read_words-n.ensures.upper_bound c.if-n-ge-REFUSED.false in record { meets = λ room limit.
+    let q = c.read_words-n.ensures.upper_bound c.if-n-ge-REFUSED.false in record {
+      meets = λ room limit.
           let name = read_symbol_like c.args.input.now room in
           let inner = D.read_value c.args.input.now room limit c.args.levels in
           lead_after ((lead_first _ (c.open_node-h.ensures.by_index _ room limit _ _ _)).goes c.if-h-ge-REFUSED.false)
           (contained name inner (hash_of name inner h c.args.more c.args.class) 2 2 c.args.more n _ _ _ (hash_rest name inner h _ n c.args.more c.args.class c.requires.0) refl q.1 (c.read_words-n.ensures.leads room limit _ _ _ _ _) c.if-n-ge-REFUSED.false (c.read_members-d.ensures.meets room limit) c.if-d-ge-REFUSED.false
-          (c.fill_node.ensures.by_index _ room limit (hash _ n (c.read_members-d.result + c.args.more) c.args.class) _ _ _ _ _ refl (other_kind (hash 0 0 0 0) refl) O.below (λ _. O.free tt))); upper_bound = λ l. omega (arith, c.fill_node.ensures.value, O.below) }
+          (c.fill_node.ensures.by_index _ room limit (hash _ n (c.read_members-d.result + c.args.more) c.args.class) _ _ _ _ _ refl (other_kind (hash 0 0 0 0) refl) O.below (λ _. O.free tt)));
+      upper_bound = λ l. omega (arith, c.fill_node.ensures.value, O.below);
+    }
 
 pub read_inner-read_leaf-requires : goal.read_inner-read_leaf-requires
 read_inner-read_leaf-requires t c =
@@ -186,10 +204,13 @@ unfolding head pick valued
 read_inner-returns-then-input-at-eq-STRING t c =
     let c-read-leaf = c.read_leaf in
     let c-args = c.args in
-    let some : c-args.levels ≡ 0 → ⊥ = omega (arith, c.if-levels-gt0.true) in record { meets = λ room limit.
+    let some : c-args.levels ≡ 0 → ⊥ = omega (arith, c.if-levels-gt0.true) in record {
+      meets = λ room limit.
           lead_after (after_takes _ (takes_string c.if-input-at-eq-STRING.true))
           (lead_after (goes_to (ap (λ (x : ℕ). value_of c-args.input.now room (D.read_value c-args.input.now room limit (c-args.levels - 1)) x (head x)) c.if-input-at-eq-STRING.true) (kind_read limit c-args.levels some c.if-at-input.true))
-          (c-read-leaf.ensures.meets room limit (D.read_value c-args.input.now room limit (c-args.levels - 1)) _ string_leaf (inl refl))); upper_bound = c-read-leaf.ensures.upper_bound }
+          (c-read-leaf.ensures.meets room limit (D.read_value c-args.input.now room limit (c-args.levels - 1)) _ string_leaf (inl refl)));
+      upper_bound = c-read-leaf.ensures.upper_bound;
+    }
 
 pub read_inner-note_inner-requires : goal.read_inner-note_inner-requires
 read_inner-note_inner-requires t c =
@@ -203,9 +224,12 @@ read_inner-read_members-requires t c =
 pub read_inner-returns : goal.read_inner-returns
 read_inner-returns t c =
     let c-args = c.args in
-    let k = c.read_members.ensures in record { meets = λ room limit.
+    let k = c.read_members.ensures in record {
+      meets = λ room limit.
           let inner = D.read_value c-args.input.now room limit c-args.levels in
-          lead_after (c.note_inner.ensures room _ inner) (lead_as (sym (after_members (read_symbol_like c-args.input.now room) inner 2 0)) (k.meets room limit)); upper_bound = λ l. (k.value l).1 refl }
+          lead_after (c.note_inner.ensures room _ inner) (lead_as (sym (after_members (read_symbol_like c-args.input.now room) inner 2 0)) (k.meets room limit));
+      upper_bound = λ l. (k.value l).1 refl;
+    }
 
 pub read_members-loop-to-init : goal.read_members-loop-to-init
 read_members-loop-to-init t c =
@@ -356,9 +380,12 @@ read_object-read_words-n-requires t c =
 pub read_object-returns-then-n-ge-REFUSED : goal.read_object-returns-then-n-ge-REFUSED
 unfolding D.read_object read_instance_variables
 read_object-returns-then-n-ge-REFUSED t c =
-    record { meets = λ room limit. lead_after ((lead_first _ (c.open_node-h.ensures.by_index _ room limit _ _ _)).goes c.if-h-ge-REFUSED.false)
+    record {
+      meets = λ room limit. lead_after ((lead_first _ (c.open_node-h.ensures.by_index _ room limit _ _ _)).goes c.if-h-ge-REFUSED.false)
           (lead_after ((lead_first _ (c.read_symbol_like-name.ensures.meets room limit _ _)).goes c.if-name-ge-REFUSED.false)
-          (lead_stop c.if-n-ge-REFUSED.true (c.read_words-n.ensures.leads room limit _ _ _ _ _))); upper_bound = λ l. absurd (omega arith) }
+          (lead_stop c.if-n-ge-REFUSED.true (c.read_words-n.ensures.leads room limit _ _ _ _ _)));
+      upper_bound = λ l. absurd (omega arith);
+    }
 
 pub read_object-overflow_sub-start : goal.read_object-overflow_sub-start
 read_object-overflow_sub-start t c =
@@ -377,12 +404,15 @@ read_object-returns-then-w-ge-REFUSED t c =
     let h = c.open_node-h.result in
     let w = c.read_symbol_like-name.result in
     let n = c.read_words-n.result in
-    let q = c.read_words-n.ensures.upper_bound c.if-n-ge-REFUSED.false in record { meets = λ room limit.
+    let q = c.read_words-n.ensures.upper_bound c.if-n-ge-REFUSED.false in record {
+      meets = λ room limit.
           let name = read_symbol_like c.args.input.now room in
           let inner = D.read_value c.args.input.now room limit c.args.levels in
           lead_after ((lead_first _ (c.open_node-h.ensures.by_index _ room limit _ _ _)).goes c.if-h-ge-REFUSED.false)
           (lead_after ((lead_first _ (c.read_symbol_like-name.ensures.meets room limit _ _)).goes c.if-name-ge-REFUSED.false)
-          (contained_stops name inner (object_of name inner h w) 2 _ 0 n _ _ _ (object_rest name inner h _ n _ w (list_parity _ n q.1)) refl q.1 (c.read_words-n.ensures.leads room limit _ _ _ _ _) c.if-n-ge-REFUSED.false (c.read_members-w.ensures.meets room limit) c.if-w-ge-REFUSED.true)); upper_bound = λ l. absurd (omega arith) }
+          (contained_stops name inner (object_of name inner h w) 2 _ 0 n _ _ _ (object_rest name inner h _ n _ w (list_parity _ n q.1)) refl q.1 (c.read_words-n.ensures.leads room limit _ _ _ _ _) c.if-n-ge-REFUSED.false (c.read_members-w.ensures.meets room limit) c.if-w-ge-REFUSED.true));
+      upper_bound = λ l. absurd (omega arith);
+    }
 
 pub read_object-overflow_cast-start : goal.read_object-overflow_cast-start
 read_object-overflow_cast-start t c =
@@ -412,13 +442,16 @@ read_object-returns t c =
     let h = c.open_node-h.result in
     let w = c.read_symbol_like-name.result in
     let n = c.read_words-n.result in
-    let q = c.read_words-n.ensures.upper_bound c.if-n-ge-REFUSED.false in record { meets = λ room limit.
+    let q = c.read_words-n.ensures.upper_bound c.if-n-ge-REFUSED.false in record {
+      meets = λ room limit.
           let name = read_symbol_like c.args.input.now room in
           let inner = D.read_value c.args.input.now room limit c.args.levels in
           lead_after ((lead_first _ (c.open_node-h.ensures.by_index _ room limit _ _ _)).goes c.if-h-ge-REFUSED.false)
           (lead_after ((lead_first _ (c.read_symbol_like-name.ensures.meets room limit _ _)).goes c.if-name-ge-REFUSED.false)
           (contained name inner (object_of name inner h w) 2 _ 0 n _ _ _ (object_rest name inner h _ n _ w (list_parity _ n q.1)) refl q.1 (c.read_words-n.ensures.leads room limit _ _ _ _ _) c.if-n-ge-REFUSED.false (c.read_members-w.ensures.meets room limit) c.if-w-ge-REFUSED.false
-          (c.fill_node.ensures.by_index _ room limit (object _ n w) _ _ _ _ _ refl (other_kind (object 0 0 0) refl) O.below (λ _. O.free tt)))); upper_bound = λ l. omega (arith, c.fill_node.ensures.value, O.below) }
+          (c.fill_node.ensures.by_index _ room limit (object _ n w) _ _ _ _ _ refl (other_kind (object 0 0 0) refl) O.below (λ _. O.free tt))));
+      upper_bound = λ l. omega (arith, c.fill_node.ensures.value, O.below);
+    }
 
 pub read_value-returns-then-levels-eq0 : goal.read_value-returns-then-levels-eq0
 read_value-returns-then-levels-eq0 t c =
@@ -472,50 +505,65 @@ pub read_value-returns-in-91 : goal.read_value-returns-in-91
 read_value-returns-in-91 t c =
     let a = c.args in
     let k = c.read_class-class.ensures in
-    let l = c.if-class-ge-REFUSED.false in record { meets = λ room limit.
+    let l = c.if-class-ge-REFUSED.false in record {
+      meets = λ room limit.
           let inner = D.read_value a.input.now room limit (a.levels - 1) in
           lead_after (kind_led a.levels _ c.if-levels-eq0.false (k.meets room limit _ _) l c.if-input-at.false)
-          (lead_as (array_valued a.input.now room inner _ c.in-91.is) (c.read_array.ensures.meets room limit)); upper_bound = c.read_array.ensures.upper_bound }
+          (lead_as (array_valued a.input.now room inner _ c.in-91.is) (c.read_array.ensures.meets room limit));
+      upper_bound = c.read_array.ensures.upper_bound;
+    }
 
 pub read_value-returns-in-123 : goal.read_value-returns-in-123
 read_value-returns-in-123 t c =
     let a = c.args in
     let k = c.read_class-class.ensures in
-    let l = c.if-class-ge-REFUSED.false in record { meets = λ room limit.
+    let l = c.if-class-ge-REFUSED.false in record {
+      meets = λ room limit.
           let inner = D.read_value a.input.now room limit (a.levels - 1) in
           lead_after (kind_led a.levels _ c.if-levels-eq0.false (k.meets room limit _ _) l c.if-input-at.false)
-          (hash_headed c.in-123.is c.defaults.ensures.0 c.defaults.ensures.1 inner _ (c.read_hash.ensures.meets room limit)); upper_bound = c.read_hash.ensures.upper_bound }
+          (hash_headed c.in-123.is c.defaults.ensures.0 c.defaults.ensures.1 inner _ (c.read_hash.ensures.meets room limit));
+      upper_bound = c.read_hash.ensures.upper_bound;
+    }
 
 pub read_value-returns-in-111 : goal.read_value-returns-in-111
 unfolding head pick value_of wrappable
 read_value-returns-in-111 t c =
     let a = c.args in
     let k = c.read_class-class.ensures in
-    let l = c.if-class-ge-REFUSED.false in record { meets = λ room limit.
+    let l = c.if-class-ge-REFUSED.false in record {
+      meets = λ room limit.
           let inner = D.read_value a.input.now room limit (a.levels - 1) in
           lead_after (kind_led a.levels _ c.if-levels-eq0.false (k.meets room limit _ _) l c.if-input-at.false)
-          (lead_as (none_valued a.input.now room inner _ (k.follows l) c.in-111.is refl) (c.read_object.ensures.meets room limit)); upper_bound = c.read_object.ensures.upper_bound }
+          (lead_as (none_valued a.input.now room inner _ (k.follows l) c.in-111.is refl) (c.read_object.ensures.meets room limit));
+      upper_bound = c.read_object.ensures.upper_bound;
+    }
 
 pub read_value-returns-in-73 : goal.read_value-returns-in-73
 unfolding head pick value_of wrappable
 read_value-returns-in-73 t c =
     let a = c.args in
     let k = c.read_class-class.ensures in
-    let l = c.if-class-ge-REFUSED.false in record { meets = λ room limit.
+    let l = c.if-class-ge-REFUSED.false in record {
+      meets = λ room limit.
           let inner = D.read_value a.input.now room limit (a.levels - 1) in
           lead_after (kind_led a.levels _ c.if-levels-eq0.false (k.meets room limit _ _) l c.if-input-at.false)
-          (lead_as (none_valued a.input.now room inner _ (k.follows l) c.in-73.is refl) (c.read_variables.ensures.meets room limit)); upper_bound = c.read_variables.ensures.upper_bound }
+          (lead_as (none_valued a.input.now room inner _ (k.follows l) c.in-73.is refl) (c.read_variables.ensures.meets room limit));
+      upper_bound = c.read_variables.ensures.upper_bound;
+    }
 
 pub read_value-returns-in_default : goal.read_value-returns-in_default
 read_value-returns-in_default t c =
     let a = c.args in
     let k = c.read_class-class.ensures in
-    let l = c.if-class-ge-REFUSED.false in record { meets = λ room limit.
+    let l = c.if-class-ge-REFUSED.false in record {
+      meets = λ room limit.
           let inner = D.read_value a.input.now room limit (a.levels - 1) in
           lead_after (kind_led a.levels _ c.if-levels-eq0.false (k.meets room limit _ _) l c.if-input-at.false)
           (let o = c.in_default.in_default-own.rest in
           let n = leaf_kind _ _ (k.follows l) o.0.0.0.1 o.0.0.1 o.0.1 o.1 in
-          c.read_leaf.ensures.meets room limit inner _ n.0 n.1); upper_bound = c.read_leaf.ensures.upper_bound }
+          c.read_leaf.ensures.meets room limit inner _ n.0 n.1);
+      upper_bound = c.read_leaf.ensures.upper_bound;
+    }
 
 pub read_variables-read_inner-h-requires : goal.read_variables-read_inner-h-requires
 read_variables-read_inner-h-requires t c =
@@ -552,12 +600,15 @@ unfolding read_instance_variables
 read_variables-returns-then-done-ge-REFUSED t c =
     let h = c.read_inner-h.result in
     let n = c.read_words-n.result in
-    let q = c.read_words-n.ensures.upper_bound c.if-n-ge-REFUSED.false in record { meets = λ room limit.
+    let q = c.read_words-n.ensures.upper_bound c.if-n-ge-REFUSED.false in record {
+      meets = λ room limit.
           let name = read_symbol_like c.args.input.now room in
           let inner = D.read_value c.args.input.now room limit c.args.levels in
           lead_as (variables_after c.args.input.now room inner)
           (lead_after ((lead_first _ (c.read_inner-h.ensures.meets room limit)).goes c.if-h-ge-REFUSED.false)
-          (contained_stops name inner (variables_of name inner h) 2 _ 0 n _ _ _ (variables_rest name inner h _ n _ (list_parity _ n q.1)) refl q.1 (c.read_words-n.ensures.leads room limit _ _ _ _ _) c.if-n-ge-REFUSED.false (c.read_members-done.ensures.meets room limit) c.if-done-ge-REFUSED.true)); upper_bound = λ l. absurd (omega arith) }
+          (contained_stops name inner (variables_of name inner h) 2 _ 0 n _ _ _ (variables_rest name inner h _ n _ (list_parity _ n q.1)) refl q.1 (c.read_words-n.ensures.leads room limit _ _ _ _ _) c.if-n-ge-REFUSED.false (c.read_members-done.ensures.meets room limit) c.if-done-ge-REFUSED.true));
+      upper_bound = λ l. absurd (omega arith);
+    }
 
 pub read_variables-overflow_cast-start : goal.read_variables-overflow_cast-start
 read_variables-overflow_cast-start t c =
@@ -583,10 +634,13 @@ read_variables-returns t c =
     let O = members_at in
     let h = c.read_inner-h.result in
     let n = c.read_words-n.result in
-    let q = c.read_words-n.ensures.upper_bound c.if-n-ge-REFUSED.false in record { meets = λ room limit.
+    let q = c.read_words-n.ensures.upper_bound c.if-n-ge-REFUSED.false in record {
+      meets = λ room limit.
           let name = read_symbol_like c.args.input.now room in
           let inner = D.read_value c.args.input.now room limit c.args.levels in
           lead_as (variables_after c.args.input.now room inner)
           (lead_after ((lead_first _ (c.read_inner-h.ensures.meets room limit)).goes c.if-h-ge-REFUSED.false)
           (contained name inner (variables_of name inner h) 2 _ 0 n _ _ _ (variables_rest name inner h _ n _ (list_parity _ n q.1)) refl q.1 (c.read_words-n.ensures.leads room limit _ _ _ _ _) c.if-n-ge-REFUSED.false (c.read_members-done.ensures.meets room limit) c.if-done-ge-REFUSED.false
-          (c.set_variables.ensures.by_index _ room limit _ _ _ _ _ O.below))); upper_bound = λ l. omega (arith, c.set_variables.ensures.value l, O.below) }
+          (c.set_variables.ensures.by_index _ room limit _ _ _ _ _ O.below)));
+      upper_bound = λ l. omega (arith, c.set_variables.ensures.value l, O.below);
+    }

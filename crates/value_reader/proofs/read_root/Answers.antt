@@ -19,6 +19,9 @@ read_members-requires c =
 pub returns : goal.returns
 returns c =
     let a = c.args in
-    let k = c.read_members.ensures in record { meets = λ room.
+    let k = c.read_members.ensures in record {
+      meets = λ room.
           lead_after ((lead_first _ (c.read_header-w.ensures room a.limit _)).goes c.if-w-ge-REFUSED.false)
-          (lead_as (sym (after_members (read_symbol_like a.input.now room) (D.read_value a.input.now room a.limit a.limit) 2 0)) (k.meets room a.limit)); upper_bound = λ l. (k.value l).1 refl }
+          (lead_as (sym (after_members (read_symbol_like a.input.now room) (D.read_value a.input.now room a.limit a.limit) 2 0)) (k.meets room a.limit));
+      upper_bound = λ l. (k.value l).1 refl;
+    }

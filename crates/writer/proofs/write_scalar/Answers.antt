@@ -37,7 +37,7 @@ returns-after-nodes-v-eq1 c =
     λ A room limit level inner l b h.
     let row = bool_row l.noded v b c.in-1.is in
     elim c.if-nodes-v-eq1.branch [
-      then-nodes-v-eq1 w ↦ lead_as (true_same room A level inner v _ row w.if-nodes-v-eq1.true ∙ ap (λ (k : ℕ). write room (k ∷ [])) (sym w.k-is)) (c.write_byte.ensures A room limit _)
+      | then-nodes-v-eq1 w ↦ lead_as (true_same room A level inner v _ row w.if-nodes-v-eq1.true ∙ ap (λ (k : ℕ). write room (k ∷ [])) (sym w.k-is)) (c.write_byte.ensures A room limit _)
       | else-nodes-v-eq1 w ↦ lead_as (false_same room A level inner v _ row w.if-nodes-v-eq1.false ∙ ap (λ (k : ℕ). write room (k ∷ [])) (sym w.k-is)) (c.write_byte.ensures A room limit _)
     ]
 
