@@ -11,7 +11,6 @@ use lib.Seq.{drop-cons, drop-drop}
 use borrow.Author.Tests.{ltb-true, leb-true, eqb-true, lt-ltb, le-leb, eq-eqb, ne_eqb}
 use Rattle.definition.specs.Run.{pick}
 use Rattle.definition.specs.Weight.{digits, after_digits, fraction_of, decimal_if, unsigned, decimal, whole_number, with_sign, quotient, double, text_reading}
-use Rattle.definition.specs.declared.Reading.{Reading}
 use Rattle.definition.specs.declared.Reading.TheVariants.{Double, NotANumber}
 
 -- the number of digits one after the other

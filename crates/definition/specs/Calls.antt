@@ -1,7 +1,7 @@
 -- Calls of load, of dump, of the builder and of the getters with known outcomes, computed: the answer and all that is lent.
 use Rattle.std.specs.Prelude.{ℕ, ◌+◌, ◌-◌, ◌*◌, Bool, true, false, refl, List, [], ◌∷◌, ◌++◌, pos, negsuc, length, replicate}
 use Rattle.std.proofs.lemmas.List.Edits.{sets}
-use Rattle.definition.specs.Run.{Run, refused, pure, refuse, next, ◌>>=◌, look, pick}
+use Rattle.definition.specs.Run.{Run, pure, refuse, next, ◌>>=◌, look, pick}
 use Rattle.definition.specs.Node as N
 use Rattle.definition.specs.Node.{Row, nil, bool, fixnum, symbol, array, hash, object, string, user, float, bignum, absent, present, width, words, flat}
 use Rattle.definition.specs.Magnitude.{fits, sign, magnitude}

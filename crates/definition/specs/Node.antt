@@ -1,5 +1,5 @@
 -- A node: its row, and the row as eight words (01, "The arena"; 02, 2.1, 2.4 and 2.9).
-use Rattle.std.specs.Prelude.{ℕ, zero, suc, ◌+◌, Bool, true, false, List, [], ◌∷◌, ◌++◌, eqb, get_or, take, drop}
+use Rattle.std.specs.Prelude.{ℕ, zero, suc, Bool, true, false, List, [], ◌∷◌, ◌++◌, eqb, get_or, take, drop}
 use Rattle.definition.specs.Run.{pick}
 
 -- how many words a node has

@@ -1,9 +1,9 @@
 -- What a reader answers at an offset, computed: at the start, in the middle, at the end and past it; and of an input that is too long.
-use Rattle.std.specs.Prelude.{ℕ, zero, suc, ◌*◌, Bool, true, false, ◌≡◌, refl, List, [], ◌∷◌, ◌++◌, length, replicate}
+use Rattle.std.specs.Prelude.{ℕ, ◌*◌, Bool, true, false, ◌≡◌, refl, List, [], ◌∷◌, length, replicate}
 use Rattle.std.specs.Int.Count.{count_leading_zeros}
-use Rattle.definition.specs.Run.{Outcome, ok, refused, pure, refuse, next, ◌>>=◌, pick}
+use Rattle.definition.specs.Run.{pure, refuse, next, ◌>>=◌, pick}
 use Rattle.definition.specs.Integer.{form, little, wrong_sign, low_bytes, fewest, integer_bytes}
-use Rattle.definition.specs.Node.{nil, fixnum, width, words, flat, equal}
+use Rattle.definition.specs.Node.{nil, width, words, flat, equal}
 use Rattle.definition.specs.Slice.{INPUT}
 use Rattle.definition.specs.Arena.{range, too_long, counts_of}
 use Rattle.definition.specs.Load as L

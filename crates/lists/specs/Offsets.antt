@@ -1,9 +1,8 @@
 -- Load at an offset: of the input the whole length is tested, and what stands at the offset is loaded.
-use Rattle.std.specs.Prelude.{ℕ, zero, suc, ◌≤◌, ◌<◌, true, false, List, [], ◌≡◌, refl, length, drop}
+use Rattle.std.specs.Prelude.{ℕ, zero, suc, ◌≤◌, ◌<◌, true, false, List, ◌≡◌, refl, length, drop}
 use Rattle.std.proofs.Common.{arith, sym, ap, ◌∙◌, length-drop, le-ltb, lt-ltb}
-use Rattle.definition.specs.Run.{pick}
 use Rattle.definition.specs.Slice.{greatest_length}
-use Rattle.definition.specs.Arena.{too_long, lowest}
+use Rattle.definition.specs.Arena.{too_long}
 use Rattle.definition.specs.Load.{Lists, load_wrong, load_if, load_call}
 use Rattle.definition.specs.Reader.{load_next}
 use Rattle.lists.specs.Lists.{apart}

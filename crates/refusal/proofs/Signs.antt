@@ -1,9 +1,7 @@
 -- 32 bits read as signed, by their sign.
 use Prim.Native.Nat.{ℕ, ◌+◌, ◌-◌, ◌≤◌, ◌<◌}
-use native.Mathlib.Omega.{arith}
 use mathlib.Core.Bool.{true, false}
 use mathlib.Core.Path.{◌≡◌, refl}
-use lib.IntN.{ℤ, pos, negsuc}
 use borrow.Author.Tests.{lt-ltb, le-ltb}
 use Rattle.definition.specs.Run.{pick}
 use Rattle.definition.specs.Refused.{signed, numbers, below, size, told, numbers_told}

@@ -1,6 +1,6 @@
 -- Copies and zeroing: one turn, and what stands at the end.
-use Rattle.std.specs.Prelude.{ℕ, zero, suc, ◌+◌, ◌-◌, ◌≤◌, ◌<◌, ◌≡◌, refl, List, [], ◌∷◌, ◌++◌, length, take, drop, set, get_or, replicate}
-use Rattle.std.proofs.Common.{arith, add-one, add-zero, sym, ap, ◌∙◌, subst, append-nil, length-take, length-drop, drop_of_length-le, take-suc, get_or-drop}
+use Rattle.std.specs.Prelude.{ℕ, suc, ◌+◌, ◌-◌, ◌≤◌, ◌<◌, ◌≡◌, List, [], ◌∷◌, ◌++◌, length, take, drop, set, get_or, replicate}
+use Rattle.std.proofs.Common.{arith, add-one, add-zero, sym, ap, ◌∙◌, append-nil, length-take, length-drop, drop_of_length-le, take-suc, get_or-drop}
 use Rattle.std.proofs.Math.Nat.{sub-zero}
 use Rattle.std.proofs.lemmas.List.{length-replicate, replicate-append-replicate}
 use Rattle.std.proofs.lemmas.List.Edits.{sets, sets-eq}

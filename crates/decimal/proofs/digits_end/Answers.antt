@@ -1,8 +1,6 @@
 -- The proof of digits_end.
 use native.Mathlib.Omega.{arith}
-use Prim.Native.Nat.{◌-◌}
 use mathlib.Core.Path.{refl, sym, ap, ◌∙◌}
-use borrow.Author.Tests.{not-true, not-false}
 use lib.ListN.{length}
 use Rattle.decimal.proofs.Laws.{no_more, one_more, ended}
 use Rattle.decimal.proofs.digits_end.Goals as goal

@@ -1,7 +1,7 @@
 -- The proof of power_of_ten.
 use native.Mathlib.Omega.{arith}
 use native.Mathlib.Nat.{pow-suc, pow-le-pow_right}
-use Prim.Native.Nat.{ℕ, ◌-◌, ◌*◌, ◌^◌}
+use Prim.Native.Nat.{ℕ, ◌*◌, ◌^◌}
 use lib.Pow.{pow-add}
 use mathlib.Core.Path.{refl, sym, ap, ◌∙◌}
 use Rattle.decimal.proofs.power_of_ten.Goals as goal

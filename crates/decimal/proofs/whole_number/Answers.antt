@@ -1,6 +1,6 @@
 -- The proof of whole_number.
 use native.Mathlib.Omega.{arith}
-use Prim.Native.Nat.{◌-◌, ◌^◌}
+use Prim.Native.Nat.{◌^◌}
 use Rattle.decimal.proofs.Laws.{digit_byte, digit_here, room_here, says_begun, says_more, says_all}
 use Rattle.decimal.proofs.whole_number.Goals as goal
 

@@ -1,6 +1,6 @@
 -- The proof of fnv_1a.
 use native.Mathlib.Omega.{arith}
-use Prim.Native.Nat.{ℕ, ◌-◌, ◌+◌}
+use Prim.Native.Nat.{ℕ, ◌+◌}
 use mathlib.Core.Path.{refl, sym, ap, ◌∙◌}
 use lib.ListN.{take, drop}
 use Rattle.definition.specs.Buckets.{fnv_from, fnv_1a}

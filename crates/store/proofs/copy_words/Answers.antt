@@ -1,6 +1,6 @@
 -- The proof of copy_words.
 use native.Mathlib.Omega.{arith}
-use Prim.Native.Nat.{ℕ, ◌+◌, ◌-◌}
+use Prim.Native.Nat.{ℕ, ◌+◌}
 use mathlib.Core.Path.{◌≡◌, refl, ap, ◌∙◌, subst}
 use lib.ListN.{length, take, drop}
 use lib.Seq.{sets, length-sets, take-length}

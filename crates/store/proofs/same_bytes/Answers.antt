@@ -2,7 +2,6 @@
 use native.Mathlib.Omega.{arith}
 use Prim.Native.Nat.{◌-◌}
 use mathlib.Core.Path.{◌≡◌, sym}
-use mathlib.Core.Bool.{true}
 use Rattle.lists.specs.Same.{same_none, same_more, same_apart_at}
 use Rattle.store.proofs.same_bytes.Goals as goal
 

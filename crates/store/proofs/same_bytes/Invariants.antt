@@ -1,5 +1,5 @@
 -- What lasts in the loop of same_bytes, and why it ends.
-use Prim.Native.Nat.{◌-◌, ◌≤◌}
+use Prim.Native.Nat.{◌≤◌}
 use mathlib.Core.Path.{◌≡◌}
 use mathlib.Core.Bool.{true}
 use lib.ListN.{take, drop}

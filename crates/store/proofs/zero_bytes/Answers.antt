@@ -1,6 +1,5 @@
 -- The proof of zero_bytes.
 use native.Mathlib.Omega.{arith}
-use Prim.Native.Nat.{◌-◌}
 use mathlib.Core.Path.{refl}
 use lib.ListN.{length-set}
 use Rattle.store.specs.Laws.{zeroed_more, zeroed_all}
