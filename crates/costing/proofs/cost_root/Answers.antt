@@ -1,7 +1,5 @@
 -- The proof of cost_root.
-use Prim.Native.Nat.{◌+◌, ◌*◌}
 use native.Mathlib.Omega.{arith}
-use Rattle.definition.specs.Node.{width, LIST}
 use Rattle.definition.specs.Build.{lent}
 use Rattle.costing.proofs.Shape.{root_inside, nodes_inside, not_array, other_number, two_inside, two_elements}
 use Rattle.costing.proofs.cost_root.Goals as goal
