@@ -7,6 +7,7 @@
 // as many words as a node has, which hold what else the call answers; then the tables. Of a Bignum the first number is 1 for
 // minus, and the list is its low and its high word; of replace_class the list is the class.
 #![tactic(auto)]
+
 ghost use Rattle.std.specs.Prelude.{not, T};
 ghost use Rattle.std.specs.Float.Ieee.{is_nan};
 

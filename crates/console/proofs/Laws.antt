@@ -1,9 +1,8 @@
--- What the programs' load leaves, by the input's length; a number of a list's first entries.
+-- What the programs' load leaves, by the input's length.
 use Prim.Native.Nat.{ℕ, ◌≤◌, ◌<◌}
-use mathlib.Core.Path.{◌≡◌, refl, sym, ◌∙◌}
+use mathlib.Core.Path.{◌≡◌, refl}
 use mathlib.Core.List.{List}
-use lib.ListN.{length, take}
-use lib.Seq.{length-take-le}
+use lib.ListN.{length}
 use borrow.Author.Tests.{lt-ltb, le-ltb}
 use Rattle.definition.specs.Run.{pick}
 use Rattle.definition.specs.Load.{Lists, LoadCall, load_call}
@@ -17,6 +16,3 @@ module _ (input : List ℕ) (T : Lists) where
   pub loaded : {k : LoadCall} → length input ≤ 16384 → k ≡ load_call input T 64 → k ≡ input_call input T
   unfolding input_call pick
   loaded h e = rw (le-ltb 16384 (length input) h) e
-
-pub counted : (n : ℕ) (l : List ℕ) → n ≤ length l → (n ≤ length l) × (n ≡ length (take n l))
-counted n l h = (h, sym (length-take-le n l h))

@@ -3,6 +3,7 @@
 // Text is put into a buffer that is written when it is full. A position past the buffer's end says that a write failed:
 // nothing more is put then.
 #![tactic(auto)]
+
 ghost use Rattle.std.specs.Prelude.{◌≡◌};
 ghost use Rattle.definition.specs.Load.{lists, load_call_of};
 ghost use Rattle.io.specs.Counts as counts;
@@ -11,6 +12,7 @@ ghost use Rattle.console.specs.Call.{input_call};
 use definition::{Answer, Counts, Loaded, Node, Refusal, Slice};
 use load::load;
 use refusal::answer_numbers;
+use std::io::{Error, Read, Stdin};
 
 // The longest input that is taken.
 pub const LONGEST: usize = 16384;
@@ -146,29 +148,32 @@ fn put_yes_or_no(out: &mut [u8], at: usize, b: bool) -> usize {
 #[derive(Clone, Copy)]
 pub enum Input {
     Read(usize),
-    Failed,
+    Failed(Error),
 }
 
 // Bytes of standard input from `at` on; how many, 0 at the end.
-fn read_more(input: &mut [u8], at: usize) -> Input {
+fn read_more(stdin: Stdin, input: &mut [u8], at: usize) -> Input {
     if at < input.len() {
-        let got = libc::read(0, &mut input[at..]);
-        if got < 0 {
-            return Input::Failed;
-        }
-        let n = io::count(got, &input[..]);
-        if n <= input.len() - at {
-            return Input::Read(n);
+        let mut from = stdin;
+        match from.read(&mut input[at..]) {
+            Ok(n) => {
+                if n <= input.len() - at {
+                    return Input::Read(n);
+                }
+            }
+            Err(e) => {
+                return Input::Failed(e);
+            }
         }
     }
     Input::Read(0)
 }
 
 // Standard input, as far as it goes into the buffer.
-pub fn read_input(input: &mut [u8]) -> Input {
+pub fn read_input(stdin: Stdin, input: &mut [u8]) -> Input {
     let mut at = 0;
     while at < input.len() {
-        match read_more(input, at) {
+        match read_more(stdin, input, at) {
             Input::Read(n) => {
                 if n == 0 {
                     return Input::Read(at);
@@ -178,8 +183,8 @@ pub fn read_input(input: &mut [u8]) -> Input {
                 }
                 at = at + n;
             }
-            Input::Failed => {
-                return Input::Failed;
+            Input::Failed(e) => {
+                return Input::Failed(e);
             }
         }
     }

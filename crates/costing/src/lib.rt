@@ -1,5 +1,6 @@
 // What the program cost prints: an input loaded, and the cost of the recipe in it at the prices in it.
 #![tactic(auto)]
+
 ghost use Rattle.std.specs.Prelude.{◌≡◌, ◌*◌, ◌≤◌, length};
 ghost use Rattle.std.proofs.Math.Option.{none};
 ghost use Rattle.definition.specs.Node.{width, rows};

@@ -4,6 +4,7 @@
 // at which the byte table stands; what is expected: the answer's number and two details, the number of bytes written, how many
 // bytes are given, and the byte at which these stand; then the node words and references.
 #![tactic(auto)]
+
 use console::{BYTES, NODES, NUMBERED, REFERENCES};
 use definition::Dumped;
 use dump::dump;

@@ -1,9 +1,14 @@
 // list: prints the arena that load makes of standard input, or its refusal.
 #![tactic(auto)]
-fn main() {
+
+use std::process::ExitCode;
+
+fn main(rt: HostRuntime) -> ExitCode {
     programs::run(
+        rt.stdin(),
+        rt.stderr(),
         programs::LIST,
         b"list: standard input",
         b"list: standard output",
-    );
+    )
 }

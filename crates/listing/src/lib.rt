@@ -1,6 +1,7 @@
 // What the programs list and list_all print: an input loaded, or all that stands in it one after the other, and the arena or
 // the refusal as rows of columns.
 #![tactic(auto)]
+
 use console::{LIMIT, LONGEST, end_row, load_input, put_number, put_refusal};
 use definition::{Answer, Counts, Loaded, Node, Refusal, Slice};
 use load::load_at;

@@ -6,6 +6,7 @@
 // words looked at, two words each; how much of nodes, references and bytes is laid out, and the byte at which these bytes stand;
 // then those node words and references.
 #![tactic(auto)]
+
 use console::{BYTES, NODES, NUMBERED, REFERENCES};
 use definition::Loaded;
 use load::{load, load_hashed, load_measured};

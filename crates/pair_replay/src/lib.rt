@@ -4,6 +4,7 @@
 // A case, from word 2 on: 1 where they hold the same graph, else 0; the answer's number and two details, of both; and of the first
 // input, the second, the first dump and the second the length and the byte at which it stands.
 #![tactic(auto)]
+
 use console::{BYTES, NODES, NUMBERED, REFERENCES};
 use definition::Dumped;
 use redumping::redump;

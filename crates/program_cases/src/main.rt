@@ -3,6 +3,7 @@
 //
 // Standard input: for each input its length in two bytes, low byte first, the program's number in two, and the input.
 #![tactic(auto)]
+
 use console::{LONGEST, end_row, flush, put_number, within};
 use programs::put_output;
 

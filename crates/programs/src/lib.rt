@@ -1,5 +1,6 @@
 // What each program does with its input, chosen by a number, and the program over standard input.
 #![tactic(auto)]
+
 use console::{
     BYTES, Input, LONGEST, NODES, NUMBERED, REFERENCES, flush, load_input, put_form, read_input,
     within,
@@ -7,6 +8,8 @@ use console::{
 use costing::{cost_input, put_cost};
 use listing::{put_listing, put_listings};
 use redumping::put_redump;
+use std::io::{Error, Print, Stderr, Stdin};
+use std::process::ExitCode;
 
 // The programs.
 pub const LIST: u32 = 1;
@@ -90,16 +93,26 @@ fn write_output(program: u32, input: &[u8]) -> bool {
     flush(&out, at) == 0
 }
 
+// What failed, and why: a line on standard error.
+fn failed(stderr: Stderr, what: &[u8], why: Error) -> ExitCode {
+    let _ = Print::write_all(&stderr, what);
+    let _ = stderr.print(": ");
+    let _ = stderr.println(why);
+    ExitCode::FAILURE
+}
+
 // A program over standard input. `reading` and `writing` name what failed, on standard error.
-pub fn run(program: u32, reading: &[u8], writing: &[u8]) {
+pub fn run(stdin: Stdin, stderr: Stderr, program: u32, reading: &[u8], writing: &[u8]) -> ExitCode {
     let mut input = [0u8; LONGEST + 1];
-    match read_input(&mut input) {
+    match read_input(stdin, &mut input) {
         Input::Read(n) => {
             let length = within(n, &input);
-            if !write_output(program, &input[..length]) {
-                os::fail(&writing[..]);
+            if write_output(program, &input[..length]) {
+                ExitCode::SUCCESS
+            } else {
+                failed(stderr, &writing[..], Error::other("not written"))
             }
         }
-        Input::Failed => os::fail(&reading[..]),
+        Input::Failed(e) => failed(stderr, &reading[..], e),
     }
 }

@@ -1,5 +1,6 @@
 // What the program redump writes: an input loaded, and its arena dumped.
 #![tactic(auto)]
+
 ghost use Rattle.std.specs.Prelude.{◌≡◌};
 ghost use Rattle.definition.specs.Load.{lists};
 ghost use Rattle.definition.specs.Dump.{dump_call_of};

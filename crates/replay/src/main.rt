@@ -4,6 +4,7 @@
 // of a case is its length in words, word 1 its call. The call END closes a section, whose count is then printed: one that is cut
 // short has none. A case has at most LONGEST bytes.
 #![tactic(auto)]
+
 mod readers;
 
 use replay_cases::{next, print_case, print_counts, read_case, word};

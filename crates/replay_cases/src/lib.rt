@@ -1,5 +1,6 @@
 // What replaying a case of any call shares: its words and bytes, what tables hold before and after a call, and what is printed.
 #![tactic(auto)]
+
 ghost use Rattle.std.specs.Prelude.{◌<◌};
 ghost use Rattle.io.specs.Counts as counts;
 

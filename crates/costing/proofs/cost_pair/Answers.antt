@@ -1,5 +1,4 @@
 -- The proof of cost_pair.
-use borrow.Author.Tests.{not-true, not-false}
 use mathlib.Core.Path.{refl, sym, ◌∙◌}
 use Rattle.definition.specs.Arena.{arena}
 use Rattle.costing.proofs.Shape.{both, first_other, second_other}

@@ -1,7 +1,5 @@
 -- The proof of cost_root.
-use Prim.Native.Nat.{◌+◌, ◌*◌}
 use native.Mathlib.Omega.{arith}
-use Rattle.definition.specs.Node.{width, LIST}
 use Rattle.definition.specs.Build.{lent}
 use Rattle.costing.proofs.Shape.{root_inside, nodes_inside, not_array, other_number, two_inside, two_elements}
 use Rattle.costing.proofs.cost_root.Goals as goal
@@ -41,24 +39,12 @@ bounds-nodes-at-3 c =
     let e = c.requires in
     omega (arith, root_inside L e _ c.size-at.ensures)
 
-pub offset_bounds-references-start : goal.offset_bounds-references-start
-offset_bounds-references-start c =
-    omega (arith, c.size-start.ensures, c.shared_slice_known-6-1.given (c.size-at.result * width + LIST))
-
 pub bounds-references-start : goal.bounds-references-start
 bounds-references-start c =
     let a = c.args in
     let L = lent a.nodes.now a.references.now a.bytes.now a.counts in
     let e = c.requires in
     omega (arith, two_inside L e _ c.size-at.ensures c.if-nodes-at-ne-ARRAY.false c.if-nodes-at-ne-ELEMENTS.false _ c.size-start.ensures)
-
-pub overflow_add-prices : goal.overflow_add-prices
-overflow_add-prices c =
-    omega (arith, c.size-start.ensures, c.shared_slice_known-6-1.given (c.size-at.result * width + LIST))
-
-pub offset_bounds-references-start-2 : goal.offset_bounds-references-start-2
-offset_bounds-references-start-2 c =
-    omega (arith, c.size-start.ensures, c.shared_slice_known-6-1.given (c.size-at.result * width + LIST))
 
 pub bounds-references-start-2 : goal.bounds-references-start-2
 bounds-references-start-2 c =

@@ -2,7 +2,6 @@
 use mathlib.Core.Path.{ap, ◌∙◌}
 use Rattle.definition.specs.Load.{LoadCall}
 use Rattle.redumping.proofs.Laws.{dumped, handed_on}
-use borrow.Author.Rules.{rules}
 use Rattle.redumping.proofs.redump.Goals as goal
 
 pub returns-in-Accepted : goal.returns-in-Accepted
