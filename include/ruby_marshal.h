@@ -1,8 +1,8 @@
 /*
  * Ruby Marshal 4.8 in lent tables: load, dump, the arena's getters, weighing, costing and builder. For C11 and C++.
  *
- * Link libmarshal_c.a, which `rt staticlib marshal_c` writes to target/staticlib (x86-64 Linux). It allocates nothing, keeps
- * nothing between calls, and needs of the C library at most memcpy, memmove, memset and memcmp.
+ * Link libmarshal_c.a, which `rt lib` in crates/marshal_c writes to crates/marshal_c/out (x86-64 Linux). It allocates nothing,
+ * keeps nothing between calls, and needs of the C library at most memcpy, memmove, memset and memcmp.
  *
  * Every function is proved to return and leave what its definition says, for whatever the slices and numbers hold. What the
  * proof takes for granted is that the arguments are what their C types say; that is the caller's part:

@@ -11,7 +11,7 @@ MODULES = ["Run", "Refused", "Integer", "Node", "Magnitude", "Arena", "Buckets",
 PER_MODULE = 40
 
 # what the definitions use of IEEE 754
-IEEE = ["size", "round", "units", "odd", "neg", "sum", "add", "sub", "div", "lt", "ofInt", "toBits"]
+IEEE = ["size", "round", "units", "odd", "neg", "sum", "add", "sub", "div", "lt", "of_int", "to_bits"]
 
 # refusals by number: the constructor and how many of the two details it holds
 REFUSALS = {1: ("BadTables", 1), 3: ("InvalidVersion", 2), 4: ("ShortInput", 0), 5: ("InvalidKind", 1),
@@ -46,7 +46,7 @@ def answer(a):
 
 
 def counts(c):
-    return "(A.counts-of %d %d %d %d)" % tuple(c)
+    return "(A.counts_of %d %d %d %d)" % tuple(c)
 
 
 def filled(n, by):
@@ -87,8 +87,8 @@ def load(case):
     number = case["hashed"][0]
     hashed = "record { answer = record { load = %s; looked = %d }; lent = %s; buckets = %s }" % (
         loaded, case["looked"], left_of(case, number, junk), buckets if number == 1 else filled(case["buckets"], 0))
-    return [(" ".join(["LM.measured-call"] + given + limit), measured),
-            (" ".join(["LH.hashed-call"] + given + [buckets] + limit), hashed)]
+    return [(" ".join(["LM.measured_call"] + given + limit), measured),
+            (" ".join(["LH.hashed_call"] + given + [buckets] + limit), hashed)]
 
 
 def tables(nodes, refs, data):
@@ -104,9 +104,9 @@ def dump(case):
         after = (filled(case["scratch"], 0), filled(case["out"], 0))
     else:
         after = (filled(case["scratch"], 0), padded(unhex(case["written"]), case["out"]))
-    left = "D.dump-call %s %s %s %s %d" % (tables(numbers(case["nodes"]), numbers(case["refs"]), numbers(unhex(case["bytes"]))),
+    left = "D.dump_call %s %s %s %s %d" % (tables(numbers(case["nodes"]), numbers(case["refs"]), numbers(unhex(case["bytes"]))),
                                           counts(case["counts"]), scratch, output, case["limit"])
-    return [(left, "D.dump-call-of %s %d %s %s" % (answer(case["answer"]), case["length"], after[0], after[1]))]
+    return [(left, "D.dump_call_of %s %d %s %s" % (answer(case["answer"]), case["length"], after[0], after[1]))]
 
 
 def build(case):
@@ -117,31 +117,31 @@ def build(case):
     got = answer(case["answer"])
     lent = "(B.lent %s %s)" % (" ".join(before), counts(case["counts"]))
     if name == "new":
-        return [("B.new-call %s" % tables(*before), "record { answer = record { answer = %s; counts = %s }; tables = %s }" % (
+        return [("B.new_call %s" % tables(*before), "record { answer = record { answer = %s; counts = %s }; tables = %s }" % (
             got, counts(case["counts_after"]), tables(*after)))]
     words = case.get("words")
     if name in ("root", "kind"):
-        run = "B.get-root" if name == "root" else "B.get-kind %d" % args[0]
-        return [("B.number-done ((%s) %s)" % (run, lent), "record { answer = %s; value = %d }" % (got, (words or [0])[0]))]
+        run = "B.get_root" if name == "root" else "B.get_kind %d" % args[0]
+        return [("B.number_done ((%s) %s)" % (run, lent), "record { answer = %s; value = %d }" % (got, (words or [0])[0]))]
     if name == "get":
-        return [("B.words-done (B.get-words %d %s)" % (args[0], lent), "record { answer = %s; words = %s }" % (got, numbers(words or [0] * model.WIDTH)))]
+        return [("B.words_done (B.get_words %d %s)" % (args[0], lent), "record { answer = %s; words = %s }" % (got, numbers(words or [0] * model.WIDTH)))]
     if name == "get_symbol":
         start, length = words or (0, 0)
-        return [("B.name-done (B.get-name %d %s)" % (args[0], lent), "record { answer = %s; start = %d; length = %d }" % (got, start, length))]
+        return [("B.name_done (B.get_name %d %s)" % (args[0], lent), "record { answer = %s; start = %d; length = %d }" % (got, start, length))]
     if name in ("replace_root", "replace_class"):
-        run = " ".join(["B.exchange-" + name.partition("_")[2]] + [str(a) for a in args])
+        run = " ".join(["B.exchange_" + name.partition("_")[2]] + [str(a) for a in args])
     elif name == "create_bool":
-        run = "B.create-bool %s" % ("true" if args[0] else "false")
+        run = "B.create_bool %s" % ("true" if args[0] else "false")
     elif name == "create_bignum":
-        run = "B.create-bignum %s %d %d" % ("true" if args[0] else "false", args[1], args[2])
+        run = "B.create_bignum %s %d %d" % ("true" if args[0] else "false", args[1], args[2])
     elif name == "create_fixnum":
-        run = "B.create-fixnum %s" % integer(args[0] - 2 ** 32 if args[0] >= 2 ** 31 else args[0])
+        run = "B.create_fixnum %s" % integer(args[0] - 2 ** 32 if args[0] >= 2 ** 31 else args[0])
     else:
         shown = [numbers(a) if isinstance(a, list) else numbers(unhex(a)) if isinstance(a, str) else str(a) for a in args]
-        run = " ".join(["B." + name.replace("_", "-")] + shown)
+        run = " ".join(["B." + name] + shown)
     right = "record { answer = record { answer = %s; handle = %d; counts = %s }; tables = %s }" % (
         got, case["handle"], counts(case["counts_after"]), tables(*after))
-    return [("B.build-call (%s) %s" % (run, lent), right)]
+    return [("B.build_call (%s) %s" % (run, lent), right)]
 
 
 def pair(case):
@@ -162,43 +162,38 @@ def lent_of(case):
 def weigh(case):
     """The weighing, and what each of the two nodes reads as, doubles by their bits."""
     lent = lent_of(case)
-    weighing = "weighing-bits (W.weighed-done (W.wet-weight %d %d %s))" % (case["dry"], case["moisture"], lent)
+    weighing = "weighing_bits (W.weighed_done (W.wet_weight %d %d %s))" % (case["dry"], case["moisture"], lent)
     out = [(weighing, "(%s, %d, %d, %d)" % tuple([answer(case["answer"])] + case["weighing"]))]
     for handle in (case["dry"], case["moisture"]):
         got, (kind, x) = model.read(case, handle)
         shown = ["nothing", "(whole %s)" % integer(x), "(bits %d)" % model.bits(x)][kind]
-        out.append(("reading-bits (W.read-done (W.get-reading %d %s))" % (handle, lent), "(%s, %s)" % (answer(got), shown)))
+        out.append(("reading_bits (W.read_done (W.get_reading %d %s))" % (handle, lent), "(%s, %s)" % (answer(got), shown)))
     return out
 
 
 def cost(case):
-    left = "C.cost-done (C.batch-cost %d %d %s)" % (case["recipe"], case["prices"], lent_of(case))
+    left = "C.cost_done (C.batch_cost %d %d %s)" % (case["recipe"], case["prices"], lent_of(case))
     return [(left, "record { answer = %s; cents = %d }" % (answer(case["answer"]), case["cents"]))]
 
 
 EQUATIONS = {"load": load, "dump": dump, "build": build, "pairs": pair, "weigh": weigh, "cost": cost}
 
 HEAD = """-- Cases of {name}.
-use Prim.Native.Nat.{{ℕ}}
-use mathlib.Core.Bool.{{Bool, true, false}}
-use mathlib.Core.Path.{{_≡_, refl}}
-use mathlib.Core.List.{{List, [], _∷_, _++_}}
-use mathlib.Core.Option.{{Option, none, some}}
-use lib.Count
-use lib.Ieee
-use lib.IntN.{{pos, negsuc}}
-use lib.ListN.{{replicate}}
-use Rattle·definition.specs.Arena as A
-use Rattle·definition.specs.State as S
-use Rattle·definition.specs.Load as L
-use Rattle·definition.specs.LoadMeasured as LM
-use Rattle·definition.specs.LoadHashed as LH
-use Rattle·definition.specs.Dump as D
-use Rattle·definition.specs.Build as B
-use Rattle·definition.specs.Run.{{Outcome, ok, refused}}
-use Rattle·definition.specs.declared.Answer.the-variants.{{Accepted, Refused}}
-use Rattle·definition.specs.declared.Fault.the-variants.{{Counts as BadCounts, Node}}
-use Rattle·definition.specs.declared.Refusal.the-variants.{{BadTables, BadArena, InvalidVersion, ShortInput, InvalidKind, NegativeCount, MissingSymbol, MissingObject, NotASymbol, NotAnObject, TooDeep, NoSpace, BadHandle, WrongKind, BadSign, TooBig, NotAWeight, BadMoisture, WrongSign, NotARecipe, NoPrice, NotWrappable}}
+use Rattle.std.specs.Prelude.{{ℕ, ◌≡◌, refl, Bool, true, false, List, [], ◌∷◌, ◌++◌, pos, negsuc, replicate}}
+use Rattle.std.proofs.Math.Option.{{Option, none, some}}
+use Rattle.std.specs.Int.Count
+use Rattle.std.specs.Float.Ieee
+use Rattle.definition.specs.Arena as A
+use Rattle.definition.specs.State as S
+use Rattle.definition.specs.Load as L
+use Rattle.definition.specs.LoadMeasured as LM
+use Rattle.definition.specs.LoadHashed as LH
+use Rattle.definition.specs.Dump as D
+use Rattle.definition.specs.Build as B
+use Rattle.definition.specs.Run.{{Outcome, ok, refused}}
+use Rattle.definition.specs.declared.Answer.TheVariants.{{Accepted, Refused}}
+use Rattle.definition.specs.declared.Fault.TheVariants.{{Counts as BadCounts, Node}}
+use Rattle.definition.specs.declared.Refusal.TheVariants.{{BadTables, BadArena, InvalidVersion, ShortInput, InvalidKind, NegativeCount, MissingSymbol, MissingObject, NotASymbol, NotAnObject, TooDeep, NoSpace, BadHandle, WrongKind, BadSign, TooBig, NotAWeight, BadMoisture, WrongSign, NotARecipe, NoPrice, NotWrappable}}
 """
 
 PAIRS = """
@@ -206,12 +201,12 @@ room : S.Room
 room = record {{ nodes = 1000; references = 4000; bytes = 16384; symbols = 1000; objects = 1000 }}
 
 dumped : Outcome D.Written (Unit {{0}}) → Option (List ℕ)
-dumped (ok x s) = some (s .bytes)
+dumped (ok x s) = some s.bytes
 dumped (refused r) = none
 
 loaded : Outcome S.State ℕ → Option (List ℕ)
 unfolding dumped {unfolding}
-loaded (ok h s) = dumped (D.dump 100000 (record {{ nodes = s .nodes; references = s .references; bytes = s .bytes; root = h }}) 128)
+loaded (ok h s) = dumped (D.dump 100000 (record {{ nodes = s.nodes; references = s.references; bytes = s.bytes; root = h }}) 128)
 loaded (refused r) = none
 
 redump : List ℕ → Option (List ℕ)
@@ -220,14 +215,15 @@ redump input = loaded (L.load input room 64)
 """
 
 WEIGH = """
-use lib.IntN.{{ℤ}}
-use lib.Ieee.{{binary64, toBits}}
-use Rattle·definition.specs.Weight as W
-use Rattle·definition.specs.declared.Answer.{{Answer}}
-use Rattle·definition.specs.declared.Read.{{Read}}
-use Rattle·definition.specs.declared.Reading.{{Reading}}
-use Rattle·definition.specs.declared.Reading.the-variants.{{Whole, Double, NotANumber}}
-use Rattle·definition.specs.declared.Weighed.{{Weighed}}
+use Rattle.std.specs.Prelude.{{ℤ}}
+use Rattle.std.specs.Float.{{binary64}}
+use Rattle.std.specs.Float.Ieee.{{to_bits}}
+use Rattle.definition.specs.Weight as W
+use Rattle.definition.specs.declared.Answer.{{Answer}}
+use Rattle.definition.specs.declared.Read.{{Read}}
+use Rattle.definition.specs.declared.Reading.{{Reading}}
+use Rattle.definition.specs.declared.Reading.TheVariants.{{Whole, Double, NotANumber}}
+use Rattle.definition.specs.declared.Weighed.{{Weighed}}
 
 -- a reading with a double by its bits
 data Shown : Type 0 where
@@ -236,35 +232,35 @@ data Shown : Type 0 where
   bits : ℕ → Shown
 
 shown : Reading → Shown
-unfolding toBits
+unfolding to_bits
 shown NotANumber = nothing
 shown (Whole n) = whole n
-shown (Double x) = bits (toBits binary64 x)
+shown (Double x) = bits (to_bits binary64 x)
 
-reading-bits : Read → Answer × Shown
+reading_bits : Read → Answer × Shown
 unfolding shown
-reading-bits r = (r .answer, shown (r .reading))
+reading_bits r = (r.answer, shown r.reading)
 
-weighing-bits : Weighed → Answer × ℕ × ℕ × ℕ
-unfolding toBits
-weighing-bits w = (w .answer, toBits binary64 (w .weighing .dry), toBits binary64 (w .weighing .moisture), toBits binary64 (w .weighing .wet))
+weighing_bits : Weighed → Answer × ℕ × ℕ × ℕ
+unfolding to_bits
+weighing_bits w = (w.answer, to_bits binary64 w.weighing.dry, to_bits binary64 w.weighing.moisture, to_bits binary64 w.weighing.wet)
 """
 
 COST = """
-use Rattle·definition.specs.Cost as C
+use Rattle.definition.specs.Cost as C
 """
 
 # What the cases of a call need besides, and which of that the checker has to see through.
-MORE = {"pairs": (PAIRS, ["redump"]), "weigh": (WEIGH, ["reading-bits", "weighing-bits", "shown"]), "cost": (COST, [])}
+MORE = {"pairs": (PAIRS, ["redump"]), "weigh": (WEIGH, ["reading_bits", "weighing_bits", "shown"]), "cost": (COST, [])}
 
 
 def names():
     """Every definition that the checker has to see through, by its path."""
-    found = ["lib.Count.leadingZeros"] + ["lib.Ieee." + n for n in IEEE]
+    found = ["Rattle.std.specs.Int.Count.count_leading_zeros"] + ["Rattle.std.specs.Float.Ieee." + n for n in IEEE]
     for m in MODULES:
         text = open(os.path.join(DEFINITION, "specs", m + ".antt")).read()
         for n in re.findall(r"^ *unfoldable pub (\S+)", text, re.M):
-            found.append("Rattle·definition.specs.%s.%s" % (m, n))
+            found.append("Rattle.definition.specs.%s.%s" % (m, n))
     return " ".join(found)
 
 
@@ -275,7 +271,7 @@ def write_crate(folder, label, equations):
     seen = " ".join(own + [unfolding])
     os.makedirs(os.path.join(folder, "specs"))
     os.makedirs(os.path.join(folder, "src"))
-    open(os.path.join(folder, "src", "lib.rt"), "w").write("// Cases only.\n")
+    open(os.path.join(folder, "src", "lib.rt"), "w").write("// Cases only.\n#![tactic(auto)]\n")
     mods = []
     for i in range(0, len(equations), PER_MODULE):
         mods.append("Part%d" % (i // PER_MODULE))
@@ -287,7 +283,7 @@ def write_crate(folder, label, equations):
 
 
 def equations_of(name, cases):
-    return [("case-%s-%d" % (re.sub(r"[./]", "-", case["id"]), k), e)
+    return [("case_%s_%d" % (re.sub(r"[./-]", "_", case["id"]), k), e)
             for case in cases if corpus.runs(case) for k, e in enumerate(EQUATIONS[name](case))]
 
 
@@ -306,7 +302,7 @@ def check(work, found, wanted):
     crates = {label: "c_" + label for label in parts}
     os.makedirs(os.path.join(work, "crates"))
     subprocess.run(["git", "init", "-q", work], check=True)
-    shutil.copytree(DEFINITION, os.path.join(work, "crates", "definition"))
+    shutil.copytree(DEFINITION, os.path.join(work, "crates", "definition"), ignore=shutil.ignore_patterns("out"))
     for label, equations in parts.items():
         write_crate(os.path.join(work, "crates", crates[label]), label, equations)
     with open(os.path.join(work, "crates.txt"), "w") as f:
@@ -315,9 +311,9 @@ def check(work, found, wanted):
 
 
 def check_part(work, label, crate, total):
-    run = subprocess.run(["rt", "check", crate], cwd=work, capture_output=True, text=True, env=dict(os.environ, RT_CUT="400"))
+    run = subprocess.run(["rt", "check"], cwd=os.path.join(work, "crates", crate), capture_output=True, text=True, env=dict(os.environ, RT_CUT="400"))
     log = run.stdout + run.stderr
-    failed = sorted(set(re.findall(r"error: `?(case-\S+?)`?:", log)) | set(re.findall(r"in `(case-[^`]*)`", log)))
+    failed = sorted(set(re.findall(r"error: `?(case_\S+?)`?:", log)) | set(re.findall(r"in `(case_[^`]*)`", log)))
     if run.returncode == 0:
         print("%s: %d of %d hold" % (label, total, total), flush=True)
         return True

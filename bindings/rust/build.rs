@@ -1,11 +1,12 @@
-// Where libmarshal_c.a is: RUBY_MARSHAL_LIB_DIR, or the repository's target/staticlib, where `rt staticlib marshal_c` puts it.
+// Where libmarshal_c.a is: RUBY_MARSHAL_LIB_DIR, or the repository's crates/marshal_c/out, where `rt lib`
+// in crates/marshal_c puts it.
 use std::path::PathBuf;
 
 fn main() {
     println!("cargo:rerun-if-env-changed=RUBY_MARSHAL_LIB_DIR");
     let folder = match std::env::var_os("RUBY_MARSHAL_LIB_DIR") {
         Some(folder) => PathBuf::from(folder),
-        None => PathBuf::from(env!("CARGO_MANIFEST_DIR")).join("../../target/staticlib"),
+        None => PathBuf::from(env!("CARGO_MANIFEST_DIR")).join("../../crates/marshal_c/out"),
     };
     let archive = folder.join("libmarshal_c.a");
     if !archive.exists() {
