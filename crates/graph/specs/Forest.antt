@@ -29,7 +29,7 @@ add_s v σ = record { objs = σ.objs; syms = σ.syms ++ (v ∷ []) }
 abbrev pub fresh : Num
 fresh = record { objs = []; syms = [] }
 
--- a forest: each constructor is a first tree and the trees after it. fBox h p f: p is what is read before the node is added (the name of `u`, a class), f the rest of its members; a name's mark is false, a symbol value's true; fIv f p: variables p put on the value f, as no dump writes them
+-- a forest: each constructor is a first tree and the trees after it. f_box h p f: p is what is read before the node is added (the name of `u`, a class), f the rest of its members; a name's mark is false, a symbol value's true; f_iv f p: variables p put on the value f, as no dump writes them
 pub data F : Type 0 where
   f_end : F
   f_leaf : ℕ → ℕ → F → F

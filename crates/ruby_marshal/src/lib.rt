@@ -1,6 +1,5 @@
 // The library that users link: load, dump, the reader of an input, the arena's getters and builder, a node read as a number
-// and weighed, and a recipe's cost. What reads from a Reader is there on a slice and an offset too (load_at, byte_from ..): a
-// caller of these needs no proof by hand.
+// and weighed, and a recipe's cost. What reads from a Reader is there on a slice and an offset too (load_at, byte_from ..).
 #![tactic(auto)]
 
 pub use batch_cost::batch_cost;
