@@ -1,6 +1,5 @@
 -- The proof of all_below_at.
 use native.Mathlib.Omega.{arith}
-use Prim.Native.Nat.{◌-◌}
 use mathlib.Core.Path.{refl, sym, ◌∙◌}
 use Rattle.arena_check.proofs.Lists.{below_on, below_not, below_all}
 use Rattle.arena_check.proofs.all_below_at.Goals as goal

@@ -1,6 +1,5 @@
 -- The proof of all_names_at.
 use native.Mathlib.Omega.{arith}
-use Prim.Native.Nat.{◌-◌}
 use mathlib.Core.Path.{refl, sym, ◌∙◌}
 use Rattle.arena_check.proofs.Lists.{names_on, names_not, names_all}
 use Rattle.arena_check.proofs.all_names_at.Goals as goal

@@ -1,6 +1,5 @@
 -- The proof of first_faulty.
 use native.Mathlib.Omega.{arith}
-use Prim.Native.Nat.{◌-◌}
 use mathlib.Core.Path.{sym, ◌∙◌}
 use Rattle.arena_check.proofs.Rights.{faulty_on, faulty_here, faulty_none, faulty_start}
 use Rattle.arena_check.proofs.first_faulty.Goals as goal

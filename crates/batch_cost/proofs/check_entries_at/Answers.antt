@@ -1,6 +1,5 @@
 -- The proof of check_entries_at.
 use native.Mathlib.Omega.{arith}
-use Prim.Native.Nat.{◌-◌}
 use mathlib.Core.Path.{refl, sym, ◌∙◌}
 use Rattle.definition.specs.Build.{held}
 use Rattle.call_check.proofs.Tests.{held_nodes}

@@ -1,5 +1,5 @@
 -- What lasts in the loop of last_named, and why it ends.
-use Prim.Native.Nat.{◌-◌, ◌/◌, ◌≤◌}
+use Prim.Native.Nat.{◌/◌, ◌≤◌}
 use mathlib.Core.Path.{◌≡◌}
 use lib.ListN.{length, take}
 use Rattle.batch_cost.specs.Tables.{name_at, lines_at, last}

@@ -1,6 +1,5 @@
 -- The proof of sum_pairs.
 use native.Mathlib.Omega.{arith}
-use Prim.Native.Nat.{◌-◌}
 use mathlib.Core.Path.{refl, sym, ap, ◌∙◌}
 use Rattle.definition.specs.Cost.{cost_done}
 use Rattle.batch_cost.specs.Tables.{lines_at}

@@ -1,6 +1,5 @@
 -- The proof of check_handles_at.
 use native.Mathlib.Omega.{arith}
-use Prim.Native.Nat.{◌-◌}
 use mathlib.Core.Path.{refl, ◌∙◌}
 use Rattle.call_check.proofs.Tests.{handles_on, handles_not, handles_end}
 use Rattle.call_check.proofs.check_handles_at.Goals as goal

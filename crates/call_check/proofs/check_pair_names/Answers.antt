@@ -1,6 +1,5 @@
 -- The proof of check_pair_names.
 use native.Mathlib.Omega.{arith}
-use Prim.Native.Nat.{◌-◌}
 use mathlib.Core.Path.{refl, sym, ◌∙◌}
 use Rattle.definition.specs.Build.{held}
 use Rattle.call_check.proofs.Tests.{pair_names_on, pair_names_not, pair_names_end, held_nodes}

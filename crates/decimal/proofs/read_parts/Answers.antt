@@ -8,7 +8,6 @@ use Rattle.definition.specs.Weight.{digits, whole_number}
 use Rattle.definition.specs.declared.Reading.TheVariants.{Double}
 use Rattle.decimal.proofs.Laws.{room_first, room_second, few_all}
 use Rattle.decimal.proofs.Texts.{is_number, no_number}
-use borrow.Author.Rules.{rules}
 use Rattle.decimal.proofs.read_parts.Goals as goal
 
 -- the digits are at most fifteen

@@ -21,7 +21,7 @@ write_value-requires c =
     let write_byte = c.write_byte-a in
     let if2 = c.if-b-ne-DONE in
     let write-byte2 = c.write_byte-b in
-    ready _ _ (ready _ _ (pre) if1.false (λ A room f. write_byte.ensures A room 0 _)) if2.false (λ A room f. write-byte2.ensures A room 0 _)
+    ready _ _ (ready _ _ pre if1.false (λ A room f. write_byte.ensures A room 0 _)) if2.false (λ A room f. write-byte2.ensures A room 0 _)
 
 pub returns : goal.returns
 returns c =

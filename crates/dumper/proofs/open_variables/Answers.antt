@@ -31,7 +31,7 @@ write_symbol-s-requires c =
     let pre = c.requires in
     let if1 = c.if-w-ne-DONE in
     let write-fixnum = c.write_fixnum-w in
-    ready_as (λ A f. (f.0, first_name 0 0 0 a.start a.n f.2 f.1 if3.false _ _ size.ensures c.size-2.ensures)) (ready _ _ (pre) if1.false (λ A room f. write-fixnum.ensures A room 0 _))
+    ready_as (λ A f. (f.0, first_name 0 0 0 a.start a.n f.2 f.1 if3.false _ _ size.ensures c.size-2.ensures)) (ready _ _ pre if1.false (λ A room f. write-fixnum.ensures A room 0 _))
 
 pub returns-then-s-ne-DONE : goal.returns-then-s-ne-DONE
 returns-then-s-ne-DONE c =

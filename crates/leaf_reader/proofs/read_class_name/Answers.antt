@@ -1,6 +1,5 @@
 -- The proof of read_class_name.
 use native.Mathlib.Omega.{arith}
-use borrow.Author.Tests.{not-true, not-false}
 use mathlib.Core.Path.{sym, ◌∙◌}
 use Rattle.definition.specs.Load.{read_byte, read_symbol_like}
 use Rattle.load_state.specs.Laws.{held, held_goes, lead_first, lead_after, lead_stop, met_as}

@@ -74,7 +74,7 @@ overflow_mul-c c =
     let k = c.read_root-h.new in
     let T = lists a.nodes.now a.references.now a.bytes.now a.symbols.now a.objects.now in
     let H = held_begin a.input.now T a.buckets.now a.counted a.wrong (c.wrong_slice-w.ensures.allowed c.if-w-ne0.false) c.requires.0 c.requires.1 c.put_node.ensures (emptied a.buckets.now a.buckets.now c.zero_words.ensures refl) in
-    let root : Held a.input.now (lent k.nodes k.references k.bytes (by_buckets k.symbols k.buckets) k.objects) k.c = held {m = λ room. whole a.input.now room a.limit} {m' = λ room. _} H c.if-h-ge-REFUSED.false (λ room. c.read_root-h.ensures.meets room) in
+    let root = held {m = λ room. whole a.input.now room a.limit} {m' = λ room. _} H c.if-h-ge-REFUSED.false (λ room. c.read_root-h.ensures.meets room) in
     let G = root.holds in
     record { fits = omega (arith, G.counted.count_nodes, G.counted.room_nodes, G.fixed.small.nodes) }
 
@@ -85,7 +85,7 @@ zero_words-requires-5 c =
     let k = c.read_root-h.new in
     let T = lists a.nodes.now a.references.now a.bytes.now a.symbols.now a.objects.now in
     let H = held_begin a.input.now T a.buckets.now a.counted a.wrong (c.wrong_slice-w.ensures.allowed c.if-w-ne0.false) c.requires.0 c.requires.1 c.put_node.ensures (emptied a.buckets.now a.buckets.now c.zero_words.ensures refl) in
-    let root : Held a.input.now (lent k.nodes k.references k.bytes (by_buckets k.symbols k.buckets) k.objects) k.c = held {m = λ room. whole a.input.now room a.limit} {m' = λ room. _} H c.if-h-ge-REFUSED.false (λ room. c.read_root-h.ensures.meets room) in
+    let root = held {m = λ room. whole a.input.now room a.limit} {m' = λ room. _} H c.if-h-ge-REFUSED.false (λ room. c.read_root-h.ensures.meets room) in
     let G = root.holds in
     omega (arith, G.counted.count_nodes, G.counted.room_nodes, G.laid.nodes.sized)
 
@@ -96,7 +96,7 @@ zero_words-requires-6 c =
     let k = c.read_root-h.new in
     let T = lists a.nodes.now a.references.now a.bytes.now a.symbols.now a.objects.now in
     let H = held_begin a.input.now T a.buckets.now a.counted a.wrong (c.wrong_slice-w.ensures.allowed c.if-w-ne0.false) c.requires.0 c.requires.1 c.put_node.ensures (emptied a.buckets.now a.buckets.now c.zero_words.ensures refl) in
-    let root : Held a.input.now (lent k.nodes k.references k.bytes (by_buckets k.symbols k.buckets) k.objects) k.c = held {m = λ room. whole a.input.now room a.limit} {m' = λ room. _} H c.if-h-ge-REFUSED.false (λ room. c.read_root-h.ensures.meets room) in
+    let root = held {m = λ room. whole a.input.now room a.limit} {m' = λ room. _} H c.if-h-ge-REFUSED.false (λ room. c.read_root-h.ensures.meets room) in
     let G = root.holds in
     omega (arith, G.counted.count_references, G.laid.references.fits, G.laid.references.sized)
 
@@ -107,7 +107,7 @@ zero_bytes-requires-2 c =
     let k = c.read_root-h.new in
     let T = lists a.nodes.now a.references.now a.bytes.now a.symbols.now a.objects.now in
     let H = held_begin a.input.now T a.buckets.now a.counted a.wrong (c.wrong_slice-w.ensures.allowed c.if-w-ne0.false) c.requires.0 c.requires.1 c.put_node.ensures (emptied a.buckets.now a.buckets.now c.zero_words.ensures refl) in
-    let root : Held a.input.now (lent k.nodes k.references k.bytes (by_buckets k.symbols k.buckets) k.objects) k.c = held {m = λ room. whole a.input.now room a.limit} {m' = λ room. _} H c.if-h-ge-REFUSED.false (λ room. c.read_root-h.ensures.meets room) in
+    let root = held {m = λ room. whole a.input.now room a.limit} {m' = λ room. _} H c.if-h-ge-REFUSED.false (λ room. c.read_root-h.ensures.meets room) in
     let G = root.holds in
     omega (arith, G.counted.count_bytes, G.laid.bytes.fits, G.laid.bytes.sized)
 

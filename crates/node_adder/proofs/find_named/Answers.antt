@@ -1,6 +1,5 @@
 -- The proof of find_named.
 use native.Mathlib.Omega.{arith}
-use Prim.Native.Nat.{◌-◌}
 use mathlib.Core.Path.{refl, sym, ◌∙◌}
 use Rattle.node_adder.proofs.Names.{find_on, find_here, find_none, nodes_counted}
 use Rattle.node_adder.proofs.find_named.Goals as goal

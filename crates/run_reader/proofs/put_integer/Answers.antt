@@ -5,7 +5,6 @@ use mathlib.Core.Path.{refl, sym, ap, ◌∙◌}
 use mathlib.Core.List.{[], ◌∷◌}
 use lib.ListN.{get_or}
 use lib.Seq.{sets}
-use borrow.Author.Tests.{not-true, not-false}
 use Rattle.definition.specs.Node.{width}
 use Rattle.reader.specs.Integers.{size_some}
 use Rattle.run_reader.proofs.put_integer.Goals as goal

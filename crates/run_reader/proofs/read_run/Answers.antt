@@ -1,10 +1,9 @@
 -- The proof of read_run.
 use borrow.Author.Rules.{rules}
 use native.Mathlib.Omega.{arith}
-use Prim.Native.Nat.{◌+◌, ◌-◌, ◌≤◌}
+use Prim.Native.Nat.{◌+◌, ◌≤◌}
 use mathlib.Core.Path.{refl, sym, ◌∙◌}
 use lib.ListN.{length, get_or}
-use borrow.Author.Tests.{not-true, not-false}
 use Rattle.reader.specs.Integers.{size_small}
 use Rattle.load_state.specs.Laws.{still}
 use Rattle.load_state.specs.Names.{untrue}

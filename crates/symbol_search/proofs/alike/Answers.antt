@@ -1,6 +1,5 @@
 -- The proof of alike.
 use native.Mathlib.Omega.{arith}
-use Prim.Native.Nat.{◌-◌}
 use mathlib.Core.Path.{◌≡◌, refl, sym, ◌∙◌}
 use Rattle.lists.specs.Same.{same_none, same_apart_at, on_same, on_apart, on_end}
 use Rattle.symbol_search.proofs.alike.Goals as goal

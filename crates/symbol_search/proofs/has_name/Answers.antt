@@ -1,5 +1,4 @@
 -- The proof of has_name.
-use borrow.Author.Tests.{not-true, not-false}
 use Rattle.symbol_search.proofs.has_name.Goals as goal
 
 pub returns-then-not-is_like : goal.returns-then-not-is_like

@@ -1,6 +1,6 @@
 -- The proof of measure_symbol.
 use native.Mathlib.Omega.{arith}
-use Prim.Native.Nat.{ℕ, ◌+◌, ◌-◌, ◌<◌, ◌≤◌}
+use Prim.Native.Nat.{ℕ, ◌<◌}
 use mathlib.Core.Path.{refl, sym, ap, ◌∙◌, subst}
 use mathlib.Core.Option.{some}
 use lib.ListN.{get_or, set}
@@ -9,7 +9,6 @@ use Rattle.load_state.specs.Holds.{Symbolic, symbols_of}
 use Rattle.symbol_search.proofs.Turns.{turned_start, turned_met, turned_on, turned_here, turned_fits, turned_end}
 use Rattle.load_state.specs.Needs.{entry_symbolic, length_span}
 use Rattle.symbol_search.proofs.Looked.{is_there}
-use Rattle.symbol_search.specs.Search.{DIFFERENT}
 use Rattle.symbol_search.proofs.measure_symbol.Goals as goal
 
 -- what was counted and the bytes just compared fit 64 bits

@@ -1,6 +1,6 @@
 -- The proof of next_like.
 use native.Mathlib.Omega.{arith}
-use Prim.Native.Nat.{ℕ, ◌-◌, ◌<◌}
+use Prim.Native.Nat.{ℕ, ◌<◌}
 use mathlib.Core.Path.{◌≡◌, refl, ap, ◌∙◌}
 use lib.ListN.{drop}
 use Rattle.load_state.specs.Holds.{find_listed, symbols_of}

@@ -1,6 +1,6 @@
 -- The proof of probe.
 use native.Mathlib.Omega.{arith}
-use Prim.Native.Nat.{ℕ, suc, ◌+◌, ◌-◌, ◌%◌}
+use Prim.Native.Nat.{ℕ, suc, ◌+◌, ◌%◌}
 use native.Mathlib.Nat.{mod-eq_of_lt, add-zero}
 use mathlib.Core.Path.{◌≡◌, sym, ap, ◌∙◌, subst, refl}
 use mathlib.Core.Logic.{inl, inr}

@@ -9,7 +9,7 @@ use Rattle.definition.specs.Load as D
 use Rattle.load_state.specs.Holds.{lent, by_buckets}
 use Rattle.load_state.specs.Laws.{lead_first, lead_after, lead_stop, held_goes, lead_as, goes_to, held, grew}
 use Rattle.load_state.specs.Needs.{ten, nodes_small, space_fits, slot_room}
-use Rattle.value_reader.proofs.Members.{Open, opened, open_on, array_of, array_rest, contained, contained_stops, inside, no_more, names_any, one_each, down_3, hash_of, hash_rest, default_fits, nodes_few, after_members, string_leaf, down_2, Turning, turning_start, turned, all_turned, name_stop, value_stop, value_last, name_turned, value_turned, named_below, come_to, down_1, object_of, object_rest, list_parity, class_refused, no_kind, kind_led, kind_held, leaf_kind, defaults_one, hash_headed, down_0, opened_value, variables_after, variables_of, variables_rest, down_inner}
+use Rattle.value_reader.proofs.Members.{Open, opened, open_on, array_of, array_rest, contained, contained_stops, inside, no_more, names_any, one_each, down_3, hash_of, hash_rest, default_fits, nodes_few, after_members, string_leaf, down_2, turning_start, turned, all_turned, name_stop, value_stop, value_last, name_turned, value_turned, named_below, come_to, down_1, object_of, object_rest, list_parity, class_refused, no_kind, kind_led, kind_held, leaf_kind, defaults_one, hash_headed, down_0, opened_value, variables_after, variables_of, variables_rest, down_inner}
 use Rattle.load_state.specs.Names.{other_kind}
 use mathlib.Core.Logic.{inl}
 use Rattle.loader.specs.Parts.{after_i}
@@ -31,8 +31,8 @@ read_array-returns-then-h-ge-REFUSED t c =
 
 pub read_array-read_words-n-requires : goal.read_array-read_words-n-requires
 read_array-read_words-n-requires t c =
-    let opened_at : let l = c.open_node-h.new in let a = c.args in Open a.input.now (lent l.nodes a.references.now a.bytes.now (by_buckets a.symbols.now a.buckets.now) l.objects) l.c c.open_node-h.result (Unit {0}) = opened c.requires (λ room. (c.open_node-h.ensures.by_index _ room 0 _ _ _).goes c.if-h-ge-REFUSED.false) (c.open_node-h.ensures.upper_bound c.if-h-ge-REFUSED.false) in
-    (omega arith, (_, _, _, _, (opened_at).held))
+    let opened_at = opened c.requires (λ room. (c.open_node-h.ensures.by_index _ room 0 _ _ _).goes c.if-h-ge-REFUSED.false) (c.open_node-h.ensures.upper_bound c.if-h-ge-REFUSED.false) in
+    (omega arith, (_, _, _, _, opened_at.held))
 
 pub read_array-returns-then-n-ge-REFUSED : goal.read_array-returns-then-n-ge-REFUSED
 unfolding D.read_array
@@ -49,9 +49,9 @@ read_array-overflow_sub-start t c =
 
 pub read_array-read_members-w-requires : goal.read_array-read_members-w-requires
 read_array-read_members-w-requires t c =
-    let opened_at : let l = c.open_node-h.new in let a = c.args in Open a.input.now (lent l.nodes a.references.now a.bytes.now (by_buckets a.symbols.now a.buckets.now) l.objects) l.c c.open_node-h.result (Unit {0}) = opened c.requires (λ room. (c.open_node-h.ensures.by_index _ room 0 _ _ _).goes c.if-h-ge-REFUSED.false) (c.open_node-h.ensures.upper_bound c.if-h-ge-REFUSED.false) in
-    let words_at : let l = c.open_node-h.new in let w = c.read_words-n.new in let a = c.args in Open a.input.now (lent l.nodes w.references a.bytes.now (by_buckets a.symbols.now a.buckets.now) l.objects) w.c c.open_node-h.result (Unit {0}) = open_on (opened_at) (λ room. (c.read_words-n.ensures.leads room 0 _ _ _ _ (λ p n. pure p)).goes c.if-n-ge-REFUSED.false) in
-    (down_3 _ t c.decreases, ((inside _ _).0, (inside _ 0).1, no_more, names_any _, (words_at).held))
+    let opened_at = opened c.requires (λ room. (c.open_node-h.ensures.by_index _ room 0 _ _ _).goes c.if-h-ge-REFUSED.false) (c.open_node-h.ensures.upper_bound c.if-h-ge-REFUSED.false) in
+    let words_at = open_on opened_at (λ room. (c.read_words-n.ensures.leads room 0 _ _ _ _ (λ p n. pure p)).goes c.if-n-ge-REFUSED.false) in
+    (down_3 _ t c.decreases, ((inside _ _).0, (inside _ 0).1, no_more, names_any _, words_at.held))
 
 pub read_array-returns-then-w-ge-REFUSED : goal.read_array-returns-then-w-ge-REFUSED
 unfolding D.read_array
@@ -69,25 +69,25 @@ read_array-returns-then-w-ge-REFUSED t c =
 
 pub read_array-overflow_cast-start : goal.read_array-overflow_cast-start
 read_array-overflow_cast-start t c =
-    let opened_at : let l = c.open_node-h.new in let a = c.args in Open a.input.now (lent l.nodes a.references.now a.bytes.now (by_buckets a.symbols.now a.buckets.now) l.objects) l.c c.open_node-h.result (Unit {0}) = opened c.requires (λ room. (c.open_node-h.ensures.by_index _ room 0 _ _ _).goes c.if-h-ge-REFUSED.false) (c.open_node-h.ensures.upper_bound c.if-h-ge-REFUSED.false) in
-    let words_at : let l = c.open_node-h.new in let w = c.read_words-n.new in let a = c.args in Open a.input.now (lent l.nodes w.references a.bytes.now (by_buckets a.symbols.now a.buckets.now) l.objects) w.c c.open_node-h.result (Unit {0}) = open_on (opened_at) (λ room. (c.read_words-n.ensures.leads room 0 _ _ _ _ (λ p n. pure p)).goes c.if-n-ge-REFUSED.false) in
-    let H = (words_at).held.holds in
+    let opened_at = opened c.requires (λ room. (c.open_node-h.ensures.by_index _ room 0 _ _ _).goes c.if-h-ge-REFUSED.false) (c.open_node-h.ensures.upper_bound c.if-h-ge-REFUSED.false) in
+    let words_at = open_on opened_at (λ room. (c.read_words-n.ensures.leads room 0 _ _ _ _ (λ p n. pure p)).goes c.if-n-ge-REFUSED.false) in
+    let H = words_at.held.holds in
     omega (arith, (c.read_words-n.ensures.upper_bound c.if-n-ge-REFUSED.false).1, H.counted.count_references, H.laid.references.fits, H.fixed.small.references)
 
 pub read_array-fill_node-requires : goal.read_array-fill_node-requires
 read_array-fill_node-requires t c =
-    let opened_at : let l = c.open_node-h.new in let a = c.args in Open a.input.now (lent l.nodes a.references.now a.bytes.now (by_buckets a.symbols.now a.buckets.now) l.objects) l.c c.open_node-h.result (Unit {0}) = opened c.requires (λ room. (c.open_node-h.ensures.by_index _ room 0 _ _ _).goes c.if-h-ge-REFUSED.false) (c.open_node-h.ensures.upper_bound c.if-h-ge-REFUSED.false) in
-    let words_at : let l = c.open_node-h.new in let w = c.read_words-n.new in let a = c.args in Open a.input.now (lent l.nodes w.references a.bytes.now (by_buckets a.symbols.now a.buckets.now) l.objects) w.c c.open_node-h.result (Unit {0}) = open_on (opened_at) (λ room. (c.read_words-n.ensures.leads room 0 _ _ _ _ (λ p n. pure p)).goes c.if-n-ge-REFUSED.false) in
-    let members_at : let l = c.read_members-w.new in Open c.args.input.now (lent l.nodes l.references l.bytes (by_buckets l.symbols l.buckets) l.objects) l.c c.open_node-h.result (Unit {0}) = open_on (words_at) (λ room. (c.read_members-w.ensures.meets room 0).goes c.if-w-ge-REFUSED.false) in
+    let opened_at = opened c.requires (λ room. (c.open_node-h.ensures.by_index _ room 0 _ _ _).goes c.if-h-ge-REFUSED.false) (c.open_node-h.ensures.upper_bound c.if-h-ge-REFUSED.false) in
+    let words_at = open_on opened_at (λ room. (c.read_words-n.ensures.leads room 0 _ _ _ _ (λ p n. pure p)).goes c.if-n-ge-REFUSED.false) in
+    let members_at = open_on words_at (λ room. (c.read_members-w.ensures.meets room 0).goes c.if-w-ge-REFUSED.false) in
     let O = members_at in
     (slot_room O.held O.below, c.if-h-ge-REFUSED.false)
 
 pub read_array-returns : goal.read_array-returns
 unfolding D.read_array kind words
 read_array-returns t c =
-    let opened_at : let l = c.open_node-h.new in let a = c.args in Open a.input.now (lent l.nodes a.references.now a.bytes.now (by_buckets a.symbols.now a.buckets.now) l.objects) l.c c.open_node-h.result (Unit {0}) = opened c.requires (λ room. (c.open_node-h.ensures.by_index _ room 0 _ _ _).goes c.if-h-ge-REFUSED.false) (c.open_node-h.ensures.upper_bound c.if-h-ge-REFUSED.false) in
-    let words_at : let l = c.open_node-h.new in let w = c.read_words-n.new in let a = c.args in Open a.input.now (lent l.nodes w.references a.bytes.now (by_buckets a.symbols.now a.buckets.now) l.objects) w.c c.open_node-h.result (Unit {0}) = open_on (opened_at) (λ room. (c.read_words-n.ensures.leads room 0 _ _ _ _ (λ p n. pure p)).goes c.if-n-ge-REFUSED.false) in
-    let members_at : let l = c.read_members-w.new in Open c.args.input.now (lent l.nodes l.references l.bytes (by_buckets l.symbols l.buckets) l.objects) l.c c.open_node-h.result (Unit {0}) = open_on (words_at) (λ room. (c.read_members-w.ensures.meets room 0).goes c.if-w-ge-REFUSED.false) in
+    let opened_at = opened c.requires (λ room. (c.open_node-h.ensures.by_index _ room 0 _ _ _).goes c.if-h-ge-REFUSED.false) (c.open_node-h.ensures.upper_bound c.if-h-ge-REFUSED.false) in
+    let words_at = open_on opened_at (λ room. (c.read_words-n.ensures.leads room 0 _ _ _ _ (λ p n. pure p)).goes c.if-n-ge-REFUSED.false) in
+    let members_at = open_on words_at (λ room. (c.read_members-w.ensures.meets room 0).goes c.if-w-ge-REFUSED.false) in
     let O = members_at in
     let h = c.open_node-h.result in
     let n = c.read_words-n.result in
@@ -112,8 +112,8 @@ read_hash-returns-then-h-ge-REFUSED t c =
 
 pub read_hash-read_words-n-requires : goal.read_hash-read_words-n-requires
 read_hash-read_words-n-requires t c =
-    let opened_at : let l = c.open_node-h.new in let a = c.args in Open a.input.now (lent l.nodes a.references.now a.bytes.now (by_buckets a.symbols.now a.buckets.now) l.objects) l.c c.open_node-h.result (Unit {0}) = opened c.requires.1 (λ room. (c.open_node-h.ensures.by_index _ room 0 _ _ _).goes c.if-h-ge-REFUSED.false) (c.open_node-h.ensures.upper_bound c.if-h-ge-REFUSED.false) in
-    (omega arith, (_, _, _, _, (opened_at).held))
+    let opened_at = opened c.requires.1 (λ room. (c.open_node-h.ensures.by_index _ room 0 _ _ _).goes c.if-h-ge-REFUSED.false) (c.open_node-h.ensures.upper_bound c.if-h-ge-REFUSED.false) in
+    (omega arith, (_, _, _, _, opened_at.held))
 
 pub read_hash-returns-then-n-ge-REFUSED : goal.read_hash-returns-then-n-ge-REFUSED
 unfolding D.read_hash
@@ -130,9 +130,9 @@ read_hash-overflow_sub-start t c =
 
 pub read_hash-read_members-d-requires : goal.read_hash-read_members-d-requires
 read_hash-read_members-d-requires t c =
-    let opened_at : let l = c.open_node-h.new in let a = c.args in Open a.input.now (lent l.nodes a.references.now a.bytes.now (by_buckets a.symbols.now a.buckets.now) l.objects) l.c c.open_node-h.result (Unit {0}) = opened c.requires.1 (λ room. (c.open_node-h.ensures.by_index _ room 0 _ _ _).goes c.if-h-ge-REFUSED.false) (c.open_node-h.ensures.upper_bound c.if-h-ge-REFUSED.false) in
-    let words_at : let l = c.open_node-h.new in let w = c.read_words-n.new in let a = c.args in Open a.input.now (lent l.nodes w.references a.bytes.now (by_buckets a.symbols.now a.buckets.now) l.objects) w.c c.open_node-h.result (Unit {0}) = open_on (opened_at) (λ room. (c.read_words-n.ensures.leads room 0 _ _ _ _ (λ p n. pure p)).goes c.if-n-ge-REFUSED.false) in
-    (down_3 _ t c.decreases, ((inside _ _).0, (inside _ 0).1, c.requires.0, λ e. refl, (words_at).held))
+    let opened_at = opened c.requires.1 (λ room. (c.open_node-h.ensures.by_index _ room 0 _ _ _).goes c.if-h-ge-REFUSED.false) (c.open_node-h.ensures.upper_bound c.if-h-ge-REFUSED.false) in
+    let words_at = open_on opened_at (λ room. (c.read_words-n.ensures.leads room 0 _ _ _ _ (λ p n. pure p)).goes c.if-n-ge-REFUSED.false) in
+    (down_3 _ t c.decreases, ((inside _ _).0, (inside _ 0).1, c.requires.0, λ e. refl, words_at.held))
 
 pub read_hash-returns-then-d-ge-REFUSED : goal.read_hash-returns-then-d-ge-REFUSED
 unfolding D.read_hash
@@ -150,9 +150,9 @@ read_hash-returns-then-d-ge-REFUSED t c =
 
 pub read_hash-overflow_cast-start : goal.read_hash-overflow_cast-start
 read_hash-overflow_cast-start t c =
-    let opened_at : let l = c.open_node-h.new in let a = c.args in Open a.input.now (lent l.nodes a.references.now a.bytes.now (by_buckets a.symbols.now a.buckets.now) l.objects) l.c c.open_node-h.result (Unit {0}) = opened c.requires.1 (λ room. (c.open_node-h.ensures.by_index _ room 0 _ _ _).goes c.if-h-ge-REFUSED.false) (c.open_node-h.ensures.upper_bound c.if-h-ge-REFUSED.false) in
-    let words_at : let l = c.open_node-h.new in let w = c.read_words-n.new in let a = c.args in Open a.input.now (lent l.nodes w.references a.bytes.now (by_buckets a.symbols.now a.buckets.now) l.objects) w.c c.open_node-h.result (Unit {0}) = open_on (opened_at) (λ room. (c.read_words-n.ensures.leads room 0 _ _ _ _ (λ p n. pure p)).goes c.if-n-ge-REFUSED.false) in
-    let H = (words_at).held.holds in
+    let opened_at = opened c.requires.1 (λ room. (c.open_node-h.ensures.by_index _ room 0 _ _ _).goes c.if-h-ge-REFUSED.false) (c.open_node-h.ensures.upper_bound c.if-h-ge-REFUSED.false) in
+    let words_at = open_on opened_at (λ room. (c.read_words-n.ensures.leads room 0 _ _ _ _ (λ p n. pure p)).goes c.if-n-ge-REFUSED.false) in
+    let H = words_at.held.holds in
     omega (arith, (c.read_words-n.ensures.upper_bound c.if-n-ge-REFUSED.false).1, H.counted.count_references, H.laid.references.fits, H.fixed.small.references)
 
 pub read_hash-overflow_cast-more : goal.read_hash-overflow_cast-more
@@ -161,27 +161,27 @@ read_hash-overflow_cast-more t c =
 
 pub read_hash-overflow_add-d : goal.read_hash-overflow_add-d
 read_hash-overflow_add-d t c =
-    let opened_at : let l = c.open_node-h.new in let a = c.args in Open a.input.now (lent l.nodes a.references.now a.bytes.now (by_buckets a.symbols.now a.buckets.now) l.objects) l.c c.open_node-h.result (Unit {0}) = opened c.requires.1 (λ room. (c.open_node-h.ensures.by_index _ room 0 _ _ _).goes c.if-h-ge-REFUSED.false) (c.open_node-h.ensures.upper_bound c.if-h-ge-REFUSED.false) in
-    let words_at : let l = c.open_node-h.new in let w = c.read_words-n.new in let a = c.args in Open a.input.now (lent l.nodes w.references a.bytes.now (by_buckets a.symbols.now a.buckets.now) l.objects) w.c c.open_node-h.result (Unit {0}) = open_on (opened_at) (λ room. (c.read_words-n.ensures.leads room 0 _ _ _ _ (λ p n. pure p)).goes c.if-n-ge-REFUSED.false) in
-    let members_at : let l = c.read_members-d.new in Open c.args.input.now (lent l.nodes l.references l.bytes (by_buckets l.symbols l.buckets) l.objects) l.c c.open_node-h.result (Unit {0}) = open_on (words_at) (λ room. (c.read_members-d.ensures.meets room 0).goes c.if-d-ge-REFUSED.false) in
+    let opened_at = opened c.requires.1 (λ room. (c.open_node-h.ensures.by_index _ room 0 _ _ _).goes c.if-h-ge-REFUSED.false) (c.open_node-h.ensures.upper_bound c.if-h-ge-REFUSED.false) in
+    let words_at = open_on opened_at (λ room. (c.read_words-n.ensures.leads room 0 _ _ _ _ (λ p n. pure p)).goes c.if-n-ge-REFUSED.false) in
+    let members_at = open_on words_at (λ room. (c.read_members-d.ensures.meets room 0).goes c.if-d-ge-REFUSED.false) in
     let O = members_at in
     let d = c.read_members-d.ensures.value c.if-d-ge-REFUSED.false in
     default_fits _ _ _ c.requires.0 d.0 d.1 (nodes_few O.held)
 
 pub read_hash-fill_node-requires : goal.read_hash-fill_node-requires
 read_hash-fill_node-requires t c =
-    let opened_at : let l = c.open_node-h.new in let a = c.args in Open a.input.now (lent l.nodes a.references.now a.bytes.now (by_buckets a.symbols.now a.buckets.now) l.objects) l.c c.open_node-h.result (Unit {0}) = opened c.requires.1 (λ room. (c.open_node-h.ensures.by_index _ room 0 _ _ _).goes c.if-h-ge-REFUSED.false) (c.open_node-h.ensures.upper_bound c.if-h-ge-REFUSED.false) in
-    let words_at : let l = c.open_node-h.new in let w = c.read_words-n.new in let a = c.args in Open a.input.now (lent l.nodes w.references a.bytes.now (by_buckets a.symbols.now a.buckets.now) l.objects) w.c c.open_node-h.result (Unit {0}) = open_on (opened_at) (λ room. (c.read_words-n.ensures.leads room 0 _ _ _ _ (λ p n. pure p)).goes c.if-n-ge-REFUSED.false) in
-    let members_at : let l = c.read_members-d.new in Open c.args.input.now (lent l.nodes l.references l.bytes (by_buckets l.symbols l.buckets) l.objects) l.c c.open_node-h.result (Unit {0}) = open_on (words_at) (λ room. (c.read_members-d.ensures.meets room 0).goes c.if-d-ge-REFUSED.false) in
+    let opened_at = opened c.requires.1 (λ room. (c.open_node-h.ensures.by_index _ room 0 _ _ _).goes c.if-h-ge-REFUSED.false) (c.open_node-h.ensures.upper_bound c.if-h-ge-REFUSED.false) in
+    let words_at = open_on opened_at (λ room. (c.read_words-n.ensures.leads room 0 _ _ _ _ (λ p n. pure p)).goes c.if-n-ge-REFUSED.false) in
+    let members_at = open_on words_at (λ room. (c.read_members-d.ensures.meets room 0).goes c.if-d-ge-REFUSED.false) in
     let O = members_at in
     (slot_room O.held O.below, c.if-h-ge-REFUSED.false)
 
 pub read_hash-returns : goal.read_hash-returns
 unfolding D.read_hash kind words
 read_hash-returns t c =
-    let opened_at : let l = c.open_node-h.new in let a = c.args in Open a.input.now (lent l.nodes a.references.now a.bytes.now (by_buckets a.symbols.now a.buckets.now) l.objects) l.c c.open_node-h.result (Unit {0}) = opened c.requires.1 (λ room. (c.open_node-h.ensures.by_index _ room 0 _ _ _).goes c.if-h-ge-REFUSED.false) (c.open_node-h.ensures.upper_bound c.if-h-ge-REFUSED.false) in
-    let words_at : let l = c.open_node-h.new in let w = c.read_words-n.new in let a = c.args in Open a.input.now (lent l.nodes w.references a.bytes.now (by_buckets a.symbols.now a.buckets.now) l.objects) w.c c.open_node-h.result (Unit {0}) = open_on (opened_at) (λ room. (c.read_words-n.ensures.leads room 0 _ _ _ _ (λ p n. pure p)).goes c.if-n-ge-REFUSED.false) in
-    let members_at : let l = c.read_members-d.new in Open c.args.input.now (lent l.nodes l.references l.bytes (by_buckets l.symbols l.buckets) l.objects) l.c c.open_node-h.result (Unit {0}) = open_on (words_at) (λ room. (c.read_members-d.ensures.meets room 0).goes c.if-d-ge-REFUSED.false) in
+    let opened_at = opened c.requires.1 (λ room. (c.open_node-h.ensures.by_index _ room 0 _ _ _).goes c.if-h-ge-REFUSED.false) (c.open_node-h.ensures.upper_bound c.if-h-ge-REFUSED.false) in
+    let words_at = open_on opened_at (λ room. (c.read_words-n.ensures.leads room 0 _ _ _ _ (λ p n. pure p)).goes c.if-n-ge-REFUSED.false) in
+    let members_at = open_on words_at (λ room. (c.read_members-d.ensures.meets room 0).goes c.if-d-ge-REFUSED.false) in
     let O = members_at in
     let h = c.open_node-h.result in
     let n = c.read_words-n.result in
@@ -260,13 +260,13 @@ read_members-loop-to-preserved-then-to-next t c =
 
 pub read_members-read_symbol_like-name-requires : goal.read_members-read_symbol_like-name-requires
 read_members-read_symbol_like-name-requires t c =
-    let run_none : let a = c.args in let l = c.read_run-next.new in Turning a.input.now a.nodes.now a.references.now a.bytes.now (by_buckets a.symbols.now a.buckets.now) a.objects.now a.c.now a.start a.end a.names a.levels l.nodes l.references c.loop-to.bytes (by_buckets c.loop-to.symbols c.loop-to.buckets) c.loop-to.objects l.c c.loop-to.to = let r = c.read_run-next in let k = r.ensures in let same : r.result ≡ c.loop-to.to = omega (arith, k.lower_bound.0, c.if-to-next.false) in come_to (turned c.loop-to.invariant r.result k.lower_bound.1 r.auto.nodes r.auto.references refl refl refl refl (λ room limit. k.goes room limit _ _ _)) same in
+    let run_none = let r = c.read_run-next in let k = r.ensures in let same : r.result ≡ c.loop-to.to = omega (arith, k.lower_bound.0, c.if-to-next.false) in come_to (turned c.loop-to.invariant r.result k.lower_bound.1 r.auto.nodes r.auto.references refl refl refl refl (λ room limit. k.goes room limit _ _ _)) same in
     let S = run_none in
     (_, _, S.held)
 
 pub read_members-returns-then-name-ge-REFUSED : goal.read_members-returns-then-name-ge-REFUSED
 read_members-returns-then-name-ge-REFUSED t c =
-    let run_none : let a = c.args in let l = c.read_run-next.new in Turning a.input.now a.nodes.now a.references.now a.bytes.now (by_buckets a.symbols.now a.buckets.now) a.objects.now a.c.now a.start a.end a.names a.levels l.nodes l.references c.loop-to.bytes (by_buckets c.loop-to.symbols c.loop-to.buckets) c.loop-to.objects l.c c.loop-to.to = let r = c.read_run-next in let k = r.ensures in let same : r.result ≡ c.loop-to.to = omega (arith, k.lower_bound.0, c.if-to-next.false) in come_to (turned c.loop-to.invariant r.result k.lower_bound.1 r.auto.nodes r.auto.references refl refl refl refl (λ room limit. k.goes room limit _ _ _)) same in
+    let run_none = let r = c.read_run-next in let k = r.ensures in let same : r.result ≡ c.loop-to.to = omega (arith, k.lower_bound.0, c.if-to-next.false) in come_to (turned c.loop-to.invariant r.result k.lower_bound.1 r.auto.nodes r.auto.references refl refl refl refl (λ room limit. k.goes room limit _ _ _)) same in
     let c-if2 = c.if-to-names in
     let S = run_none in
     let lt = named_below _ _ _ _ c.requires.2 c.requires.3 c.loop-to-test.true c-if2.true in
@@ -274,7 +274,7 @@ read_members-returns-then-name-ge-REFUSED t c =
 
 pub read_members-bounds-references-to : goal.read_members-bounds-references-to
 read_members-bounds-references-to t c =
-    let run_none : let a = c.args in let l = c.read_run-next.new in Turning a.input.now a.nodes.now a.references.now a.bytes.now (by_buckets a.symbols.now a.buckets.now) a.objects.now a.c.now a.start a.end a.names a.levels l.nodes l.references c.loop-to.bytes (by_buckets c.loop-to.symbols c.loop-to.buckets) c.loop-to.objects l.c c.loop-to.to = let r = c.read_run-next in let k = r.ensures in let same : r.result ≡ c.loop-to.to = omega (arith, k.lower_bound.0, c.if-to-next.false) in come_to (turned c.loop-to.invariant r.result k.lower_bound.1 r.auto.nodes r.auto.references refl refl refl refl (λ room limit. k.goes room limit _ _ _)) same in
+    let run_none = let r = c.read_run-next in let k = r.ensures in let same : r.result ≡ c.loop-to.to = omega (arith, k.lower_bound.0, c.if-to-next.false) in come_to (turned c.loop-to.invariant r.result k.lower_bound.1 r.auto.nodes r.auto.references refl refl refl refl (λ room limit. k.goes room limit _ _ _)) same in
     let S = run_none in
     let lt = named_below _ _ _ _ c.requires.2 c.requires.3 c.loop-to-test.true c.if-to-names.true in
     let H = S.held.holds in
@@ -282,7 +282,7 @@ read_members-bounds-references-to t c =
 
 pub read_members-loop-to-preserved-then-to-names : goal.read_members-loop-to-preserved-then-to-names
 read_members-loop-to-preserved-then-to-names t c =
-    let run_none : let a = c.args in let l = c.read_run-next.new in Turning a.input.now a.nodes.now a.references.now a.bytes.now (by_buckets a.symbols.now a.buckets.now) a.objects.now a.c.now a.start a.end a.names a.levels l.nodes l.references c.loop-to.bytes (by_buckets c.loop-to.symbols c.loop-to.buckets) c.loop-to.objects l.c c.loop-to.to = let r = c.read_run-next in let k = r.ensures in let same : r.result ≡ c.loop-to.to = omega (arith, k.lower_bound.0, c.if-to-next.false) in come_to (turned c.loop-to.invariant r.result k.lower_bound.1 r.auto.nodes r.auto.references refl refl refl refl (λ room limit. k.goes room limit _ _ _)) same in
+    let run_none = let r = c.read_run-next in let k = r.ensures in let same : r.result ≡ c.loop-to.to = omega (arith, k.lower_bound.0, c.if-to-next.false) in come_to (turned c.loop-to.invariant r.result k.lower_bound.1 r.auto.nodes r.auto.references refl refl refl refl (λ room limit. k.goes room limit _ _ _)) same in
     let c-read-symbol-like = c.read_symbol_like-name in
     let c-if2 = c.if-to-names in
     let S = run_none in
@@ -291,19 +291,19 @@ read_members-loop-to-preserved-then-to-names t c =
 
 pub read_members-read_value-v-requires : goal.read_members-read_value-v-requires
 read_members-read_value-v-requires t c =
-    let run_none : let a = c.args in let l = c.read_run-next.new in Turning a.input.now a.nodes.now a.references.now a.bytes.now (by_buckets a.symbols.now a.buckets.now) a.objects.now a.c.now a.start a.end a.names a.levels l.nodes l.references c.loop-to.bytes (by_buckets c.loop-to.symbols c.loop-to.buckets) c.loop-to.objects l.c c.loop-to.to = let r = c.read_run-next in let k = r.ensures in let same : r.result ≡ c.loop-to.to = omega (arith, k.lower_bound.0, c.if-to-next.false) in come_to (turned c.loop-to.invariant r.result k.lower_bound.1 r.auto.nodes r.auto.references refl refl refl refl (λ room limit. k.goes room limit _ _ _)) same in
+    let run_none = let r = c.read_run-next in let k = r.ensures in let same : r.result ≡ c.loop-to.to = omega (arith, k.lower_bound.0, c.if-to-next.false) in come_to (turned c.loop-to.invariant r.result k.lower_bound.1 r.auto.nodes r.auto.references refl refl refl refl (λ room limit. k.goes room limit _ _ _)) same in
     let S = run_none in
     (down_1 _ t c.decreases, S.held)
 
 pub read_members-returns-then-v-ge-REFUSED : goal.read_members-returns-then-v-ge-REFUSED
 read_members-returns-then-v-ge-REFUSED t c =
-    let run_none : let a = c.args in let l = c.read_run-next.new in Turning a.input.now a.nodes.now a.references.now a.bytes.now (by_buckets a.symbols.now a.buckets.now) a.objects.now a.c.now a.start a.end a.names a.levels l.nodes l.references c.loop-to.bytes (by_buckets c.loop-to.symbols c.loop-to.buckets) c.loop-to.objects l.c c.loop-to.to = let r = c.read_run-next in let k = r.ensures in let same : r.result ≡ c.loop-to.to = omega (arith, k.lower_bound.0, c.if-to-next.false) in come_to (turned c.loop-to.invariant r.result k.lower_bound.1 r.auto.nodes r.auto.references refl refl refl refl (λ room limit. k.goes room limit _ _ _)) same in
+    let run_none = let r = c.read_run-next in let k = r.ensures in let same : r.result ≡ c.loop-to.to = omega (arith, k.lower_bound.0, c.if-to-next.false) in come_to (turned c.loop-to.invariant r.result k.lower_bound.1 r.auto.nodes r.auto.references refl refl refl refl (λ room limit. k.goes room limit _ _ _)) same in
     let S = run_none in
     record { meets = λ room limit. value_stop S c.args.more c.loop-to-test.true c.requires.2 room limit c.if-v-ge-REFUSED.true c.if-to-names.false (c.read_value-v.ensures.meets room limit); value = λ l. absurd (omega arith) }
 
 pub read_members-returns-then-to-end : goal.read_members-returns-then-to-end
 read_members-returns-then-to-end t c =
-    let run_none : let a = c.args in let l = c.read_run-next.new in Turning a.input.now a.nodes.now a.references.now a.bytes.now (by_buckets a.symbols.now a.buckets.now) a.objects.now a.c.now a.start a.end a.names a.levels l.nodes l.references c.loop-to.bytes (by_buckets c.loop-to.symbols c.loop-to.buckets) c.loop-to.objects l.c c.loop-to.to = let r = c.read_run-next in let k = r.ensures in let same : r.result ≡ c.loop-to.to = omega (arith, k.lower_bound.0, c.if-to-next.false) in come_to (turned c.loop-to.invariant r.result k.lower_bound.1 r.auto.nodes r.auto.references refl refl refl refl (λ room limit. k.goes room limit _ _ _)) same in
+    let run_none = let r = c.read_run-next in let k = r.ensures in let same : r.result ≡ c.loop-to.to = omega (arith, k.lower_bound.0, c.if-to-next.false) in come_to (turned c.loop-to.invariant r.result k.lower_bound.1 r.auto.nodes r.auto.references refl refl refl refl (λ room limit. k.goes room limit _ _ _)) same in
     let c-if5 = c.if-to-end in
     let c-read-value = c.read_value-v in
     let c-loop-test = c.loop-to-test in
@@ -320,7 +320,7 @@ read_members-offset_bounds-references-to-in-loop-to t c =
 
 pub read_members-bounds-references-to-in-loop-to : goal.read_members-bounds-references-to-in-loop-to
 read_members-bounds-references-to-in-loop-to t c =
-    let run_none : let a = c.args in let l = c.read_run-next.new in Turning a.input.now a.nodes.now a.references.now a.bytes.now (by_buckets a.symbols.now a.buckets.now) a.objects.now a.c.now a.start a.end a.names a.levels l.nodes l.references c.loop-to.bytes (by_buckets c.loop-to.symbols c.loop-to.buckets) c.loop-to.objects l.c c.loop-to.to = let r = c.read_run-next in let k = r.ensures in let same : r.result ≡ c.loop-to.to = omega (arith, k.lower_bound.0, c.if-to-next.false) in come_to (turned c.loop-to.invariant r.result k.lower_bound.1 r.auto.nodes r.auto.references refl refl refl refl (λ room limit. k.goes room limit _ _ _)) same in
+    let run_none = let r = c.read_run-next in let k = r.ensures in let same : r.result ≡ c.loop-to.to = omega (arith, k.lower_bound.0, c.if-to-next.false) in come_to (turned c.loop-to.invariant r.result k.lower_bound.1 r.auto.nodes r.auto.references refl refl refl refl (λ room limit. k.goes room limit _ _ _)) same in
     let c-if4 = c.if-v-ge-REFUSED in
     let c-read-value = c.read_value-v in
     let S = run_none in
@@ -337,7 +337,7 @@ read_members-overflow_add-to-in-loop-to t c =
 
 pub read_members-loop-to-preserved : goal.read_members-loop-to-preserved
 read_members-loop-to-preserved t c =
-    let run_none : let a = c.args in let l = c.read_run-next.new in Turning a.input.now a.nodes.now a.references.now a.bytes.now (by_buckets a.symbols.now a.buckets.now) a.objects.now a.c.now a.start a.end a.names a.levels l.nodes l.references c.loop-to.bytes (by_buckets c.loop-to.symbols c.loop-to.buckets) c.loop-to.objects l.c c.loop-to.to = let r = c.read_run-next in let k = r.ensures in let same : r.result ≡ c.loop-to.to = omega (arith, k.lower_bound.0, c.if-to-next.false) in come_to (turned c.loop-to.invariant r.result k.lower_bound.1 r.auto.nodes r.auto.references refl refl refl refl (λ room limit. k.goes room limit _ _ _)) same in
+    let run_none = let r = c.read_run-next in let k = r.ensures in let same : r.result ≡ c.loop-to.to = omega (arith, k.lower_bound.0, c.if-to-next.false) in come_to (turned c.loop-to.invariant r.result k.lower_bound.1 r.auto.nodes r.auto.references refl refl refl refl (λ room limit. k.goes room limit _ _ _)) same in
     let c-read-value = c.read_value-v in
     let c-read-run = c.read_run-next in
     let c-loop = c.loop-to in
@@ -363,8 +363,8 @@ read_object-returns-then-h-ge-REFUSED t c =
 
 pub read_object-read_symbol_like-name-requires : goal.read_object-read_symbol_like-name-requires
 read_object-read_symbol_like-name-requires t c =
-    let opened_at : let l = c.open_node-h.new in let a = c.args in Open a.input.now (lent l.nodes a.references.now a.bytes.now (by_buckets a.symbols.now a.buckets.now) l.objects) l.c c.open_node-h.result (Unit {0}) = opened c.requires (λ room. (c.open_node-h.ensures.by_index _ room 0 _ _ _).goes c.if-h-ge-REFUSED.false) (c.open_node-h.ensures.upper_bound c.if-h-ge-REFUSED.false) in
-    (_, _, (opened_at).held)
+    let opened_at = opened c.requires (λ room. (c.open_node-h.ensures.by_index _ room 0 _ _ _).goes c.if-h-ge-REFUSED.false) (c.open_node-h.ensures.upper_bound c.if-h-ge-REFUSED.false) in
+    (_, _, opened_at.held)
 
 pub read_object-returns-then-name-ge-REFUSED : goal.read_object-returns-then-name-ge-REFUSED
 unfolding D.read_object read_instance_variables
@@ -373,9 +373,9 @@ read_object-returns-then-name-ge-REFUSED t c =
 
 pub read_object-read_words-n-requires : goal.read_object-read_words-n-requires
 read_object-read_words-n-requires t c =
-    let opened_at : let l = c.open_node-h.new in let a = c.args in Open a.input.now (lent l.nodes a.references.now a.bytes.now (by_buckets a.symbols.now a.buckets.now) l.objects) l.c c.open_node-h.result (Unit {0}) = opened c.requires (λ room. (c.open_node-h.ensures.by_index _ room 0 _ _ _).goes c.if-h-ge-REFUSED.false) (c.open_node-h.ensures.upper_bound c.if-h-ge-REFUSED.false) in
-    let named_at : let l = c.read_symbol_like-name.new in let a = c.args in Open a.input.now (lent l.nodes a.references.now l.bytes (by_buckets l.symbols l.buckets) c.open_node-h.new.objects) l.c c.open_node-h.result (Unit {0}) = open_on (opened_at) (λ room. (c.read_symbol_like-name.ensures.meets room 0 _ _).goes c.if-name-ge-REFUSED.false) in
-    (omega arith, (_, _, _, _, (named_at).held))
+    let opened_at = opened c.requires (λ room. (c.open_node-h.ensures.by_index _ room 0 _ _ _).goes c.if-h-ge-REFUSED.false) (c.open_node-h.ensures.upper_bound c.if-h-ge-REFUSED.false) in
+    let named_at = open_on opened_at (λ room. (c.read_symbol_like-name.ensures.meets room 0 _ _).goes c.if-name-ge-REFUSED.false) in
+    (omega arith, (_, _, _, _, named_at.held))
 
 pub read_object-returns-then-n-ge-REFUSED : goal.read_object-returns-then-n-ge-REFUSED
 unfolding D.read_object read_instance_variables
@@ -393,10 +393,10 @@ read_object-overflow_sub-start t c =
 
 pub read_object-read_members-w-requires : goal.read_object-read_members-w-requires
 read_object-read_members-w-requires t c =
-    let opened_at : let l = c.open_node-h.new in let a = c.args in Open a.input.now (lent l.nodes a.references.now a.bytes.now (by_buckets a.symbols.now a.buckets.now) l.objects) l.c c.open_node-h.result (Unit {0}) = opened c.requires (λ room. (c.open_node-h.ensures.by_index _ room 0 _ _ _).goes c.if-h-ge-REFUSED.false) (c.open_node-h.ensures.upper_bound c.if-h-ge-REFUSED.false) in
-    let named_at : let l = c.read_symbol_like-name.new in let a = c.args in Open a.input.now (lent l.nodes a.references.now l.bytes (by_buckets l.symbols l.buckets) c.open_node-h.new.objects) l.c c.open_node-h.result (Unit {0}) = open_on (opened_at) (λ room. (c.read_symbol_like-name.ensures.meets room 0 _ _).goes c.if-name-ge-REFUSED.false) in
-    let words_at : let l = c.read_symbol_like-name.new in let w = c.read_words-n.new in let a = c.args in Open a.input.now (lent l.nodes w.references l.bytes (by_buckets l.symbols l.buckets) c.open_node-h.new.objects) w.c c.open_node-h.result (Unit {0}) = open_on (named_at) (λ room. (c.read_words-n.ensures.leads room 0 _ _ _ _ (λ p n. pure p)).goes c.if-n-ge-REFUSED.false) in
-    (down_3 _ t c.decreases, ((inside _ _).0, (inside _ 0).1, no_more, names_any _, (words_at).held))
+    let opened_at = opened c.requires (λ room. (c.open_node-h.ensures.by_index _ room 0 _ _ _).goes c.if-h-ge-REFUSED.false) (c.open_node-h.ensures.upper_bound c.if-h-ge-REFUSED.false) in
+    let named_at = open_on opened_at (λ room. (c.read_symbol_like-name.ensures.meets room 0 _ _).goes c.if-name-ge-REFUSED.false) in
+    let words_at = open_on named_at (λ room. (c.read_words-n.ensures.leads room 0 _ _ _ _ (λ p n. pure p)).goes c.if-n-ge-REFUSED.false) in
+    (down_3 _ t c.decreases, ((inside _ _).0, (inside _ 0).1, no_more, names_any _, words_at.held))
 
 pub read_object-returns-then-w-ge-REFUSED : goal.read_object-returns-then-w-ge-REFUSED
 unfolding D.read_object read_instance_variables
@@ -416,28 +416,28 @@ read_object-returns-then-w-ge-REFUSED t c =
 
 pub read_object-overflow_cast-start : goal.read_object-overflow_cast-start
 read_object-overflow_cast-start t c =
-    let opened_at : let l = c.open_node-h.new in let a = c.args in Open a.input.now (lent l.nodes a.references.now a.bytes.now (by_buckets a.symbols.now a.buckets.now) l.objects) l.c c.open_node-h.result (Unit {0}) = opened c.requires (λ room. (c.open_node-h.ensures.by_index _ room 0 _ _ _).goes c.if-h-ge-REFUSED.false) (c.open_node-h.ensures.upper_bound c.if-h-ge-REFUSED.false) in
-    let named_at : let l = c.read_symbol_like-name.new in let a = c.args in Open a.input.now (lent l.nodes a.references.now l.bytes (by_buckets l.symbols l.buckets) c.open_node-h.new.objects) l.c c.open_node-h.result (Unit {0}) = open_on (opened_at) (λ room. (c.read_symbol_like-name.ensures.meets room 0 _ _).goes c.if-name-ge-REFUSED.false) in
-    let words_at : let l = c.read_symbol_like-name.new in let w = c.read_words-n.new in let a = c.args in Open a.input.now (lent l.nodes w.references l.bytes (by_buckets l.symbols l.buckets) c.open_node-h.new.objects) w.c c.open_node-h.result (Unit {0}) = open_on (named_at) (λ room. (c.read_words-n.ensures.leads room 0 _ _ _ _ (λ p n. pure p)).goes c.if-n-ge-REFUSED.false) in
-    let H = (words_at).held.holds in
+    let opened_at = opened c.requires (λ room. (c.open_node-h.ensures.by_index _ room 0 _ _ _).goes c.if-h-ge-REFUSED.false) (c.open_node-h.ensures.upper_bound c.if-h-ge-REFUSED.false) in
+    let named_at = open_on opened_at (λ room. (c.read_symbol_like-name.ensures.meets room 0 _ _).goes c.if-name-ge-REFUSED.false) in
+    let words_at = open_on named_at (λ room. (c.read_words-n.ensures.leads room 0 _ _ _ _ (λ p n. pure p)).goes c.if-n-ge-REFUSED.false) in
+    let H = words_at.held.holds in
     omega (arith, (c.read_words-n.ensures.upper_bound c.if-n-ge-REFUSED.false).1, H.counted.count_references, H.laid.references.fits, H.fixed.small.references)
 
 pub read_object-fill_node-requires : goal.read_object-fill_node-requires
 read_object-fill_node-requires t c =
-    let opened_at : let l = c.open_node-h.new in let a = c.args in Open a.input.now (lent l.nodes a.references.now a.bytes.now (by_buckets a.symbols.now a.buckets.now) l.objects) l.c c.open_node-h.result (Unit {0}) = opened c.requires (λ room. (c.open_node-h.ensures.by_index _ room 0 _ _ _).goes c.if-h-ge-REFUSED.false) (c.open_node-h.ensures.upper_bound c.if-h-ge-REFUSED.false) in
-    let named_at : let l = c.read_symbol_like-name.new in let a = c.args in Open a.input.now (lent l.nodes a.references.now l.bytes (by_buckets l.symbols l.buckets) c.open_node-h.new.objects) l.c c.open_node-h.result (Unit {0}) = open_on (opened_at) (λ room. (c.read_symbol_like-name.ensures.meets room 0 _ _).goes c.if-name-ge-REFUSED.false) in
-    let words_at : let l = c.read_symbol_like-name.new in let w = c.read_words-n.new in let a = c.args in Open a.input.now (lent l.nodes w.references l.bytes (by_buckets l.symbols l.buckets) c.open_node-h.new.objects) w.c c.open_node-h.result (Unit {0}) = open_on (named_at) (λ room. (c.read_words-n.ensures.leads room 0 _ _ _ _ (λ p n. pure p)).goes c.if-n-ge-REFUSED.false) in
-    let members_at : let l = c.read_members-w.new in Open c.args.input.now (lent l.nodes l.references l.bytes (by_buckets l.symbols l.buckets) l.objects) l.c c.open_node-h.result (Unit {0}) = open_on (words_at) (λ room. (c.read_members-w.ensures.meets room 0).goes c.if-w-ge-REFUSED.false) in
+    let opened_at = opened c.requires (λ room. (c.open_node-h.ensures.by_index _ room 0 _ _ _).goes c.if-h-ge-REFUSED.false) (c.open_node-h.ensures.upper_bound c.if-h-ge-REFUSED.false) in
+    let named_at = open_on opened_at (λ room. (c.read_symbol_like-name.ensures.meets room 0 _ _).goes c.if-name-ge-REFUSED.false) in
+    let words_at = open_on named_at (λ room. (c.read_words-n.ensures.leads room 0 _ _ _ _ (λ p n. pure p)).goes c.if-n-ge-REFUSED.false) in
+    let members_at = open_on words_at (λ room. (c.read_members-w.ensures.meets room 0).goes c.if-w-ge-REFUSED.false) in
     let O = members_at in
     (slot_room O.held O.below, c.if-h-ge-REFUSED.false)
 
 pub read_object-returns : goal.read_object-returns
 unfolding D.read_object read_instance_variables kind words
 read_object-returns t c =
-    let opened_at : let l = c.open_node-h.new in let a = c.args in Open a.input.now (lent l.nodes a.references.now a.bytes.now (by_buckets a.symbols.now a.buckets.now) l.objects) l.c c.open_node-h.result (Unit {0}) = opened c.requires (λ room. (c.open_node-h.ensures.by_index _ room 0 _ _ _).goes c.if-h-ge-REFUSED.false) (c.open_node-h.ensures.upper_bound c.if-h-ge-REFUSED.false) in
-    let named_at : let l = c.read_symbol_like-name.new in let a = c.args in Open a.input.now (lent l.nodes a.references.now l.bytes (by_buckets l.symbols l.buckets) c.open_node-h.new.objects) l.c c.open_node-h.result (Unit {0}) = open_on (opened_at) (λ room. (c.read_symbol_like-name.ensures.meets room 0 _ _).goes c.if-name-ge-REFUSED.false) in
-    let words_at : let l = c.read_symbol_like-name.new in let w = c.read_words-n.new in let a = c.args in Open a.input.now (lent l.nodes w.references l.bytes (by_buckets l.symbols l.buckets) c.open_node-h.new.objects) w.c c.open_node-h.result (Unit {0}) = open_on (named_at) (λ room. (c.read_words-n.ensures.leads room 0 _ _ _ _ (λ p n. pure p)).goes c.if-n-ge-REFUSED.false) in
-    let members_at : let l = c.read_members-w.new in Open c.args.input.now (lent l.nodes l.references l.bytes (by_buckets l.symbols l.buckets) l.objects) l.c c.open_node-h.result (Unit {0}) = open_on (words_at) (λ room. (c.read_members-w.ensures.meets room 0).goes c.if-w-ge-REFUSED.false) in
+    let opened_at = opened c.requires (λ room. (c.open_node-h.ensures.by_index _ room 0 _ _ _).goes c.if-h-ge-REFUSED.false) (c.open_node-h.ensures.upper_bound c.if-h-ge-REFUSED.false) in
+    let named_at = open_on opened_at (λ room. (c.read_symbol_like-name.ensures.meets room 0 _ _).goes c.if-name-ge-REFUSED.false) in
+    let words_at = open_on named_at (λ room. (c.read_words-n.ensures.leads room 0 _ _ _ _ (λ p n. pure p)).goes c.if-n-ge-REFUSED.false) in
+    let members_at = open_on words_at (λ room. (c.read_members-w.ensures.meets room 0).goes c.if-w-ge-REFUSED.false) in
     let O = members_at in
     let h = c.open_node-h.result in
     let w = c.read_symbol_like-name.result in
@@ -576,8 +576,8 @@ read_variables-returns-then-h-ge-REFUSED t c =
 
 pub read_variables-read_words-n-requires : goal.read_variables-read_words-n-requires
 read_variables-read_words-n-requires t c =
-    let opened_at : let l = c.read_inner-h.new in Open c.args.input.now (lent l.nodes l.references l.bytes (by_buckets l.symbols l.buckets) l.objects) l.c c.read_inner-h.result ⊥ = opened_value c.requires (λ room. (c.read_inner-h.ensures.meets room 0).goes c.if-h-ge-REFUSED.false) (c.read_inner-h.ensures.upper_bound c.if-h-ge-REFUSED.false) in
-    (omega arith, (_, _, _, _, (opened_at).held))
+    let opened_at = opened_value c.requires (λ room. (c.read_inner-h.ensures.meets room 0).goes c.if-h-ge-REFUSED.false) (c.read_inner-h.ensures.upper_bound c.if-h-ge-REFUSED.false) in
+    (omega arith, (_, _, _, _, opened_at.held))
 
 pub read_variables-returns-then-n-ge-REFUSED : goal.read_variables-returns-then-n-ge-REFUSED
 unfolding read_instance_variables
@@ -591,9 +591,9 @@ read_variables-overflow_sub-start t c =
 
 pub read_variables-read_members-done-requires : goal.read_variables-read_members-done-requires
 read_variables-read_members-done-requires t c =
-    let opened_at : let l = c.read_inner-h.new in Open c.args.input.now (lent l.nodes l.references l.bytes (by_buckets l.symbols l.buckets) l.objects) l.c c.read_inner-h.result ⊥ = opened_value c.requires (λ room. (c.read_inner-h.ensures.meets room 0).goes c.if-h-ge-REFUSED.false) (c.read_inner-h.ensures.upper_bound c.if-h-ge-REFUSED.false) in
-    let words_at : let l = c.read_inner-h.new in let w = c.read_words-n.new in let a = c.args in Open a.input.now (lent l.nodes w.references l.bytes (by_buckets l.symbols l.buckets) l.objects) w.c c.read_inner-h.result ⊥ = open_on (opened_at) (λ room. (c.read_words-n.ensures.leads room 0 _ _ _ _ (λ p n. pure p)).goes c.if-n-ge-REFUSED.false) in
-    (down_3 _ t c.decreases, ((inside _ _).0, (inside _ 0).1, no_more, names_any _, (words_at).held))
+    let opened_at = opened_value c.requires (λ room. (c.read_inner-h.ensures.meets room 0).goes c.if-h-ge-REFUSED.false) (c.read_inner-h.ensures.upper_bound c.if-h-ge-REFUSED.false) in
+    let words_at = open_on opened_at (λ room. (c.read_words-n.ensures.leads room 0 _ _ _ _ (λ p n. pure p)).goes c.if-n-ge-REFUSED.false) in
+    (down_3 _ t c.decreases, ((inside _ _).0, (inside _ 0).1, no_more, names_any _, words_at.held))
 
 pub read_variables-returns-then-done-ge-REFUSED : goal.read_variables-returns-then-done-ge-REFUSED
 unfolding read_instance_variables
@@ -612,25 +612,25 @@ read_variables-returns-then-done-ge-REFUSED t c =
 
 pub read_variables-overflow_cast-start : goal.read_variables-overflow_cast-start
 read_variables-overflow_cast-start t c =
-    let opened_at : let l = c.read_inner-h.new in Open c.args.input.now (lent l.nodes l.references l.bytes (by_buckets l.symbols l.buckets) l.objects) l.c c.read_inner-h.result ⊥ = opened_value c.requires (λ room. (c.read_inner-h.ensures.meets room 0).goes c.if-h-ge-REFUSED.false) (c.read_inner-h.ensures.upper_bound c.if-h-ge-REFUSED.false) in
-    let words_at : let l = c.read_inner-h.new in let w = c.read_words-n.new in let a = c.args in Open a.input.now (lent l.nodes w.references l.bytes (by_buckets l.symbols l.buckets) l.objects) w.c c.read_inner-h.result ⊥ = open_on (opened_at) (λ room. (c.read_words-n.ensures.leads room 0 _ _ _ _ (λ p n. pure p)).goes c.if-n-ge-REFUSED.false) in
-    let H = (words_at).held.holds in
+    let opened_at = opened_value c.requires (λ room. (c.read_inner-h.ensures.meets room 0).goes c.if-h-ge-REFUSED.false) (c.read_inner-h.ensures.upper_bound c.if-h-ge-REFUSED.false) in
+    let words_at = open_on opened_at (λ room. (c.read_words-n.ensures.leads room 0 _ _ _ _ (λ p n. pure p)).goes c.if-n-ge-REFUSED.false) in
+    let H = words_at.held.holds in
     omega (arith, (c.read_words-n.ensures.upper_bound c.if-n-ge-REFUSED.false).1, H.counted.count_references, H.laid.references.fits, H.fixed.small.references)
 
 pub read_variables-set_variables-requires : goal.read_variables-set_variables-requires
 read_variables-set_variables-requires t c =
-    let opened_at : let l = c.read_inner-h.new in Open c.args.input.now (lent l.nodes l.references l.bytes (by_buckets l.symbols l.buckets) l.objects) l.c c.read_inner-h.result ⊥ = opened_value c.requires (λ room. (c.read_inner-h.ensures.meets room 0).goes c.if-h-ge-REFUSED.false) (c.read_inner-h.ensures.upper_bound c.if-h-ge-REFUSED.false) in
-    let words_at : let l = c.read_inner-h.new in let w = c.read_words-n.new in let a = c.args in Open a.input.now (lent l.nodes w.references l.bytes (by_buckets l.symbols l.buckets) l.objects) w.c c.read_inner-h.result ⊥ = open_on (opened_at) (λ room. (c.read_words-n.ensures.leads room 0 _ _ _ _ (λ p n. pure p)).goes c.if-n-ge-REFUSED.false) in
-    let members_at : let l = c.read_members-done.new in Open c.args.input.now (lent l.nodes l.references l.bytes (by_buckets l.symbols l.buckets) l.objects) l.c c.read_inner-h.result ⊥ = open_on (words_at) (λ room. (c.read_members-done.ensures.meets room 0).goes c.if-done-ge-REFUSED.false) in
+    let opened_at = opened_value c.requires (λ room. (c.read_inner-h.ensures.meets room 0).goes c.if-h-ge-REFUSED.false) (c.read_inner-h.ensures.upper_bound c.if-h-ge-REFUSED.false) in
+    let words_at = open_on opened_at (λ room. (c.read_words-n.ensures.leads room 0 _ _ _ _ (λ p n. pure p)).goes c.if-n-ge-REFUSED.false) in
+    let members_at = open_on words_at (λ room. (c.read_members-done.ensures.meets room 0).goes c.if-done-ge-REFUSED.false) in
     let O = members_at in
     (slot_room O.held O.below, c.if-h-ge-REFUSED.false)
 
 pub read_variables-returns : goal.read_variables-returns
 unfolding read_instance_variables
 read_variables-returns t c =
-    let opened_at : let l = c.read_inner-h.new in Open c.args.input.now (lent l.nodes l.references l.bytes (by_buckets l.symbols l.buckets) l.objects) l.c c.read_inner-h.result ⊥ = opened_value c.requires (λ room. (c.read_inner-h.ensures.meets room 0).goes c.if-h-ge-REFUSED.false) (c.read_inner-h.ensures.upper_bound c.if-h-ge-REFUSED.false) in
-    let words_at : let l = c.read_inner-h.new in let w = c.read_words-n.new in let a = c.args in Open a.input.now (lent l.nodes w.references l.bytes (by_buckets l.symbols l.buckets) l.objects) w.c c.read_inner-h.result ⊥ = open_on (opened_at) (λ room. (c.read_words-n.ensures.leads room 0 _ _ _ _ (λ p n. pure p)).goes c.if-n-ge-REFUSED.false) in
-    let members_at : let l = c.read_members-done.new in Open c.args.input.now (lent l.nodes l.references l.bytes (by_buckets l.symbols l.buckets) l.objects) l.c c.read_inner-h.result ⊥ = open_on (words_at) (λ room. (c.read_members-done.ensures.meets room 0).goes c.if-done-ge-REFUSED.false) in
+    let opened_at = opened_value c.requires (λ room. (c.read_inner-h.ensures.meets room 0).goes c.if-h-ge-REFUSED.false) (c.read_inner-h.ensures.upper_bound c.if-h-ge-REFUSED.false) in
+    let words_at = open_on opened_at (λ room. (c.read_words-n.ensures.leads room 0 _ _ _ _ (λ p n. pure p)).goes c.if-n-ge-REFUSED.false) in
+    let members_at = open_on words_at (λ room. (c.read_members-done.ensures.meets room 0).goes c.if-done-ge-REFUSED.false) in
     let O = members_at in
     let h = c.read_inner-h.result in
     let n = c.read_words-n.result in

@@ -1,6 +1,5 @@
 -- The proof of store_low.
 use native.Mathlib.Omega.{arith}
-use Prim.Native.Nat.{◌-◌}
 use mathlib.Core.Path.{refl, sym, ◌∙◌}
 use lib.ListN.{length-set}
 use Rattle.writer.proofs.Integers.{low_start, low_on, low_end}

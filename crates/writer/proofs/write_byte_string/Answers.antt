@@ -22,7 +22,7 @@ returns-then-at-output c =
     let if2 = c.if-count-output in
     let if3 = c.if-at-output in
     let copy-bytes = c.copy_bytes in
-    λ A room limit sc. part_after (integer_bytes a.n) (take a.n (drop a.start a.bytes.now)) if1.false (write-fixnum.ensures A room limit sc) (string_stored a.bytes.now a.start a.n _ size.ensures (pre) size2.ensures if2.true if3.true copy-bytes.ensures)
+    λ A room limit sc. part_after (integer_bytes a.n) (take a.n (drop a.start a.bytes.now)) if1.false (write-fixnum.ensures A room limit sc) (string_stored a.bytes.now a.start a.n _ size.ensures pre size2.ensures if2.true if3.true copy-bytes.ensures)
 
 pub returns-else-at-output : goal.returns-else-at-output
 returns-else-at-output c =
@@ -32,7 +32,7 @@ returns-else-at-output c =
     let size = c.size-count in
     let pre = c.requires in
     let if2 = c.if-count-output in
-    λ A room limit sc. part_after (integer_bytes a.n) (take a.n (drop a.start a.bytes.now)) if1.false (write-fixnum.ensures A room limit sc) (string_full a.bytes.now a.start a.n _ size.ensures (pre) if2.true c.if-at-output.false)
+    λ A room limit sc. part_after (integer_bytes a.n) (take a.n (drop a.start a.bytes.now)) if1.false (write-fixnum.ensures A room limit sc) (string_full a.bytes.now a.start a.n _ size.ensures pre if2.true c.if-at-output.false)
 
 pub returns-else-count-output : goal.returns-else-count-output
 returns-else-count-output c =
@@ -41,4 +41,4 @@ returns-else-count-output c =
     let write-fixnum = c.write_fixnum-w in
     let size = c.size-count in
     let pre = c.requires in
-    λ A room limit sc. part_after (integer_bytes a.n) (take a.n (drop a.start a.bytes.now)) if1.false (write-fixnum.ensures A room limit sc) (string_long a.bytes.now a.start a.n _ size.ensures (pre) c.if-count-output.false)
+    λ A room limit sc. part_after (integer_bytes a.n) (take a.n (drop a.start a.bytes.now)) if1.false (write-fixnum.ensures A room limit sc) (string_long a.bytes.now a.start a.n _ size.ensures pre c.if-count-output.false)

@@ -13,7 +13,7 @@ write_symbol-requires c =
     let args = c.args in
     let kinds = c.in-3 in
     let pre = c.requires in
-    ready_as (λ A p. (p.0, symbol_here p.0.noded args.v p.1 kinds.is)) (pre)
+    ready_as (λ A p. (p.0, symbol_here p.0.noded args.v p.1 kinds.is)) pre
 
 pub returns-in-2 : goal.returns-in-2
 returns-in-2 c =

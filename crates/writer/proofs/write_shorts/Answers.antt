@@ -1,6 +1,5 @@
 -- The proof of write_shorts.
 use native.Mathlib.Omega.{arith}
-use Prim.Native.Nat.{◌-◌}
 use mathlib.Core.Path.{refl, sym, ap, ◌∙◌}
 use lib.ListN.{length, set}
 use lib.Seq.{get_or-set_same}
