@@ -6,8 +6,8 @@ use mathlib.Core.Bool.{Bool, true, false}
 use mathlib.Core.List.{List, ◌∷◌}
 use mathlib.Core.Path.{◌≡◌, refl, sym, ap, ◌∙◌}
 use lib.Dec.{eqb}
-use lib.ListN.{length, get_or, take, drop, get_or-eq_default}
-use lib.Seq.{get_or-take, get_or-drop}
+use lib.ListN.{length, get_or, take, drop, get_or-eq_default, drop_of_length-le}
+use lib.Seq.{get_or-take, get_or-drop, drop-cons}
 use borrow.Author.Tests.{lt-ltb, le-ltb, eq-eqb, eqb-true}
 use Rattle.definition.specs.Run.{pick}
 use Rattle.definition.specs.Node.{Row, nil, kind, row, row_of, rows, width}
@@ -19,19 +19,18 @@ use Rattle.arena_check.proofs.Rows.{same_test}
 
 -- ---- members below a count
 
-module _ (l : List ℕ) (start n count i : ℕ) (h : start + n ≤ length l) where
-  pub below_on : i < n → get_or l (start + i) 0 < count → all_below count (drop i (range l start n)) ≡ all_below count (drop (i + 1) (range l start n))
+module _ (l : List ℕ) (count i : ℕ) where
+  pub below_on : i < length l → get_or l i 0 < count → all_below count (drop i l) ≡ all_below count (drop (i + 1) l)
   unfolding all_below pick
-  below_on k t =
-      ap (all_below count) (range_step l start n i h k) ∙ rw (lt-ltb _ _ t, add-one i) refl
+  below_on h t = ap (all_below count) (drop-cons l i 0 h) ∙ rw (lt-ltb _ _ t, add-one i) refl
 
-  pub below_not : i < n → count ≤ get_or l (start + i) 0 → false ≡ all_below count (drop i (range l start n))
+  pub below_not : i < length l → count ≤ get_or l i 0 → false ≡ all_below count (drop i l)
   unfolding all_below pick
-  below_not k t = sym (ap (all_below count) (range_step l start n i h k) ∙ rw (le-ltb _ _ t) refl)
+  below_not h t = sym (ap (all_below count) (drop-cons l i 0 h) ∙ rw (le-ltb _ _ t) refl)
 
-  pub below_all : n ≤ i → true ≡ all_below count (drop i (range l start n))
+  pub below_all : length l ≤ i → true ≡ all_below count (drop i l)
   unfolding all_below
-  below_all k = sym (ap (all_below count) (range_end l start n i h k))
+  below_all h = sym (ap (all_below count) (drop_of_length-le l {i = i} h))
 
 -- ---- names
 

@@ -2,7 +2,7 @@
 use Prim.Native.Nat.{ℕ, zero, suc, ◌+◌, ◌-◌, ◌*◌, ◌/◌, ◌≤◌, ◌<◌}
 use native.Mathlib.Omega.{arith}
 use native.Mathlib.Numerals.{add-one}
-use mathlib.Core.Bool.{Bool, true, false, not, ◌&&◌, and-true, and-false}
+use mathlib.Core.Bool.{Bool, true, false, not, ◌&&◌, and-true}
 use mathlib.Core.List.{List, [], ◌∷◌}
 use mathlib.Core.Option.{Option, none, some}
 use mathlib.Core.Path.{◌≡◌, refl, sym, ap, ◌∙◌, subst}
@@ -12,23 +12,31 @@ use lib.ListN.{length, get_or, take, drop, length-drop}
 use lib.Seq.{get_or-drop, length-take-le, drop-drop, take-take}
 use borrow.Author.Tests.{le-leb, lt-leb, lt-ltb, le-ltb, ne_eqb}
 use Rattle.definition.specs.Run.{pick}
-use Rattle.definition.specs.Node.{Row, row, row_of, vars, is_row, width, START, LENGTH, LIST, COUNT, NAME, DEFAULT, CLASS, optional_node}
+use Rattle.definition.specs.Node.{Row, row, row_of, vars, is_row, rows, width, START, LENGTH, LIST, COUNT, NAME, DEFAULT, CLASS, optional_node}
 use Rattle.definition.specs.Magnitude.{magnitude, fits as magnitude_fits}
-use Rattle.definition.specs.Arena.{Arena, Tables, arena, range, firsts, all_below, all_names, is_name, bytes_right, list_right, pairs_right, vars_right, class_right, number_right, row_right, node_right, faulty, counts_fit, fault, fault_if, counts_of}
+use Rattle.definition.specs.Arena.{Arena, Tables, arena, range, firsts, all_below, all_names, is_name, bytes_right, list_right, pairs_right, vars_right, class_right, number_right, row_right, node_right, faulty, counts_fit, fault, fault_if}
 use Rattle.definition.specs.declared.Counts.{Counts}
 use Rattle.definition.specs.declared.Fault.{Fault}
 use Rattle.definition.specs.declared.Fault.TheVariants.{Counts as BadCounts, Node}
-use Rattle.arena_check.specs.declared.Checked.{Checked}
-use Rattle.arena_check.specs.declared.Checked.TheVariants.{Right, Wrong}
+use Rattle.std.specs.Prelude.{Result, Ok, Err}
+use Rattle.arena_check.specs.declared.fitted.Fitted.{Fitted}
 use Rattle.arena_check.specs.Held.{Held, Fits, FitIf}
 use Rattle.lists.specs.Tables.{length_rows}
 use Rattle.arena_check.proofs.Rows.{row_2}
 
+-- ---- two tests in a row: the second where the first holds, else the first
+
+pub and_on : {r : Bool} (x y : Bool) → true ≡ x → r ≡ y → r ≡ (x && y)
+and_on x y t e = e ∙ ap (λ (b : Bool). b && y) t
+
+pub and_off : {r : Bool} (x y : Bool) → r ≡ false → r ≡ x → r ≡ (x && y)
+and_off x y f e = f ∙ ap (λ (b : Bool). b && y) (sym f ∙ e)
+
 -- ---- ranges and lists
 
-pub bytes_at : (A : Arena) (start n stored x y : ℕ) → length A.bytes ≡ stored → x ≡ start → y ≡ n → leb (x + y) stored ≡ bytes_right A start n
+pub bytes_at : (A : Arena) (start n stored : ℕ) → length A.bytes ≡ stored → leb (start + n) stored ≡ bytes_right A start n
 unfolding bytes_right
-bytes_at A start n stored x y e p q = λ i. leb (p i + q i) (sym e i)
+bytes_at A start n stored e = λ i. leb (start + n) (sym e i)
 
 -- a part of the first entries is a part of them all
 pub range_take : (l : List ℕ) (used start n : ℕ) → start + n ≤ used → range (take used l) start n ≡ range l start n
@@ -43,31 +51,32 @@ module _ (A : Arena) (l : List ℕ) (used count : ℕ) (e : A.references ≡ tak
   listed : length A.references ≡ used
   listed = ap length e ∙ length-take-le used l fit
 
-  pub list_in : (start n x : ℕ) → x ≡ start → x + n ≤ used → all_below count (range l x n) ≡ list_right A start n
-  unfolding list_right
-  list_in start n x p h =
+  pub list_in : (start n : ℕ) → start + n ≤ used → all_below count (take (start + n - start) (drop start l)) ≡ list_right A start n
+  unfolding list_right range
+  list_in start n h =
       let h' : start + n ≤ length A.references = omega (arith, listed) in
-      sym (rw (le-leb (start + n) (length A.references) h')
+      let z : start + n - start ≡ n = omega arith in
+      ap (λ (k : ℕ). all_below count (take k (drop start l))) z
+      ∙ sym (rw (le-leb (start + n) (length A.references) h')
       (ap (λ (m : List ℕ). all_below (length A.nodes) (range m start n)) e
-      ∙ ap (all_below (length A.nodes)) (range_take l used start n (omega arith))
-      ∙ λ i. all_below (g i) (range l (sym p i) n)))
+      ∙ ap (all_below (length A.nodes)) (range_take l used start n h)
+      ∙ λ i. all_below (g i) (range l start n)))
 
-  pub list_out : (start n x : ℕ) → x ≡ start → used < x + n → false ≡ list_right A start n
+  pub list_out : (start n : ℕ) → used < start + n → false ≡ list_right A start n
   unfolding list_right
-  list_out start n x p h =
+  list_out start n h =
       let h' : length A.references < start + n = omega (arith, listed) in
       sym (rw (lt-leb (start + n) (length A.references) h') refl)
 
-  pub pairs_in : (start n x y : ℕ) → x ≡ start → y ≡ n → true ≡ list_right A start (y * 2) → start + y * 2 ≤ used → all_names A (firsts (range l x (y * 2))) ≡ pairs_right A start n
+  pub pairs_in : (start n : ℕ) → true ≡ list_right A start (n * 2) → start + n * 2 ≤ used → all_names A (firsts (range l start (n * 2))) ≡ pairs_right A start n
   unfolding pairs_right
-  pairs_in start n x y p q t h =
-      (λ i. all_names A (firsts (range l (p i) (q i * 2))))
-      ∙ sym (ap (λ (m : List ℕ). all_names A (firsts (range m start (n * 2)))) e ∙ ap (λ (m : List ℕ). all_names A (firsts m)) (range_take l used start (n * 2) (omega arith)))
-      ∙ ap (λ (b : Bool). b && all_names A (firsts (range A.references start (n * 2)))) (t ∙ ap (λ (k : ℕ). list_right A start (k * 2)) q)
+  pairs_in start n t h =
+      sym (ap (λ (m : List ℕ). all_names A (firsts (range m start (n * 2)))) e ∙ ap (λ (m : List ℕ). all_names A (firsts m)) (range_take l used start (n * 2) (omega arith)))
+      ∙ and_on _ _ t refl
 
-pub pairs_out : (A : Arena) (start n y : ℕ) → y ≡ n → false ≡ list_right A start (y * 2) → false ≡ pairs_right A start n
+pub pairs_out : (A : Arena) (start n : ℕ) {r : Bool} → r ≡ false → r ≡ list_right A start (n * 2) → r ≡ pairs_right A start n
 unfolding pairs_right
-pairs_out A start n y q t = ap (λ (b : Bool). b && all_names A (firsts (range A.references start (n * 2)))) (t ∙ ap (λ (k : ℕ). list_right A start (k * 2)) q)
+pairs_out A start n f e = and_off _ (all_names A (firsts (range A.references start (n * 2)))) f e
 
 pub vars_none : (A : Arena) (f s n : ℕ) → f ≡ 0 → true ≡ vars_right A (vars f s n)
 unfolding vars_right vars
@@ -109,8 +118,8 @@ module _ {x m : ℕ} (e : x ≡ m) (w : ℕ) where
 
 -- ---- rows by kind
 
-pub held_count : {A : Arena} {nodes references : List ℕ} {n r b : ℕ} → Held A nodes references n r b → length A.nodes ≡ n
-held_count {nodes = nodes} {n = n} H = ap length H.nodes_same ∙ length_rows n nodes
+pub held_count : {A : Arena} {t : Fitted} → Held A t → length A.nodes ≡ t.count
+held_count {t = t} H = ap length H.nodes_same ∙ length_rows t.count t.nodes.now
 
 module _ (A : Arena) (a b s n c f w : ℕ) where
   abbrev right : ℕ → Bool
@@ -225,56 +234,20 @@ faulty_start A t n = ap (λ (k : ℕ). faulty A k 0 t) (omega arith)
 
 -- ---- counts
 
-abbrev lengths : Tables → ℕ → ℕ → ℕ → Type 0
-lengths T n r b = (length T.nodes ≡ n) × (length T.references ≡ r) × (length T.bytes ≡ b)
-
--- the five tests in order
-five : ℕ → ℕ → ℕ → ℕ → ℕ → ℕ → ℕ → Bool
-five n r b x y z root = leb 1 x && leb x (n / width) && leb y r && leb z b && ltb root x
-
-counts_are : (T : Tables) (n r b x y z root : ℕ) → lengths T n r b → five n r b x y z root ≡ counts_fit T (counts_of x y z root)
-unfolding counts_fit five
-counts_are T n r b x y z root (p, q, s) = λ i. leb 1 x && leb x (sym p i / width) && leb y (sym q i) && leb z (sym s i) && ltb root x
-
-module _ (n r b x y z root : ℕ) where
-  abbrev Is : Bool → Type 0
-  Is t = (T : Tables) → length T.nodes ≡ n → length T.references ≡ r → length T.bytes ≡ b → t ≡ counts_fit T (counts_of x y z root)
-
-  by : (t : Bool) → t ≡ five n r b x y z root → Is t
-  by t e T p q s = e ∙ counts_are T n r b x y z root (p, q, s)
-
-  pub no_nodes : x ≡ 0 → Is false
-  unfolding five
-  no_nodes h = by false (sym (rw h refl))
-
-  pub nodes_past : n / width < x → Is false
-  unfolding five
-  nodes_past h = by false (sym (rw (lt-leb x (n / width) h, and-false (leb 1 x)) refl))
-
-  pub references_past : r < y → Is false
-  unfolding five
-  references_past h = by false (sym (rw (lt-leb y r h, and-false (leb 1 x && leb x (n / width))) refl))
-
-  pub bytes_past : b < z → Is false
-  unfolding five
-  bytes_past h = by false (sym (rw (lt-leb z b h, and-false (leb 1 x && leb x (n / width) && leb y r)) refl))
-
-  pub counts_in : (x ≡ 0 → ⊥) → x ≤ n / width → y ≤ r → z ≤ b → (t : ℕ) → t ≡ root → Is (ltb t x)
-  unfolding five
-  counts_in h₁ h₂ h₃ h₄ t e = by (ltb t x) (sym (rw (le-leb 1 x (omega arith), le-leb x (n / width) h₂, le-leb y r h₃, le-leb z b h₄) (ap (λ (k : ℕ). ltb k x) (sym e))))
-
-  pub fits : x ≤ n / width → y ≤ r → z ≤ b → (t : ℕ) → t ≡ root → t < x → Fits n r b (counts_of x y z root)
-  fits h₁ h₂ h₃ t e l = record { nodes_fit = omega arith; references_fit = h₂; bytes_fit = h₃; root_fits = omega arith }
+pub counts_are : (T : Tables) (c : Counts) {n r b : ℕ} → length T.nodes ≡ n → length T.references ≡ r → length T.bytes ≡ b
+    → (leb 1 c.nodes && leb c.nodes (n / width) && leb c.references r && leb c.bytes b && ltb c.root c.nodes) ≡ counts_fit T c
+unfolding counts_fit
+counts_are T c p q s = λ i. leb 1 c.nodes && leb c.nodes (sym p i / width) && leb c.references (sym q i) && leb c.bytes (sym s i) && ltb c.root c.nodes
 
 -- ---- the whole check
 
-pub held : (T : Tables) (c : Counts) → Fits (length T.nodes) (length T.references) (length T.bytes) c → Held (arena T c) T.nodes T.references c.nodes c.references c.bytes
+pub held : (T : Tables) (c : Counts) (t : Fitted) → t.nodes.now ≡ T.nodes → t.references.now ≡ T.references → t.count ≡ c.nodes → t.used ≡ c.references → t.stored ≡ c.bytes → c.bytes ≤ length T.bytes → Held (arena T c) t
 unfolding arena
-held T c f = record { nodes_same = refl; references_same = refl; bytes_same = length-take-le c.bytes T.bytes f.bytes_fit }
+held T c t p q x y z h = record { nodes_same = λ i. rows (sym x i) (sym p i); references_same = λ i. take (sym y i) (sym q i); bytes_same = length-take-le c.bytes T.bytes h ∙ sym z }
 
-pub fit_if : {n r b : ℕ} {c : Counts} (x : Checked) → Fits n r b c → FitIf x n r b c
-fit_if Right f = f
-fit_if (Wrong q) f = tt
+pub fit_if : {n r b : ℕ} {c : Counts} (x : Result (Unit {0}) Fault) → Fits n r b c → FitIf x n r b c
+fit_if (Ok u) f = f
+fit_if (Err q) f = tt
 
 pub checked_in : (T : Tables) (c : Counts) (o : Option Fault) → true ≡ counts_fit T c → o ≡ faulty (arena T c) c.nodes 0 T.nodes → o ≡ fault T c
 unfolding fault fault_if
@@ -283,25 +256,6 @@ checked_in T c o t e = e ∙ ap (λ (b : Bool). fault_if b T c) t
 pub checked_out : (T : Tables) (c : Counts) → false ≡ counts_fit T c → some BadCounts ≡ fault T c
 unfolding fault fault_if
 checked_out T c t = ap (λ (b : Bool). fault_if b T c) t
-
--- ---- tests in a row
-
-pub and_in : (x y : Bool) → true ≡ x → y ≡ (x && y)
-and_in x y t = ap (λ (b : Bool). b && y) t
-
-pub and_out : (x y : Bool) → false ≡ x → false ≡ (x && y)
-and_out x y t = ap (λ (b : Bool). b && y) t
-
--- three of them
-module _ (x y z : Bool) where
-  pub third_in : true ≡ x → true ≡ y → z ≡ (x && y && z)
-  third_in p q = and_in (x && y) z (q ∙ and_in x y p)
-
-  pub second_out : true ≡ x → false ≡ y → false ≡ (x && y && z)
-  second_out p q = and_out (x && y) z (q ∙ and_in x y p)
-
-  pub first_out : false ≡ x → false ≡ (x && y && z)
-  first_out p = and_out (x && y) z (and_out x y p)
 
 pub not_so : {A : Type 0} → false ≡ true → A
 not_so e = absurd (subst T (sym e) tt)

@@ -33,9 +33,6 @@ zeros a b s n c f w e = omega (arith, eqb-true (a + b + s + n + c + f + w) 0 e)
 sum : (a b s n c f w : ℕ) → a + b + s + n + c + f + w ≡ 0 → eqb (a + b + s + n + c + f + w) 0 ≡ true
 sum a b s n c f w e = eq-eqb (a + b + s + n + c + f + w) 0 e
 
-pub sum_same : {a b s n c f w a' b' s' n' c' f' w' : ℕ} → a' ≡ a → b' ≡ b → s' ≡ s → n' ≡ n → c' ≡ c → f' ≡ f → w' ≡ w → eqb (a' + b' + s' + n' + c' + f' + w') 0 ≡ eqb (a + b + s + n + c + f + w) 0
-sum_same p q r t u v x = λ i. eqb (p i + q i + r i + t i + u i + v i + x i) 0
-
 -- what is said of a kind's number holds of the word that is it
 pub of_kind : {k m : ℕ} {t : Bool} (ws : List ℕ) → k ≡ m → t ≡ is_row (m ∷ ws) → t ≡ is_row (k ∷ ws)
 of_kind ws e t = t ∙ ap (λ (k : ℕ). is_row (k ∷ ws)) (sym e)

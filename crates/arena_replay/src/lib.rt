@@ -12,14 +12,10 @@ ghost use Rattle.std.specs.Prelude.{not, T};
 ghost use Rattle.std.specs.Float.Ieee.{is_nan};
 
 use batch_cost::batch_cost;
-use bits::signed;
 use builder_calls::create;
 use console::{BYTES, NODES, NUMBERED, REFERENCES};
-use definition::{Answer, Counts, Created, Node, Number, Reading};
-use replay_cases::{
-    bytes_agree, bytes_at, counts_at, laid, long, place, plus, same_answer, same_counts, set_bytes,
-    set_words, word, words_agree, words_at,
-};
+use definition::{Counts, Created, Name, Node, Reading, Refusal};
+use replay_cases::{Case, Held};
 use value_arena::{get, get_symbol, kind, replace_root, root};
 use weight::{reading, wet_weight};
 
@@ -59,73 +55,56 @@ const TABLES: usize = WORDS + Node::WIDTH;
 // The calls from here on are the builder's.
 const BUILDER: u32 = 21;
 
-fn answer_agrees(data: &[u8], answer: Answer) -> bool {
-    same_answer(&data[..], ANSWER, answer)
+// The first word, or the only one, that is answered; 0 where the call is refused.
+fn value_agrees(case: Case<'_>, r: Result<u32, Refusal>) -> bool {
+    case.answers(ANSWER, r) && case.word(WORDS) == r.unwrap_or(0)
 }
 
-// The first word, or the only one, that is answered.
-fn value_agrees(data: &[u8], value: u32) -> bool {
-    word(&data[..], WORDS) == value
-}
-
-fn created_agrees(data: &[u8], r: Created) -> bool {
-    let answer = r.answer;
-    let handle = r.handle;
-    let counts = r.counts;
-    answer_agrees(&data[..], answer)
-        && value_agrees(&data[..], handle)
-        && same_counts(&data[..], COUNTS_AFTER, counts)
-}
-
-fn number_agrees(data: &[u8], r: Number) -> bool {
-    let answer = r.answer;
-    let value = r.value;
-    answer_agrees(&data[..], answer) && value_agrees(&data[..], value)
+// A refused builder's counts are those given.
+fn created_agrees(case: Case<'_>, given: Counts, r: Result<Created, Refusal>) -> bool {
+    let created = r.unwrap_or(Created {
+        handle: 0,
+        counts: given,
+    });
+    case.answers(ANSWER, r)
+        && case.word(WORDS) == created.handle
+        && case.counts(COUNTS_AFTER) == created.counts
 }
 
 // The double's bits stand at `at`.
-fn same_double(data: &[u8], at: usize, x: f64) -> bool
+fn same_double(case: Case<'_>, at: usize, x: f64) -> bool
     requires { T (not (is_nan x)) }
 {
-    let bits = f64::to_bits(x);
-    long(&data[..], at) == bits
+    case.long(at) == x.to_bits()
 }
 
 // What node h reads as: 0 for no number, 1 for a whole one, 2 for a double, and that number.
 fn reading_agrees(
-    data: &[u8],
+    case: Case<'_>,
     nodes: &[u32],
     references: &[u32],
     bytes: &[u8],
     counts: Counts,
     h: u32,
 ) -> bool {
-    let r = reading(&nodes[..], &references[..], &bytes[..], counts, h);
-    let answer = r.answer;
-    let reads = r.reading;
-    if !answer_agrees(&data[..], answer) {
+    let r = reading(nodes, references, bytes, counts, h);
+    if !case.answers(ANSWER, r) {
         return false;
     }
-    match reads {
-        Reading::NotANumber => value_agrees(&data[..], 0),
-        Reading::Whole(n) => {
-            if value_agrees(&data[..], 1) {
-                return signed(word(&data[..], WORDS + 1)) == n;
-            }
-            false
-        }
-        Reading::Double(x) => {
-            if value_agrees(&data[..], 2) {
-                return same_double(&data[..], WORDS + 1, x);
-            }
-            false
-        }
+    let kind = case.word(WORDS);
+    match r {
+        Ok(reads) => match reads {
+            Reading::Whole(n) => kind == 1 && case.word(WORDS + 1).cast_signed() == n,
+            Reading::Double(x) => kind == 2 && same_double(case, WORDS + 1, x),
+            Reading::NotANumber => kind == 0,
+        },
+        Err(_) => kind == 0,
     }
 }
 
-// The three doubles of a weighing.
+// The three doubles of a weighing, zeros where the call is refused.
 fn weighing_agrees(
-    data: &[u8],
+    case: Case<'_>,
     nodes: &[u32],
     references: &[u32],
     bytes: &[u8],
@@ -133,29 +112,23 @@ fn weighing_agrees(
     dry: u32,
     moisture: u32,
 ) -> bool {
-    let r = wet_weight(
-        &nodes[..],
-        &references[..],
-        &bytes[..],
-        counts,
-        dry,
-        moisture,
-    );
-    let answer = r.answer;
-    let w = r.weighing;
-    if answer_agrees(&data[..], answer) {
-        if same_double(&data[..], WORDS, w.dry) {
-            if same_double(&data[..], WORDS + 2, w.moisture) {
-                return same_double(&data[..], WORDS + 4, w.wet);
-            }
-        }
+    let r = wet_weight(nodes, references, bytes, counts, dry, moisture);
+    if !case.answers(ANSWER, r) {
+        return false;
     }
-    false
+    match r {
+        Ok(w) => {
+            same_double(case, WORDS, w.dry)
+                && same_double(case, WORDS + 2, w.moisture)
+                && same_double(case, WORDS + 4, w.wet)
+        }
+        Err(_) => case.long(WORDS) == 0 && case.long(WORDS + 2) == 0 && case.long(WORDS + 4) == 0,
+    }
 }
 
-// A call that changes no table.
+// A call that changes no table, by its number.
 fn getter_agrees(
-    data: &[u8],
+    case: Case<'_>,
     call: u32,
     nodes: &[u32],
     references: &[u32],
@@ -165,96 +138,67 @@ fn getter_agrees(
     y: u32,
 ) -> bool {
     match call {
-        11 => number_agrees(
-            &data[..],
-            root(&nodes[..], &references[..], &bytes[..], counts),
-        ),
-        12 => number_agrees(
-            &data[..],
-            kind(&nodes[..], &references[..], &bytes[..], counts, x),
-        ),
+        11 => value_agrees(case, root(nodes, references, bytes, counts)),
+        12 => value_agrees(case, kind(nodes, references, bytes, counts, x)),
         13 => {
-            let r = get(&nodes[..], &references[..], &bytes[..], counts, x);
-            let answer = r.answer;
-            let words = r.words;
-            answer_agrees(&data[..], answer)
-                && words_agree(&data[..], laid(WORDS, Node::WIDTH), &words)
+            let r = get(nodes, references, bytes, counts, x);
+            let expected = Held::Laid {
+                at: WORDS,
+                n: Node::WIDTH,
+            };
+            case.answers(ANSWER, r) && expected.agrees(case, &r.unwrap_or([0; Node::WIDTH]))
         }
         14 => {
-            let r = get_symbol(&nodes[..], &references[..], &bytes[..], counts, x);
-            let answer = r.answer;
-            let start = r.start;
-            let length = r.length;
-            answer_agrees(&data[..], answer)
-                && value_agrees(&data[..], start)
-                && word(&data[..], WORDS + 1) == length
+            let r = get_symbol(nodes, references, bytes, counts, x);
+            let name = r.unwrap_or(Name {
+                start: 0,
+                length: 0,
+            });
+            case.answers(ANSWER, r)
+                && case.word(WORDS) == name.start
+                && case.word(WORDS + 1) == name.length
         }
         15 => created_agrees(
-            &data[..],
-            replace_root(&nodes[..], &references[..], &bytes[..], counts, x),
-        ),
-        16 => reading_agrees(
-            &data[..],
-            &nodes[..],
-            &references[..],
-            &bytes[..],
+            case,
             counts,
-            x,
+            replace_root(nodes, references, bytes, counts, x),
         ),
-        17 => weighing_agrees(
-            &data[..],
-            &nodes[..],
-            &references[..],
-            &bytes[..],
-            counts,
-            x,
-            y,
-        ),
+        16 => reading_agrees(case, nodes, references, bytes, counts, x),
+        17 => weighing_agrees(case, nodes, references, bytes, counts, x, y),
         18 => {
-            let r = batch_cost(&nodes[..], &references[..], &bytes[..], counts, x, y);
-            let answer = r.answer;
-            let cents = r.cents;
-            answer_agrees(&data[..], answer) && long(&data[..], WORDS) == cents
+            let r = batch_cost(nodes, references, bytes, counts, x, y);
+            case.answers(ANSWER, r) && case.long(WORDS) == r.unwrap_or(0)
         }
         _ => false,
     }
 }
 
 fn call_agrees(
-    data: &[u8],
+    case: Case<'_>,
     nodes: &mut [u32],
     references: &mut [u32],
     bytes: &mut [u8],
     list: &[u32],
     text: &[u8],
 ) -> bool {
-    let call = word(&data[..], CALL);
-    let counts = counts_at(&data[..], COUNTS);
-    let x = word(&data[..], FIRST);
-    let y = word(&data[..], SECOND);
+    let call = case.word(CALL);
+    let counts = case.counts(COUNTS);
+    let x = case.word(FIRST);
     if call < BUILDER {
-        return getter_agrees(&data[..], call, nodes, references, bytes, counts, x, y);
+        let y = case.word(SECOND);
+        return getter_agrees(case, call, nodes, references, bytes, counts, x, y);
     }
-    let low = word(&data[..], place(&data[..], LIST_AT));
-    let high = word(&data[..], plus(place(&data[..], LIST_AT), 1));
+    let low = case.word(case.place(LIST_AT));
+    let high = case.word(case.place(LIST_AT).saturating_add(1));
     let r = create(
-        call,
-        nodes,
-        references,
-        bytes,
-        counts,
-        x,
-        low,
-        high,
-        &list[..],
-        &text[..],
+        call, nodes, references, bytes, counts, x, low, high, list, text,
     );
-    created_agrees(&data[..], r)
+    created_agrees(case, counts, r)
 }
 
 // A case in tables and list of just its lengths.
 fn fitted_agrees(
-    data: &[u8],
+    case: Case<'_>,
     nodes: &mut [u32],
     references: &mut [u32],
     bytes: &mut [u8],
@@ -265,39 +209,36 @@ fn fitted_agrees(
     let r = references.len();
     let b = bytes.len();
     let l = list.len();
-    let after = place(&data[..], TABLES_AFTER_AT);
-    set_words(&data[..], laid(TABLES, n), nodes);
-    set_words(&data[..], laid(plus(TABLES, n), r), references);
-    set_bytes(&data[..], laid(place(&data[..], BYTES_AT), b), bytes);
-    set_words(&data[..], laid(place(&data[..], LIST_AT), l), list);
-    call_agrees(&data[..], nodes, references, bytes, list, &text[..])
-        & words_agree(&data[..], laid(after, n), nodes)
-        & words_agree(&data[..], laid(plus(after, n), r), references)
-        & bytes_agree(&data[..], laid(place(&data[..], BYTES_AFTER_AT), b), bytes)
+    let laid = |at: usize, n: usize| Held::Laid { at, n };
+    let after = case.place(TABLES_AFTER_AT);
+    laid(TABLES, n).set(case, nodes);
+    laid(n.saturating_add(TABLES), r).set(case, references);
+    laid(case.place(BYTES_AT), b).set(case, bytes);
+    laid(case.place(LIST_AT), l).set(case, list);
+    call_agrees(case, nodes, references, bytes, list, text)
+        & laid(after, n).agrees(case, nodes)
+        & laid(after.saturating_add(n), r).agrees(case, references)
+        & laid(case.place(BYTES_AFTER_AT), b).agrees(case, bytes)
 }
 
-pub fn agree(data: &[u8]) -> bool {
+pub fn agree(case: Case<'_>) -> bool {
     let mut nodes = [0u32; NODES];
     let mut references = [0u32; REFERENCES];
     let mut bytes = [0u8; BYTES];
     let mut list = [0u32; NUMBERED];
-    let n = words_at(&data[..], SIZES, &nodes);
-    let r = words_at(&data[..], SIZES + 1, &references);
-    let b = bytes_at(&data[..], SIZES + 2, &bytes);
-    let l = words_at(&data[..], LIST, &list);
-    let start = place(&data[..], TEXT_AT);
-    let end = plus(start, place(&data[..], TEXT));
-    if end <= data.len() {
-        if start <= end {
-            return fitted_agrees(
-                &data[..],
-                &mut nodes[..n],
-                &mut references[..r],
-                &mut bytes[..b],
-                &mut list[..l],
-                &data[start..end],
-            );
-        }
+    let n = case.place(SIZES).min(NODES);
+    let r = case.place(SIZES + 1).min(REFERENCES);
+    let b = case.place(SIZES + 2).min(BYTES);
+    let l = case.place(LIST).min(NUMBERED);
+    match case.part(TEXT, TEXT_AT) {
+        Some(text) => fitted_agrees(
+            case,
+            &mut nodes[..n],
+            &mut references[..r],
+            &mut bytes[..b],
+            &mut list[..l],
+            text,
+        ),
+        None => false,
     }
-    false
 }

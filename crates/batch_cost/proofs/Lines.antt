@@ -6,7 +6,10 @@ use native.Mathlib.Nat.{add-zero}
 use mathlib.Core.Path.{◌≡◌, refl, sym, ap, ◌∙◌}
 use mathlib.Core.Bool.{Bool, true, false, ◌||◌}
 use mathlib.Core.List.{List, [], ◌∷◌, ◌++◌}
-use mathlib.Core.Option.{Option, none, some}
+use mathlib.Core.Option.{none, some}
+use mathlib.Core.Option as maybe
+use Rattle.std.specs.Prelude.{Option, Some, None, Ok, Err, is_some}
+use Rattle.std.proofs.lemmas.Option.{none-some, same_Some}
 use lib.ListN.{length, get_or, take, drop, drop_of_length-le}
 use lib.Seq.{drop-cons, take-suc, take_all, length-take-le}
 use Rattle.definition.specs.Run.{ok, refused, pure, refuse, next, ◌>>=◌, pick}
@@ -22,59 +25,48 @@ use Rattle.batch_cost.specs.Tables.{word, name_at, line_at, lines_at, place, las
 -- ---- the last place
 
 -- one pair more at the end
-pub last_snoc : (name : List ℕ) (ls : List Line) (l : Line) → last name (ls ++ (l ∷ [])) ≡ pick (equal name l.name) (suc (length ls)) (last name ls)
+pub last_snoc : (name : List ℕ) (ls : List Line) (l : Line) → last name (ls ++ (l ∷ [])) ≡ pick (equal name l.name) (Some (length ls)) (last name ls)
 unfolding last place pick
 last_snoc name [] l = one (equal name l.name)
   where
-    one : (b : Bool) → place b 0 ≡ pick b 1 0
+    one : (b : Bool) → place b None ≡ pick b (Some 0) None
     one true = refl
     one false = refl
 last_snoc name (x ∷ ls) l = ap (place (equal name x.name)) (last_snoc name ls l) ∙ go (equal name l.name) (equal name x.name) (last name ls)
   where
-    go : (b d : Bool) (k : ℕ) → place d (pick b (suc (length ls)) k) ≡ pick b (suc (suc (length ls))) (place d k)
-    go true d k = refl
-    go false d k = refl
+    go : (b d : Bool) (o : Option ℕ) → place d (pick b (Some (length ls)) o) ≡ pick b (Some (suc (length ls))) (place d o)
+    go true d o = refl
+    go false d o = refl
 
--- none has the name exactly where there is no last
-pub last_none : (name : List ℕ) (ls : List Line) → last name ls ≡ 0 → has_name name ls ≡ false
+-- one has the name exactly where there is a last
+pub has_last : (name : List ℕ) (ls : List Line) → has_name name ls ≡ is_some (last name ls)
 unfolding last has_name place
-last_none name [] e = refl
-last_none name (l ∷ ls) e = go (equal name l.name) (last name ls) refl e (last_none name ls)
+has_last name [] = refl
+has_last name (l ∷ ls) = ap (λ (t : Bool). equal name l.name || t) (has_last name ls) ∙ go (equal name l.name) (last name ls)
   where
-    go : (b : Bool) (k : ℕ) → last name ls ≡ k → place b k ≡ 0 → (last name ls ≡ 0 → has_name name ls ≡ false) → b || has_name name ls ≡ false
-    go b (suc k) q e f = absurd (omega (arith, e))
-    go true zero q e f = absurd (omega (arith, e))
-    go false zero q e f = f q
-
-pub last_some : (name : List ℕ) (ls : List Line) (k : ℕ) → last name ls ≡ suc k → has_name name ls ≡ true
-unfolding last has_name place
-last_some name [] k e = absurd (omega (arith, e))
-last_some name (l ∷ ls) k e = go (equal name l.name) (last name ls) refl e (last_some name ls)
-  where
-    or_true : (b : Bool) → b || true ≡ true
-    or_true true = refl
-    or_true false = refl
-
-    go : (b : Bool) (j : ℕ) → last name ls ≡ j → place b j ≡ suc k → ((j : ℕ) → last name ls ≡ suc j → has_name name ls ≡ true) → b || has_name name ls ≡ true
-    go b (suc j) q e f = ap (λ (t : Bool). b || t) (f j q) ∙ or_true b
-    go true zero q e f = refl
-    go false zero q e f = absurd (omega (arith, e))
+    go : (b : Bool) (o : Option ℕ) → b || is_some o ≡ is_some (place b o)
+    go true None = refl
+    go true (Some k) = refl
+    go false None = refl
+    go false (Some k) = refl
 
 -- one pair fewer from the end
-pub last_turn : (name : List ℕ) (ls : List Line) (i : ℕ) (l : Line) → At ls i l → last name (take (suc i) ls) ≡ pick (equal name l.name) (suc i) (last name (take i ls))
+pub last_turn : (name : List ℕ) (ls : List Line) (i : ℕ) (l : Line) → At ls i l → last name (take (suc i) ls) ≡ pick (equal name l.name) (Some i) (last name (take i ls))
 last_turn name ls i l a =
     let h : i < length ls = at_lt ls i l a in
     ap (last name) (take-suc ls i l h)
     ∙ last_snoc name (take i ls) (get_or ls i l)
-    ∙ (λ j. pick (equal name (get_d_at ls i l l a j).name) (suc (length-take-le i ls (omega (arith, h)) j)) (last name (take i ls)))
+    ∙ (λ j. pick (equal name (get_d_at ls i l l a j).name) (Some (length-take-le i ls (omega (arith, h)) j)) (last name (take i ls)))
 
 -- ---- which pairs survive
 
-suc_add : (i k : ℕ) → suc i + k ≡ suc (i + k)
-suc_add i k = omega arith
+-- a place from 1 on, 0 where there is none
+abbrev from_1 : Option ℕ → ℕ
+from_1 None = 0
+from_1 (Some k) = suc k
 
 -- from a pair on that has the name, the last is counted from there
-from_here : (name : List ℕ) (ls : List Line) (i : ℕ) (l : Line) → At ls i l → equal name l.name ≡ true → last name ls ≡ suc (i + last name (drop (suc i) ls))
+from_here : (name : List ℕ) (ls : List Line) (i : ℕ) (l : Line) → At ls i l → equal name l.name ≡ true → last name ls ≡ Some (i + from_1 (last name (drop (suc i) ls)))
 unfolding last place
 from_here name [] i l a e = absurd (omega (arith, no_line a))
   where
@@ -85,62 +77,65 @@ from_here name (x ∷ ls) zero l a e = ap (λ (y : Line). place (equal name y.na
     same : {x y : Line} → some x ≡ some y → x ≡ y
     same e = cc
 
-    go : (k : ℕ) → place true k ≡ suc (0 + k)
-    go zero = omega arith
-    go (suc k) = omega arith
-from_here name (x ∷ ls) (suc i) l a e = ap (place (equal name x.name)) (from_here name ls i l a e) ∙ go (equal name x.name) (i + last name (drop (suc i) ls)) ∙ ap suc (sym (suc_add i (last name (drop (suc i) ls))))
+    go : (o : Option ℕ) → place true o ≡ Some (0 + from_1 o)
+    go None = refl
+    go (Some k) = ap Some (omega arith)
+from_here name (x ∷ ls) (suc i) l a e = ap (place (equal name x.name)) (from_here name ls i l a e) ∙ ap Some (suc_add i (from_1 (last name (drop (suc i) ls))))
   where
-    go : (b : Bool) (k : ℕ) → place b (suc k) ≡ suc (suc k)
-    go true k = refl
-    go false k = refl
+    suc_add : (i k : ℕ) → suc (i + k) ≡ suc i + k
+    suc_add i k = omega arith
 
 module _ (ls : List Line) (i : ℕ) (l : Line) (a : At ls i l) where
   d : drop i ls ≡ l ∷ drop (i + 1) ls
   d = drop-cons ls i l (at_lt ls i l a) ∙ (λ j. get_d_at ls i l l a j ∷ drop (sym (add-one i) j) ls)
 
-  placed : last l.name ls ≡ suc (i + last l.name (drop (i + 1) ls))
-  placed = from_here l.name ls i l a (equal_self l.name) ∙ ap (λ (k : ℕ). suc (i + last l.name (drop k ls))) (sym (add-one i))
+  placed : last l.name ls ≡ Some (i + from_1 (last l.name (drop (i + 1) ls)))
+  placed = from_here l.name ls i l a (equal_self l.name) ∙ ap (λ (k : ℕ). Some (i + from_1 (last l.name (drop k ls)))) (sym (add-one i))
+
+  turned : {b : Bool} → is_some (last l.name (drop (i + 1) ls)) ≡ b → surviving (drop i ls) ≡ pick b (surviving (drop (i + 1) ls)) (l ∷ surviving (drop (i + 1) ls))
+  unfolding surviving
+  turned e = ap surviving d ∙ ap (λ (b : Bool). pick b (surviving (drop (i + 1) ls)) (l ∷ surviving (drop (i + 1) ls))) (has_last l.name (drop (i + 1) ls) ∙ e)
 
   -- the last of its name survives, another doesn't
-  pub survives : last l.name ls ≡ i + 1 → surviving (drop i ls) ≡ l ∷ surviving (drop (i + 1) ls)
-  unfolding surviving pick
-  survives e =
-      let z : last l.name (drop (i + 1) ls) ≡ 0 = omega (arith, e, placed) in
-      ap surviving d ∙ ap (λ (b : Bool). pick b (surviving (drop (i + 1) ls)) (l ∷ surviving (drop (i + 1) ls))) (last_none l.name (drop (i + 1) ls) z)
-
-  pub superseded : (last l.name ls ≡ i + 1 → ⊥) → surviving (drop i ls) ≡ surviving (drop (i + 1) ls)
-  unfolding surviving pick
-  superseded n =
-      let k = last l.name (drop (i + 1) ls) - 1 in
-      let z : last l.name (drop (i + 1) ls) ≡ suc k = more (last l.name (drop (i + 1) ls)) (λ q. n (omega (arith, q, placed))) in
-      ap surviving d ∙ ap (λ (b : Bool). pick b (surviving (drop (i + 1) ls)) (l ∷ surviving (drop (i + 1) ls))) (last_some l.name (drop (i + 1) ls) k z)
+  pub survives : last l.name ls ≡ Some i → surviving (drop i ls) ≡ l ∷ surviving (drop (i + 1) ls)
+  unfolding pick
+  survives e = turned (go (last l.name (drop (i + 1) ls)) (same_Some _ _ (sym placed ∙ e)))
     where
-      more : (m : ℕ) → (m ≡ 0 → ⊥) → m ≡ suc (m - 1)
-      more zero n = absurd (n refl)
-      more (suc m) n = omega arith
+      go : (o : Option ℕ) → i + from_1 o ≡ i → is_some o ≡ false
+      go None p = refl
+      go (Some k) p = absurd (omega (arith, p))
+
+  pub superseded : (last l.name ls ≡ Some i → ⊥) → surviving (drop i ls) ≡ surviving (drop (i + 1) ls)
+  unfolding pick
+  superseded n = turned (go (last l.name (drop (i + 1) ls)) (λ p. n (placed ∙ ap Some p)))
+    where
+      go : (o : Option ℕ) → (i + from_1 o ≡ i → ⊥) → is_some o ≡ true
+      go None m = absurd (m (omega arith))
+      go (Some k) m = refl
 
 -- ---- a name's price
 
-pub price_none : (name : List ℕ) (ls : List Line) → last name ls ≡ 0 → price name (surviving ls) ≡ none
-price_none name ls e = price_latest name ls ∙ absent name ls (last_none name ls e)
+pub price_none : (name : List ℕ) (ls : List Line) → last name ls ≡ None → price name (surviving ls) ≡ none
+price_none name ls e = price_latest name ls ∙ absent name ls (has_last name ls ∙ ap (λ (o : Option ℕ). is_some o) e)
 
 -- what the pair at the last place gives
-latest_here : (name : List ℕ) (ls : List Line) (j : ℕ) (l : Line) → last name ls ≡ suc j → At ls j l → latest name ls ≡ some l.amount
+latest_here : (name : List ℕ) (ls : List Line) (j : ℕ) (l : Line) → last name ls ≡ Some j → At ls j l → latest name ls ≡ some l.amount
 unfolding last place latest pick
-latest_here name [] j l e a = absurd (omega (arith, e))
+latest_here name [] j l e a = absurd (none-some j e)
 latest_here name (x ∷ ls) j l e a = go (equal name x.name) (last name ls) refl e j refl a (latest_here name ls)
   where
     same : {x y : Line} → some x ≡ some y → x ≡ y
     same e = cc
 
-    go : (b : Bool) (k : ℕ) → last name ls ≡ k → place b k ≡ suc j → (m : ℕ) → m ≡ j → At (x ∷ ls) m l → ((j : ℕ) (l : Line) → last name ls ≡ suc j → At ls j l → latest name ls ≡ some l.amount) → or_else (latest name ls) (pick b (some x.amount) none) ≡ some l.amount
-    go b (suc k) q e zero g a f = absurd (omega (arith, e, g))
-    go b (suc k) q e (suc m) g a f = ap (λ (o : Option ℕ). or_else o (pick b (some x.amount) none)) (f m l (q ∙ omega (arith, e, g)) a)
-    go true zero q e (suc m) g a f = absurd (omega (arith, e, g))
-    go true zero q e zero g a f = ap (λ (o : Option ℕ). or_else o (some x.amount)) (absent name ls (last_none name ls q)) ∙ ap (λ (y : Line). some y.amount) (same a)
-    go false zero q e m g a f = absurd (omega (arith, e))
+    go : (b : Bool) (o : Option ℕ) → last name ls ≡ o → place b o ≡ Some j → (m : ℕ) → m ≡ j → At (x ∷ ls) m l → ((j : ℕ) (l : Line) → last name ls ≡ Some j → At ls j l → latest name ls ≡ some l.amount)
+        → or_else (latest name ls) (pick b (some x.amount) none) ≡ some l.amount
+    go b (Some k) q e zero g a f = absurd (omega (arith, same_Some _ _ e, g))
+    go b (Some k) q e (suc m) g a f = let k' : k ≡ m = omega (arith, same_Some _ _ e, g) in ap (λ (o : maybe.Option ℕ). or_else o (pick b (some x.amount) none)) (f m l (q ∙ ap Some k') a)
+    go true None q e (suc m) g a f = absurd (omega (arith, same_Some _ _ e, g))
+    go true None q e zero g a f = ap (λ (o : maybe.Option ℕ). or_else o (some x.amount)) (absent name ls (has_last name ls ∙ ap (λ (o : Option ℕ). is_some o) q)) ∙ ap (λ (y : Line). some y.amount) (same a)
+    go false None q e m g a f = absurd (none-some j e)
 
-pub price_last : (name : List ℕ) (ls : List Line) (j : ℕ) (l : Line) → last name ls ≡ suc j → At ls j l → price name (surviving ls) ≡ some l.amount
+pub price_last : (name : List ℕ) (ls : List Line) (j : ℕ) (l : Line) → last name ls ≡ Some j → At ls j l → price name (surviving ls) ≡ some l.amount
 price_last name ls j l e a = price_latest name ls ∙ latest_here name ls j l e a
 
 -- ---- pairs by the words of the tables
@@ -168,27 +163,27 @@ module _ (nodes bytes : List ℕ) where
   here l i = name_at nodes bytes (get_or l (i * 2) 0)
 
   module _ (l name : List ℕ) where
-    abbrev up_to : ℕ → ℕ
+    abbrev up_to : ℕ → Option ℕ
     up_to i = last name (take i (lines_at nodes bytes l))
 
     pub search_start : last name (lines_at nodes bytes l) ≡ up_to (length l / 2)
     search_start = ap (last name) (sym (take_all (length l / 2) (lines_at nodes bytes l) (omega (arith, lines_length l))))
 
     module _ (i : ℕ) (p : 0 < i) (q : i ≤ length l / 2) where
-      turn : up_to i ≡ pick (equal name (here l (i - 1))) i (up_to (i - 1))
+      turn : up_to i ≡ pick (equal name (here l (i - 1))) (Some (i - 1)) (up_to (i - 1))
       turn =
           let s : suc (i - 1) ≡ i = omega arith in
-          ap up_to (sym s) ∙ last_turn name (lines_at nodes bytes l) (i - 1) _ (line_here l (i - 1) (omega arith)) ∙ ap (λ (k : ℕ). pick (equal name (here l (i - 1))) k (up_to (i - 1))) s
+          ap up_to (sym s) ∙ last_turn name (lines_at nodes bytes l) (i - 1) _ (line_here l (i - 1) (omega arith))
 
-      pub search_here : true ≡ equal name (here l (i - 1)) → i ≡ up_to i
+      pub search_here : true ≡ equal name (here l (i - 1)) → Some (i - 1) ≡ up_to i
       unfolding pick
-      search_here e = sym (turn ∙ ap (λ (b : Bool). pick b i (up_to (i - 1))) (sym e))
+      search_here e = sym (turn ∙ ap (λ (b : Bool). pick b (Some (i - 1)) (up_to (i - 1))) (sym e))
 
       pub search_on : false ≡ equal name (here l (i - 1)) → up_to i ≡ up_to (i - 1)
       unfolding pick
-      search_on e = turn ∙ ap (λ (b : Bool). pick b i (up_to (i - 1))) (sym e)
+      search_on e = turn ∙ ap (λ (b : Bool). pick b (Some (i - 1)) (up_to (i - 1))) (sym e)
 
-    pub search_end : (i : ℕ) → i ≤ 0 → 0 ≡ up_to i
+    pub search_end : (i : ℕ) → i ≤ 0 → None ≡ up_to i
     unfolding last
     search_end i h = let z : i ≡ 0 = omega (arith, h) in sym (ap up_to z)
 
@@ -196,21 +191,21 @@ module _ (nodes bytes : List ℕ) where
 
 module _ (recipe prices : List Line) (i : ℕ) (l : Line) (a : At recipe i l) (total : ℕ) (L : Lent) where
   -- a superseded pair has none
-  pub no_part : (last l.name recipe ≡ i + 1 → ⊥) → sum (surviving prices) total (surviving (drop i recipe)) L ≡ sum (surviving prices) (total + 0) (surviving (drop (i + 1) recipe)) L
+  pub no_part : (last l.name recipe ≡ Some i → ⊥) → sum (surviving prices) total (surviving (drop i recipe)) L ≡ sum (surviving prices) (total + 0) (surviving (drop (i + 1) recipe)) L
   no_part n = λ j. sum (surviving prices) (sym (add-zero total) j) (superseded recipe i l a n j) L
 
-  module _ (e : last l.name recipe ≡ i + 1) where
-    on_price : {o : Option ℕ} → price l.name (surviving prices) ≡ o → sum (surviving prices) total (surviving (drop i recipe)) L ≡ next (priced l.key o L) (λ cents. sum (surviving prices) (total + line_cost l.amount cents) (surviving (drop (i + 1) recipe)))
+  module _ (e : last l.name recipe ≡ Some i) where
+    on_price : {o : maybe.Option ℕ} → price l.name (surviving prices) ≡ o → sum (surviving prices) total (surviving (drop i recipe)) L ≡ next (priced l.key o L) (λ cents. sum (surviving prices) (total + line_cost l.amount cents) (surviving (drop (i + 1) recipe)))
     unfolding sum ◌>>=◌
-    on_price p = ap (λ (x : List Line). sum (surviving prices) total x L) (survives recipe i l a e) ∙ ap (λ (o : Option ℕ). next (priced l.key o L) (λ cents. sum (surviving prices) (total + line_cost l.amount cents) (surviving (drop (i + 1) recipe)))) p
+    on_price p = ap (λ (x : List Line). sum (surviving prices) total x L) (survives recipe i l a e) ∙ ap (λ (o : maybe.Option ℕ). next (priced l.key o L) (λ cents. sum (surviving prices) (total + line_cost l.amount cents) (surviving (drop (i + 1) recipe)))) p
 
     -- one without a price is refused
-    pub no_price : last l.name prices ≡ 0 → sum (surviving prices) total (surviving (drop i recipe)) L ≡ refused (NoPrice l.key)
+    pub no_price : last l.name prices ≡ None → sum (surviving prices) total (surviving (drop i recipe)) L ≡ refused (NoPrice l.key)
     unfolding priced refuse next
     no_price z = on_price (price_none l.name prices z)
 
     -- else the line's cost is added
-    pub its_part : (j : ℕ) (p : Line) → last l.name prices ≡ suc j → At prices j p → sum (surviving prices) total (surviving (drop i recipe)) L ≡ sum (surviving prices) (total + line_cost l.amount p.amount) (surviving (drop (i + 1) recipe)) L
+    pub its_part : (j : ℕ) (p : Line) → last l.name prices ≡ Some j → At prices j p → sum (surviving prices) total (surviving (drop i recipe)) L ≡ sum (surviving prices) (total + line_cost l.amount p.amount) (surviving (drop (i + 1) recipe)) L
     unfolding priced pure next
     its_part j p z b = on_price (price_last l.name prices j p z b)
 
@@ -237,19 +232,15 @@ module _ (nodes bytes recipe prices : List ℕ) (i : ℕ) (h : i * 2 + 2 ≤ len
   at_i : At R i (line_at nodes bytes k (get_or recipe (i * 2 + 1) 0))
   at_i = line_here nodes bytes recipe i h
 
-  pub superseded_costs : (last name R ≡ i + 1 → ⊥) → Costs R P i k 0
-  superseded_costs n = record { unpriced = λ e. absurd (omega (arith, e)); added = λ _ total L. no_part R P i _ at_i total L n; most = λ _. omega arith }
+  pub superseded_costs : (last name R ≡ Some i → ⊥) → Costs R P i (Ok 0)
+  superseded_costs n = (λ total L. no_part R P i _ at_i total L n, omega arith)
 
-  pub unpriced_costs : last name R ≡ i + 1 → last name P ≡ 0 → Costs R P i k 18446744073709551615
-  unpriced_costs e z = record { unpriced = λ _ total L. no_price R P i _ at_i total L e z; added = λ n. absurd (n refl); most = λ n. absurd (n refl) }
+  pub unpriced_costs : last name R ≡ Some i → last name P ≡ None → Costs R P i (Err (NoPrice k))
+  unpriced_costs e z total L = no_price R P i _ at_i total L e z
 
-  pub line_costs : last name R ≡ i + 1 → (j : ℕ) → last name P ≡ j → (j ≡ 0 → ⊥) → j * 2 ≤ length prices
-      → (r : ℕ) → r ≡ line_cost (word nodes (get_or recipe (i * 2 + 1) 0) START) (word nodes (get_or prices (j * 2 - 1) 0) START) → r ≤ 4611686014132421 → Costs R P i k r
-  line_costs e j z n l r c m =
-      let s : j ≡ suc (j - 1) = omega (arith, n) in
-      let w : (j - 1) * 2 + 1 ≡ j * 2 - 1 = omega (arith, n) in
-      let part : (total : ℕ) (L : Lent) → sum (surviving P) total (surviving (drop i R)) L ≡ sum (surviving P) (total + line_cost (word nodes (get_or recipe (i * 2 + 1) 0) START) (word nodes (get_or prices ((j - 1) * 2 + 1) 0) 1)) (surviving (drop (i + 1) R)) L =
-      λ total L. its_part R P i _ at_i total L e (j - 1) _ (z ∙ s) (line_here nodes bytes prices (j - 1) (omega (arith, n, l)))
-      in
-      let q : line_cost (word nodes (get_or recipe (i * 2 + 1) 0) START) (word nodes (get_or prices ((j - 1) * 2 + 1) 0) 1) ≡ r = ap (λ (x : ℕ). line_cost (word nodes (get_or recipe (i * 2 + 1) 0) START) (word nodes (get_or prices x 0) START)) w ∙ sym c in
-      record { unpriced = λ x. absurd (omega (arith, x, m)); added = λ _ total L. part total L ∙ ap (λ (x : ℕ). sum (surviving P) (total + x) (surviving (drop (i + 1) R)) L) q; most = λ _. m }
+  pub line_costs : last name R ≡ Some i → (j : ℕ) → last name P ≡ Some j → j * 2 + 2 ≤ length prices
+      → (r : ℕ) → r ≡ line_cost (word nodes (get_or recipe (i * 2 + 1) 0) START) (word nodes (get_or prices (j * 2 + 1) 0) START) → r ≤ 4611686014132421 → Costs R P i (Ok r)
+  line_costs e j z l r c m = (
+    λ total L. its_part R P i _ at_i total L e j _ z (line_here nodes bytes prices j l) ∙ ap (λ (x : ℕ). sum (surviving P) (total + x) (surviving (drop (i + 1) R)) L) (sym c),
+    m,
+  )

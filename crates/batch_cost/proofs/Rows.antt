@@ -1,5 +1,5 @@
 -- Keys, values and hashes by their words in the table, and what a checked arena and judged pairs say of them.
-use Prim.Native.Nat.{ℕ, zero, suc, ◌+◌, ◌-◌, ◌*◌, ◌/◌, ◌≤◌, ◌<◌}
+use Prim.Native.Nat.{ℕ, zero, suc, ◌+◌, ◌*◌, ◌/◌, ◌≤◌, ◌<◌}
 use native.Mathlib.Omega.{arith}
 use native.Mathlib.Decide.{dec_lt}
 use mathlib.Core.Path.{◌≡◌, refl, sym, ap, ◌∙◌, subst}
@@ -7,7 +7,7 @@ use mathlib.Core.Bool.{Bool, true, false, ◌&&◌}
 use mathlib.Core.List.{List, [], ◌∷◌}
 use mathlib.Core.Option.{some}
 use lib.Dec.{eqb, ltb, leb}
-use lib.ListN.{length, get_or, take, drop}
+use lib.ListN.{length, get_or}
 use borrow.Author.Tests.{eqb-true, le-leb, lt-leb, lt-ltb, le-ltb, ltb-true}
 use Rattle.definition.specs.Run.{ok, pick}
 use Rattle.definition.specs.Node.{Row, fixnum, symbol, hash, kind, row_of, rows, equal, width, START, LENGTH, LIST, COUNT, NAME, DEFAULT, CLASS, words}
@@ -93,26 +93,12 @@ module _ (t b : List ℕ) (h k : ℕ) where
   pub name_self : h ≡ k → true ≡ equal (name_at t b h) (name_at t b k)
   name_self e = sym (ap (λ (x : ℕ). equal (name_at t b h) (name_at t b x)) (sym e) ∙ equal_self (name_at t b h))
 
--- the value of the pair at a place from 1 on
-pub value_before : (t b l : List ℕ) (j : ℕ) → Judged t b l → (j ≡ 0 → ⊥) → j * 2 ≤ length l → Amount t (get_or l (j * 2 - 1) 0)
-value_before t b l j c n h =
-    let e : (j - 1) * 2 + 1 ≡ j * 2 - 1 = omega (arith, n) in
-    subst (λ (m : ℕ). Amount t (get_or l m 0)) e (c (j - 1) (omega (arith, n, h))).1
-
 -- ---- a hash's list
 
 module _ (t r : List ℕ) (h : ℕ) where
-  pub list_is : {start end : ℕ} → start ≡ word t h LIST → end ≡ word t h LIST + word t h COUNT * 2 → take (end - start) (drop start r) ≡ list_at t r h
-  list_is {start = start} {end = end} e f =
-      let m : end - start ≡ word t h COUNT * 2 = omega (arith, e, f) in
-      λ j. take (m j) (drop (e j) r)
-
   pub length_list : Listed t r h → length (list_at t r h) ≡ word t h COUNT * 2
   unfolding range
   length_list l = length_range r (word t h LIST) (word t h COUNT * 2) l.list
-
-  pub even_list : Listed t r h → length (list_at t r h) / 2 * 2 ≡ length (list_at t r h)
-  even_list l = let e = length_list l in omega (arith, e)
 
 -- ---- in an arena that was checked
 

@@ -1,12 +1,11 @@
 -- What is judged turn by turn, and a call step by step.
-use Prim.Native.Nat.{ℕ, suc, ◌+◌, ◌*◌, ◌≤◌}
+use Prim.Native.Nat.{ℕ, ◌<◌}
 use native.Mathlib.Omega.{arith}
-use mathlib.Core.Path.{◌≡◌, sym, ap, ◌∙◌}
+use mathlib.Core.Path.{◌≡◌, refl, sym, ap, ◌∙◌}
 use mathlib.Core.Bool.{Bool, true, false}
-use mathlib.Core.List.{List, [], ◌∷◌}
+use mathlib.Core.List.{List, [], ◌∷◌, ◌++◌}
 use lib.Dec.{eqb, leb}
-use lib.ListN.{length, get_or, drop, drop_of_length-le}
-use lib.Seq.{drop-cons}
+use lib.ListN.{length, get_or}
 use Rattle.definition.specs.Run.{Run, ok, refused, pure, refuse, next, ◌>>=◌, look, pick}
 use Rattle.definition.specs.Node.{kind}
 use Rattle.definition.specs.Arena.{node, is_name}
@@ -27,44 +26,44 @@ not_right h L k q = ap (λ (b : Bool). next (right_if b h L) k) (sym q)
 
 -- ---- keys and values in turn
 
-module _ (L : Lent) (l : List ℕ) (i : ℕ) where
+-- a pair x before the rest t
+module _ (L : Lent) {l : List ℕ} (x t : List ℕ) (e : l ≡ x ++ t) (n : length x ≡ 2) where
   abbrev key : ℕ
-  key = get_or l (i * 2) 0
+  key = get_or x 0 0
 
   abbrev value : ℕ
-  value = get_or l (i * 2 + 1) 0
+  value = get_or x 1 0
 
-  abbrev left : ℕ → List ℕ
-  left j = drop (j * 2) l
+  two : (x : List ℕ) → length x ≡ 2 → x ++ t ≡ get_or x 0 0 ∷ get_or x 1 0 ∷ t
+  two [] n = absurd (omega (arith, n))
+  two (k ∷ []) n = absurd (omega (arith, n))
+  two (k ∷ v ∷ []) n = refl
+  two (k ∷ v ∷ w ∷ x) n = absurd (omega (arith, n))
 
-  two : i * 2 + 2 ≤ length l → left i ≡ key ∷ value ∷ left (i + 1)
-  two h =
-      let a : suc (i * 2) ≡ i * 2 + 1 = omega arith in
-      let b : suc (i * 2 + 1) ≡ (i + 1) * 2 = omega arith in
-      drop-cons l (i * 2) 0 (omega (arith, h)) ∙ ap (λ (x : List ℕ). key ∷ x) (ap (λ (m : ℕ). drop m l) a ∙ drop-cons l (i * 2 + 1) 0 (omega (arith, h)) ∙ ap (λ (m : ℕ). value ∷ drop m l) b)
+  turn : check_entries l L ≡ next (right_if (is_name (held L) key) key L) (λ _. right_if (is_amount (node (held L) value)) value >>= λ _. check_entries t)
+  unfolding check_entries look ◌>>=◌
+  turn = ap (λ (x : List ℕ). check_entries x L) (e ∙ two x n)
 
-  module _ (h : i * 2 + 2 ≤ length l) where
-    turn : check_entries (left i) L ≡ next (right_if (is_name (held L) key) key L) (λ _. right_if (is_amount (node (held L) value)) value >>= λ _. check_entries (left (i + 1)))
-    unfolding check_entries look ◌>>=◌
-    turn = ap (λ (x : List ℕ). check_entries x L) (two h)
+  pub entries_key : false ≡ is_name (held L) key → check_entries l L ≡ refused (NotARecipe key)
+  entries_key p = turn ∙ not_right key L _ p
 
-    pub entries_key : false ≡ is_name (held L) key → check_entries (left i) L ≡ refused (NotARecipe key)
-    entries_key p = turn ∙ not_right key L _ p
+  module _ (p : true ≡ is_name (held L) key) where
+    after_key : check_entries l L ≡ next (right_if (is_amount (node (held L) value)) value L) (λ _. check_entries t)
+    unfolding ◌>>=◌
+    after_key = turn ∙ on_right key L _ p
 
-    module _ (p : true ≡ is_name (held L) key) where
-      after_key : check_entries (left i) L ≡ next (right_if (is_amount (node (held L) value)) value L) (λ _. check_entries (left (i + 1)))
-      unfolding ◌>>=◌
-      after_key = turn ∙ on_right key L _ p
+    pub entries_value : false ≡ is_amount (node (held L) value) → check_entries l L ≡ refused (NotARecipe value)
+    entries_value q = after_key ∙ not_right value L _ q
 
-      pub entries_value : false ≡ is_amount (node (held L) value) → check_entries (left i) L ≡ refused (NotARecipe value)
-      entries_value q = after_key ∙ not_right value L _ q
+    pub entries_on : true ≡ is_amount (node (held L) value) → check_entries l L ≡ check_entries t L
+    entries_on q = after_key ∙ on_right value L _ q
 
-      pub entries_on : true ≡ is_amount (node (held L) value) → check_entries (left i) L ≡ check_entries (left (i + 1)) L
-      entries_on q = after_key ∙ on_right value L _ q
-
-  pub entries_end : length l ≤ i * 2 → check_entries (left i) L ≡ ok tt L
-  unfolding check_entries pure
-  entries_end h = ap (λ (x : List ℕ). check_entries x L) (drop_of_length-le l {i = i * 2} h)
+-- no pair is left
+pub entries_end : (L : Lent) (l : List ℕ) → length l < 2 → check_entries l L ≡ ok tt L
+unfolding check_entries pure
+entries_end L [] h = refl
+entries_end L (k ∷ []) h = refl
+entries_end L (k ∷ v ∷ l) h = absurd (omega (arith, h))
 
 -- ---- a hash
 

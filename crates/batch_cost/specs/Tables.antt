@@ -1,10 +1,10 @@
 -- Keys, values and pairs of a hash by the words of the tables, and the place of the last pair with a name.
-use Rattle.std.specs.Prelude.{ℕ, zero, suc, ◌+◌, ◌*◌, ◌≤◌, ◌≡◌, Bool, true, false, List, [], ◌∷◌, length, get_or, take, drop}
+use Rattle.std.specs.Prelude.{ℕ, suc, ◌+◌, ◌*◌, ◌≤◌, ◌≡◌, Bool, true, false, List, [], ◌∷◌, length, get_or, take, drop, Option, Some, None, Result, Ok, Err}
 use Rattle.definition.specs.Run.{ok, refused}
 use Rattle.definition.specs.Node.{width, equal, START, LENGTH, LIST, COUNT}
 use Rattle.definition.specs.Build.{Lent, check}
 use Rattle.definition.specs.Cost.{Line, surviving, sum}
-use Rattle.definition.specs.declared.Refusal.TheVariants.{NoPrice}
+use Rattle.definition.specs.declared.Refusal.{Refusal}
 
 -- word k of node h
 abbrev pub word : List ℕ → ℕ → ℕ → ℕ
@@ -46,14 +46,14 @@ lines_at nodes bytes (k ∷ []) = []
 lines_at nodes bytes (k ∷ v ∷ l) = line_at nodes bytes k v ∷ lines_at nodes bytes l
 
 -- one place further, if there is one; else the first, if it has the name
-unfoldable pub place : Bool → ℕ → ℕ
-place b (suc k) = suc (suc k)
-place true zero = 1
-place false zero = 0
+unfoldable pub place : Bool → Option ℕ → Option ℕ
+place b (Some k) = Some (suc k)
+place true None = Some 0
+place false None = None
 
--- the place, from 1 on, of the last of these with the name; 0 where there is none
-unfoldable pub last : List ℕ → List Line → ℕ
-last name [] = 0
+-- the place of the last of these with the name
+unfoldable pub last : List ℕ → List Line → Option ℕ
+last name [] = None
 last name (l ∷ ls) = place (equal name l.name) (last name ls)
 
 -- what is lent was checked, and has these tables and this node count
@@ -63,8 +63,7 @@ pub record Held (L : Lent) (nodes references : List ℕ) (count : ℕ) : Type 0 
   pub references_are : L.tables.references ≡ references
   pub count_is : L.counts.nodes ≡ count
 
--- what pair i of a recipe costs, k its key: nothing where it is superseded; 2^64 − 1 says that it survives without a price, and else it is added
-pub record Costs (recipe prices : List Line) (i k r : ℕ) : Type 0 where
-  pub unpriced : r ≡ 18446744073709551615 → (total : ℕ) (L : Lent) → sum (surviving prices) total (surviving (drop i recipe)) L ≡ refused (NoPrice k)
-  pub added : (r ≡ 18446744073709551615 → ⊥) → (total : ℕ) (L : Lent) → sum (surviving prices) total (surviving (drop i recipe)) L ≡ sum (surviving prices) (total + r) (surviving (drop (i + 1) recipe)) L
-  pub most : (r ≡ 18446744073709551615 → ⊥) → r ≤ 4611686014132421
+-- what pair i of a recipe costs: this much is added to the sum, nothing where it is superseded; or the sum is refused there
+abbrev pub Costs : List Line → List Line → ℕ → Result ℕ Refusal → Type 0
+Costs recipe prices i (Ok r) = ((total : ℕ) (L : Lent) → sum (surviving prices) total (surviving (drop i recipe)) L ≡ sum (surviving prices) (total + r) (surviving (drop (i + 1) recipe)) L) × (r ≤ 4611686014132421)
+Costs recipe prices i (Err q) = (total : ℕ) (L : Lent) → sum (surviving prices) total (surviving (drop i recipe)) L ≡ refused q

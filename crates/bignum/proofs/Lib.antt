@@ -1,2 +1,2 @@
--- What the proofs share: bytes said from the last to the first.
+-- What the proofs share: the bytes of a magnitude.
 pub mod Laws

@@ -5,25 +5,11 @@ ghost use Rattle.std.specs.Prelude.{◌≡◌, ◌+◌, ◌≤◌, length, take,
 ghost use Rattle.definition.specs.Integer.{little, low_bytes};
 ghost use Rattle.definition.specs.Magnitude.{magnitude, fewest_units};
 
-// A word as a wider number.
-fn wide(x: u32) -> u64
-    ensures { result ≡ x }
-{
-    x as u64
-}
-
 // The magnitude of a node's low and high word.
 pub fn magnitude_of(low: u32, high: u32) -> u64
     ensures { result ≡ magnitude low high }
 {
-    wide(high) * 4294967296 + wide(low)
-}
-
-// A byte as a wider number.
-fn byte(b: u8) -> u64
-    ensures { (result ≡ b) × (result ≤ 255) }
-{
-    b as u64
+    high as u64 * 4294967296 + low as u64
 }
 
 // The magnitude of the n bytes from `at` on, the lowest first.
@@ -32,13 +18,10 @@ pub fn magnitude_at(input: &[u8], at: usize, n: usize) -> u64
     ensures value { result ≡ little (take n (drop at input.now)) 0 }
     ensures input_value { take n (drop at input.now) ≡ low_bytes n result }
 {
-    let mut m: u64 = 0;
-    let mut i = n;
-    while 0 < i {
-        i = i - 1;
-        m = m * 256 + byte(input[at + i]);
-    }
-    m
+    input[at..at + n]
+        .iter()
+        .rev()
+        .fold(0, |m, b| m << 8 | *b as u64)
 }
 
 // How many units of 16 bits hold a magnitude.

@@ -1,18 +1,19 @@
 -- The 32 bits of a number in two's complement.
-use Prim.Native.Nat.{ℕ, zero, suc, ◌-◌, ◌^◌, ◌≤◌, ◌<◌, zero-le}
+use Prim.Native.Nat.{ℕ, suc, ◌-◌, ◌^◌, ◌≤◌, ◌<◌, zero-le}
 use native.Mathlib.Omega.{arith}
 use native.Mathlib.Nat.{lt_of_lt_of_le}
 use mathlib.Core.Bool.{Bool, true, false, cond}
 use mathlib.Core.Path.{◌≡◌, refl, sym, ap, ◌∙◌, subst}
-use lib.Dec.{T}
+use lib.Dec.{T, ltb}
 use lib.IntN.{ℤ, pos, negsuc, nat_abs, ◌-ℤ◌}
 use lib.Signed.{lt_z, non_neg}
 use mir.Syntax.{Width, w32}
 use mir.Val as M
 use mir.Val.{Fits, SFits, to_z, of_z, sel}
 use mir.Facts.{to_z-of_z}
-use borrow.Author.Tests.{lt-ltb, le-ltb}
+use borrow.Author.Tests.{le-ltb}
 use Rattle.definition.specs.Run.{pick}
+use Rattle.definition.specs.Build.{bits}
 use Rattle.definition.specs.Refused.{signed}
 
 -- −1 − z for a z below 0
@@ -74,31 +75,20 @@ module _ (z : ℤ) (f : SFits w32 z) (e : lt_z (again z) (pos 0) ≡ false) wher
 pub passed : {z : ℤ} → SFits w32 z → again z ≡ z
 passed f = to_z-of_z f
 
--- ---- and back
+-- the library's bits are the definition's
+pub unsigned_is : (z : ℤ) → of_z w32 z ≡ bits z
+unfolding bits
+unsigned_is (pos n) = refl
+unsigned_is (negsuc n) = omega arith
 
-module _ (y : ℕ) (l : y < 2147483648) where
-  -- as the code has y, a number below 2^31
-  same : to_z w32 y ≡ pos y
-  same = ap (λ (b : Bool). sel b (pos y) (negsuc (4294967296 - suc y))) (lt-ltb y 2147483648 l)
+-- and so is the number whose bits are w
+pub signed_is : (w : ℕ) → to_z w32 w ≡ signed w
+unfolding signed pick
+signed_is w = go (ltb w 2147483648)
+  where
+    less : 4294967296 - suc w ≡ 4294967295 - w
+    less = omega arith
 
-  pub less_is : negsuc 0 -ℤ to_z w32 y ≡ negsuc y
-  less_is = ap (λ (x : ℤ). negsuc 0 -ℤ x) same ∙ plain y
-    where
-      plain : (y : ℕ) → negsuc 0 -ℤ pos y ≡ negsuc y
-      plain zero = refl
-      plain (suc y) = ap negsuc (omega arith)
-
-  pub less_fits : SFits w32 (negsuc 0 -ℤ to_z w32 y)
-  less_fits = subst (SFits w32) (sym less_is) (record { sfits = omega arith })
-
--- the number whose bits are w, as the code finds it
-module _ (w : ℕ) where
-  pub plus_signed : w < 2147483648 → to_z w32 w ≡ signed w
-  unfolding signed pick
-  plus_signed l = same w l ∙ sym (ap (λ (b : Bool). pick b (pos w) (negsuc (4294967295 - w))) (lt-ltb w 2147483648 l))
-
-  pub minus_signed : 2147483648 ≤ w → again (negsuc 0 -ℤ to_z w32 (4294967295 - w)) ≡ signed w
-  unfolding signed pick
-  minus_signed l =
-      let h : 4294967295 - w < 2147483648 = omega arith in
-      to_z-of_z (less_fits (4294967295 - w) h) ∙ less_is (4294967295 - w) h ∙ sym (ap (λ (b : Bool). pick b (pos w) (negsuc (4294967295 - w))) (le-ltb w 2147483648 l))
+    go : (b : Bool) → sel b (pos w) (negsuc (4294967296 - suc w)) ≡ pick b (pos w) (negsuc (4294967295 - w))
+    go true = refl
+    go false = ap negsuc less

@@ -2,7 +2,7 @@
 #![tactic(auto)]
 
 use bits::signed;
-use definition::{Counts, Created};
+use definition::{Counts, Created, Refusal};
 use value_arena::{
     create_array, create_bignum, create_bool, create_fixnum, create_float, create_hash,
     create_new_symbol, create_nil, create_object, create_string, create_symbol,
@@ -21,30 +21,24 @@ pub fn create(
     high: u32,
     list: &[u32],
     text: &[u8],
-) -> Created {
+) -> Result<Created, Refusal> {
     match call {
         21 => create_nil(nodes, references, bytes, counts),
         22 => create_bool(nodes, references, bytes, counts, x == 1),
         23 => create_fixnum(nodes, references, bytes, counts, signed(x)),
-        24 => create_symbol(nodes, references, bytes, counts, &text[..]),
-        25 => create_new_symbol(nodes, references, bytes, counts, &text[..]),
-        26 => create_array(nodes, references, bytes, counts, &list[..]),
-        27 => create_hash(nodes, references, bytes, counts, &list[..], x),
-        28 => create_object(nodes, references, bytes, counts, x, &list[..]),
-        29 => create_string(nodes, references, bytes, counts, &text[..]),
-        30 => create_user_defined(nodes, references, bytes, counts, x, &text[..]),
-        31 => create_float(nodes, references, bytes, counts, &text[..]),
+        24 => create_symbol(nodes, references, bytes, counts, text),
+        25 => create_new_symbol(nodes, references, bytes, counts, text),
+        26 => create_array(nodes, references, bytes, counts, list),
+        27 => create_hash(nodes, references, bytes, counts, list, x),
+        28 => create_object(nodes, references, bytes, counts, x, list),
+        29 => create_string(nodes, references, bytes, counts, text),
+        30 => create_user_defined(nodes, references, bytes, counts, x, text),
+        31 => create_float(nodes, references, bytes, counts, text),
         32 => create_bignum(nodes, references, bytes, counts, x == 1, low, high),
         33 => replace_class(nodes, references, bytes, counts, x, low),
         _ => {
-            let r = new(nodes, references, bytes);
-            let answer = r.answer;
-            let after = r.counts;
-            Created {
-                answer: answer,
-                handle: 0,
-                counts: after,
-            }
+            let counts = new(nodes, references, bytes)?;
+            Ok(Created { handle: 0, counts })
         }
     }
 }

@@ -2,7 +2,7 @@
 use Rattle.std.specs.Prelude.{ℕ, ◌≡◌, refl}
 use Rattle.definition.specs.Run.{Run, Outcome, ok, refused}
 use Rattle.definition.specs.Build.{Lent, build_done, build_call}
-use Rattle.definition.specs.declared.Answer.TheVariants.{Accepted, Refused}
+use Rattle.definition.specs.Refused.{Accepted, Refused}
 use Rattle.definition.specs.declared.Refusal.{Refusal}
 use Rattle.lists.specs.Lists.{apart}
 

@@ -14,7 +14,7 @@ use Rattle.definition.specs.Run.{pick}
 use Rattle.definition.specs.Node.{Row, nil, words, row, rows, is_row, width}
 use Rattle.definition.specs.Arena.{Tables, Arena, arena, row_right, node_right, faulty, fault, zeroed}
 use Rattle.definition.specs.Build.{Lent, lent, held, wrong, words_at, new_if, new_call}
-use Rattle.definition.specs.declared.Answer.TheVariants.{Accepted}
+use Rattle.definition.specs.Refused.{Accepted}
 use Rattle.definition.specs.declared.Counts.{Counts}
 use Rattle.lists.specs.Lists.{apart}
 use Rattle.lists.specs.Slices.{tables_right}

@@ -2,43 +2,31 @@
 use Prim.Native.Nat.{ℕ, ◌<◌}
 use mathlib.Core.Bool.{Bool, true, false}
 use mathlib.Core.List.{List, [], ◌∷◌}
-use mathlib.Core.Path.{◌≡◌, refl, ap, ◌∙◌, subst}
+use Rattle.std.specs.Prelude.{Result, Ok, Err}
+use mathlib.Core.Path.{◌≡◌, refl, ap, ◌∙◌}
 use lib.Dec.{ltb}
 use Rattle.definition.specs.Run.{Run, Outcome, ok, refused, pure, refuse, next, ◌>>=◌, look, pick}
 use Rattle.definition.specs.Build.{Lent, check, check_handles, handles_checked}
-use Rattle.definition.specs.declared.Answer.{Answer}
-use Rattle.definition.specs.declared.Answer.TheVariants.{Accepted, Refused}
 use Rattle.definition.specs.declared.Counts.{Counts}
 use Rattle.definition.specs.declared.Refusal.{Refusal}
 use Rattle.definition.specs.declared.Refusal.TheVariants.{BadHandle}
 use Rattle.call_check.specs.Tests.{Says, Fit, FitsIf, Below}
 
--- ---- an answer taken apart
-
-pub accepted : {r : Answer} (m : Run Lent (Unit {0})) (L : Lent) → r ≡ Accepted → Says r m L → m L ≡ ok tt L
-accepted m L e s = subst (λ (x : Answer). Says x m L) e s
-
-pub not_accepted : {r : Answer} {q : Refusal} (m : Run Lent (Unit {0})) (L : Lent) → r ≡ Refused q → Says r m L → m L ≡ refused q
-not_accepted m L e s = subst (λ (x : Answer). Says x m L) e s
+-- ---- what an answer says
 
 -- a test that comes to another says what that says
-pub says_on : (r : Answer) (m m' : Run Lent (Unit {0})) (L : Lent) → m L ≡ m' L → Says r m' L → Says r m L
-says_on Accepted m m' L e s = e ∙ s
-says_on (Refused q) m m' L e s = e ∙ s
+pub says_on : (r : Result (Unit {0}) Refusal) (m m' : Run Lent (Unit {0})) (L : Lent) → m L ≡ m' L → Says r m' L → Says r m L
+says_on (Ok u) m m' L e s = e ∙ s
+says_on (Err q) m m' L e s = e ∙ s
 
-pub below_if : {r : Answer} (s : Answer) (h count : ℕ) → r ≡ Accepted → Below r h count → Below s h count
-below_if Accepted h count p f = subst (λ (x : Answer). Below x h count) p f
-below_if (Refused q) h count p f = tt
+-- what holds anyway holds where the answer is Ok
+pub below_if : (r : Result (Unit {0}) Refusal) (h count : ℕ) → h < count → Below r h count
+below_if (Ok u) h count l = l
+below_if (Err q) h count l = tt
 
-pub fit_of : {r : Answer} (n e b more : ℕ) (c : Counts) → r ≡ Accepted → FitsIf r n e b more c → Fit n e b more c
-fit_of n e b more c p f = subst (λ (x : Answer). FitsIf x n e b more c) p f
-
-pub fit_if : {n e b more : ℕ} {c : Counts} (r : Answer) → Fit n e b more c → FitsIf r n e b more c
-fit_if Accepted f = f
-fit_if (Refused q) f = tt
-
-pub below_of : {r : Answer} (h count : ℕ) → r ≡ Accepted → Below r h count → h < count
-below_of h count p f = subst (λ (x : Answer). Below x h count) p f
+pub fit_if : {n e b more : ℕ} {c : Counts} (r : Result (Unit {0}) Refusal) → Fit n e b more c → FitsIf r n e b more c
+fit_if (Ok u) f = f
+fit_if (Err q) f = tt
 
 -- a step, then the rest; a refusal stops
 pub on : {A B : Type 0} {o : Outcome Lent A} {a : A} {M : Lent} (f : A → Run Lent B) → o ≡ ok a M → next o f ≡ f a M

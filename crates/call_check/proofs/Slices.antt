@@ -11,7 +11,7 @@ use Rattle.definition.specs.Build.{byte_slice, member_slice, pair_slice}
 use Rattle.definition.specs.Slice.{INPUT, MEMBERS}
 use Rattle.lists.specs.Slices.{no_slice, slice, lowest_none, whole_pairs}
 
-abbrev odd : ℕ → Bool
+abbrev pub odd : ℕ → Bool
 odd n = too_long n || not (eqb (n % 2) 0)
 
 module _ (n : ℕ) {r : ℕ} {t : Bool} (q : t ≡ too_long n) where
@@ -23,8 +23,8 @@ module _ (n : ℕ) {r : ℕ} {t : Bool} (q : t ≡ too_long n) where
   unfolding member_slice
   members_named p ms e = sym (slice MEMBERS [] p (q ∙ ap too_long (sym e)) no_slice)
 
-  pub pairs_named : r ≡ pick (t || not (eqb (n % 2) 0)) 9 0 → ((ps : List ℕ) → length ps ≡ n → lowest (pair_slice ps ∷ []) ≡ r) × (r ≡ 0 → n / 2 * 2 ≡ n)
-  unfolding pair_slice
-  pairs_named p =
-      let x : r ≡ lowest ((MEMBERS, odd n) ∷ []) = slice MEMBERS [] p (λ i. q i || not (eqb (n % 2) 0)) no_slice in
-      (λ ps e. ap (λ (k : ℕ). lowest ((MEMBERS, odd k) ∷ [])) e ∙ sym x, λ z. whole_pairs n (lowest_none 8 _ _ (sym x ∙ z)).0)
+pub pairs_named : (n : ℕ) {r : ℕ} {t : Bool} → t ≡ odd n → r ≡ pick t 9 0 → ((ps : List ℕ) → length ps ≡ n → lowest (pair_slice ps ∷ []) ≡ r) × (r ≡ 0 → n / 2 * 2 ≡ n)
+unfolding pair_slice
+pairs_named n {r = r} q p =
+    let x : r ≡ lowest ((MEMBERS, odd n) ∷ []) = slice MEMBERS [] p q no_slice in
+    (λ ps e. ap (λ (k : ℕ). lowest ((MEMBERS, odd k) ∷ [])) e ∙ sym x, λ z. whole_pairs n (lowest_none 8 _ _ (sym x ∙ z)).0)

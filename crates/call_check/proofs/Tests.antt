@@ -4,7 +4,8 @@ use native.Mathlib.Omega.{arith}
 use native.Mathlib.Numerals.{add-one}
 use mathlib.Core.Bool.{Bool, true, false, ◌||◌}
 use mathlib.Core.List.{List, [], ◌∷◌, ◌++◌}
-use mathlib.Core.Option.{Option, none, some}
+use mathlib.Core.Option.{Option}
+use Rattle.std.specs.Prelude.{Result, Ok, Err, MatchResult, IsErrAnd}
 use mathlib.Core.Path.{◌≡◌, refl, sym, ap, ◌∙◌}
 use lib.Dec.{eqb}
 use lib.ListN.{length, get_or, drop, drop_of_length-le}
@@ -16,11 +17,15 @@ use Rattle.definition.specs.Node.{Row, row_of, rows, width, START, LENGTH, LIST,
 use Rattle.definition.specs.Magnitude.{fits}
 use Rattle.definition.specs.Arena.{arena, node, firsts, is_name, lowest, allowed, sound, fault}
 use Rattle.definition.specs.Build.{Lent, held, wrong, check, check_handles, check_names, check_magnitude, takes_class, check_class}
+use Rattle.definition.specs.declared.Counts.{Counts}
 use Rattle.definition.specs.declared.Fault.{Fault}
 use Rattle.definition.specs.declared.Refusal.{Refusal}
 use Rattle.definition.specs.declared.Refusal.TheVariants.{BadTables, BadArena, BadHandle, WrongKind, TooBig}
 use Rattle.lists.specs.Rows.{row_4, row_5, row_7}
-use Rattle.lists.specs.Runs.{no_ok}
+use Rattle.lists.specs.Runs.{no_ok, err_is}
+use Rattle.lists.specs.Slices.{Small}
+use Rattle.arena_check.specs.Held.{checked, FitIf}
+use Rattle.call_check.specs.Tests.{Says, FitsIf}
 use Rattle.arena_check.proofs.Lists.{kind_test}
 use Rattle.arena_check.proofs.Rights.{not_so}
 use Rattle.well_formed.specs.Nodes.{node_row}
@@ -47,13 +52,15 @@ module _ (L : Lent) (ts : List (ℕ × Bool)) (w : ℕ) (e : w ≡ wrong L.table
   unfolding check look ◌>>=◌ next allowed pure
   check_on z = rw (← e, z) refl
 
-  pub check_right : w ≡ 0 → none ≡ fault L.tables L.counts → check ts L ≡ ok tt L
-  unfolding sound pure
-  check_right z f = check_on z ∙ ap (λ (o : Option Fault). sound o L) (sym f)
+  -- what the test of the arena found, as the call's answer
+  pub check_says : w ≡ 0 → (r : Result (Unit {0}) Fault) (s : Result (Unit {0}) Refusal) → MatchResult r (λ u. s ≡ Ok u) (λ f. IsErrAnd s (λ q. q ≡ BadArena f)) → checked r ≡ fault L.tables L.counts → Says s (check ts) L
+  unfolding sound pure refuse
+  check_says z (Ok u) s p f = rw p (check_on z ∙ ap (λ (o : Option Fault). sound o L) (sym f))
+  check_says z (Err x) s p f = rw (err_is s p) (check_on z ∙ ap (λ (o : Option Fault). sound o L) (sym f))
 
-  pub check_faulty : w ≡ 0 → (q : Fault) → some q ≡ fault L.tables L.counts → check ts L ≡ refused (BadArena q)
-  unfolding sound refuse
-  check_faulty z q f = check_on z ∙ ap (λ (o : Option Fault). sound o L) (sym f)
+pub check_fits : (n e b more : ℕ) (c : Counts) (r : Result (Unit {0}) Fault) (s : Result (Unit {0}) Refusal) → MatchResult r (λ u. s ≡ Ok u) (λ f. IsErrAnd s (λ q. q ≡ BadArena f)) → Small n e b → more ≡ 0 → FitIf r n e b c → FitsIf s n e b more c
+check_fits n e b more c (Ok u) s p k z f = rw p (record { small = k; none_more = z; fits = f })
+check_fits n e b more c (Err x) s p k z f = rw (err_is s p) tt
 
 -- ---- 13
 
@@ -98,17 +105,6 @@ module _ (L : Lent) (m : ℕ) where
 
 -- ---- lists of handles and of names
 
-pub handles_on : (L : Lent) (l : List ℕ) (count i : ℕ) → L.counts.nodes ≡ count → i < length l → get_or l i 0 < count → check_handles (drop i l) L ≡ check_handles (drop (i + 1) l) L
-handles_on L l count i e h k =
-    ap (λ (m : List ℕ). check_handles m L) (drop-cons l i 0 h) ∙ handle_on L count (get_or l i 0) (drop (suc i) l) e k ∙ ap (λ (j : ℕ). check_handles (drop j l) L) (sym (add-one i))
-
-pub handles_not : (L : Lent) (l : List ℕ) (count i : ℕ) → L.counts.nodes ≡ count → i < length l → count ≤ get_or l i 0 → check_handles (drop i l) L ≡ refused (BadHandle (get_or l i 0))
-handles_not L l count i e h k =
-    ap (λ (m : List ℕ). check_handles m L) (drop-cons l i 0 h) ∙ handle_not L count (get_or l i 0) (drop (suc i) l) e k
-
-pub handles_end : (L : Lent) (l : List ℕ) (i : ℕ) → length l ≤ i → check_handles (drop i l) L ≡ ok tt L
-handles_end L l i h = ap (λ (m : List ℕ). check_handles m L) (drop_of_length-le l {i = i} h) ∙ no_handles L
-
 -- handles one after the other
 pub handles_app : (xs ys : List ℕ) (L : Lent) → check_handles xs L ≡ ok tt L → check_handles (xs ++ ys) L ≡ check_handles ys L
 handles_app [] ys L e = refl
@@ -126,9 +122,39 @@ handles_stop (x ∷ xs) ys L q e = go (dec_lt x L.counts.nodes) (λ p. handles_s
     go (yes l) ih = handle_on L L.counts.nodes x (xs ++ ys) refl l ∙ ih (sym (handle_on L L.counts.nodes x xs refl l) ∙ e)
     go (no l) ih = handle_not L L.counts.nodes x (xs ++ ys) refl (omega arith) ∙ sym (handle_not L L.counts.nodes x xs refl (omega arith)) ∙ e
 
+-- the handle at i, then those after it
+module _ (L : Lent) (l : List ℕ) (i : ℕ) where
+  handles_at : i < length l → check_handles (drop i l) L ≡ check_handles ((get_or l i 0 ∷ []) ++ drop (suc i) l) L
+  handles_at h = ap (λ (m : List ℕ). check_handles m L) (drop-cons l i 0 h)
+
+  pub handles_on : i < length l → check_handles (get_or l i 0 ∷ []) L ≡ ok tt L → check_handles (drop i l) L ≡ check_handles (drop (i + 1) l) L
+  handles_on h k = handles_at h ∙ handles_app (get_or l i 0 ∷ []) (drop (suc i) l) L k ∙ ap (λ (j : ℕ). check_handles (drop j l) L) (sym (add-one i))
+
+  pub handles_not : i < length l → (q : Refusal) → check_handles (get_or l i 0 ∷ []) L ≡ refused q → check_handles (drop i l) L ≡ refused q
+  handles_not h q k = handles_at h ∙ handles_stop (get_or l i 0 ∷ []) (drop (suc i) l) L q k
+
+pub handles_end : (L : Lent) (l : List ℕ) (i : ℕ) → length l ≤ i → check_handles (drop i l) L ≡ ok tt L
+handles_end L l i h = ap (λ (m : List ℕ). check_handles m L) (drop_of_length-le l {i = i} h) ∙ no_handles L
+
 pub held_nodes : (L : Lent) (t : List ℕ) (count : ℕ) → L.tables.nodes ≡ t → L.counts.nodes ≡ count → (held L).nodes ≡ rows count t
 unfolding arena
 held_nodes L t count e f = λ i. rows (f i) (e i)
+
+-- a name before other names
+module _ (L : Lent) (h : ℕ) (hs : List ℕ) where
+  pub names_then : check_names (h ∷ []) L ≡ ok tt L → check_names (h ∷ hs) L ≡ check_names hs L
+  names_then e = go (is_name (held L) h) refl
+    where
+      go : (b : Bool) → is_name (held L) h ≡ b → check_names (h ∷ hs) L ≡ check_names hs L
+      go true q = name_on L h hs (sym q)
+      go false q = no_ok (sym (name_not L h [] (sym q)) ∙ e)
+
+  pub names_stop : (q : Refusal) → check_names (h ∷ []) L ≡ refused q → check_names (h ∷ hs) L ≡ refused q
+  names_stop q e = go (is_name (held L) h) refl
+    where
+      go : (b : Bool) → is_name (held L) h ≡ b → check_names (h ∷ hs) L ≡ refused q
+      go true p = no_ok (sym e ∙ (name_on L h [] (sym p) ∙ no_names L))
+      go false p = name_not L h hs (sym p) ∙ (sym (name_not L h [] (sym p)) ∙ e)
 
 pairs_step : (l : List ℕ) (i : ℕ) → i * 2 + 2 ≤ length l → drop (i * 2) l ≡ get_or l (i * 2) 0 ∷ get_or l (suc (i * 2)) 0 ∷ drop ((i + 1) * 2) l
 pairs_step l i h =
@@ -142,11 +168,11 @@ module _ (L : Lent) (l : List ℕ) (i : ℕ) where
   unfolding firsts
   step h = ap (λ (m : List ℕ). check_names (firsts m) L) (pairs_step l i h)
 
-  pub pair_names_on : i * 2 + 2 ≤ length l → true ≡ is_name (held L) (get_or l (i * 2) 0) → check_names (firsts (drop (i * 2) l)) L ≡ check_names (firsts (drop ((i + 1) * 2) l)) L
-  pair_names_on h t = step h ∙ name_on L (get_or l (i * 2) 0) (firsts (drop ((i + 1) * 2) l)) t
+  pub pair_names_on : i * 2 + 2 ≤ length l → check_names (get_or l (i * 2) 0 ∷ []) L ≡ ok tt L → check_names (firsts (drop (i * 2) l)) L ≡ check_names (firsts (drop ((i + 1) * 2) l)) L
+  pair_names_on h t = step h ∙ names_then L (get_or l (i * 2) 0) (firsts (drop ((i + 1) * 2) l)) t
 
-  pub pair_names_not : i * 2 + 2 ≤ length l → false ≡ is_name (held L) (get_or l (i * 2) 0) → check_names (firsts (drop (i * 2) l)) L ≡ refused (WrongKind (get_or l (i * 2) 0))
-  pair_names_not h t = step h ∙ name_not L (get_or l (i * 2) 0) (firsts (drop ((i + 1) * 2) l)) t
+  pub pair_names_not : i * 2 + 2 ≤ length l → (q : Refusal) → check_names (get_or l (i * 2) 0 ∷ []) L ≡ refused q → check_names (firsts (drop (i * 2) l)) L ≡ refused q
+  pair_names_not h q t = step h ∙ names_stop L (get_or l (i * 2) 0) (firsts (drop ((i + 1) * 2) l)) q t
 
   pub pair_names_end : length l ≤ i * 2 → check_names (firsts (drop (i * 2) l)) L ≡ ok tt L
   unfolding firsts
@@ -195,7 +221,7 @@ module _ (L : Lent) (t : List ℕ) (count h : ℕ) (e : L.tables.nodes ≡ t) (f
       go true q = refl
       go false q = no_ok q
 
--- ---- a default or a class, and a name before other names
+-- ---- a default or a class
 
 -- a test of handles or of names, on a node that may be missing
 module _ (test : List ℕ → Run Lent (Unit {0})) (L : Lent) (w : ℕ) where
@@ -206,18 +232,3 @@ module _ (test : List ℕ → Run Lent (Unit {0})) (L : Lent) (w : ℕ) where
   pub optional_some : (w ≡ 0 → ⊥) → test (optional_node w) L ≡ test ((w - 1) ∷ []) L
   unfolding optional_node
   optional_some n = let z : w ≡ suc (w - 1) = omega arith in ap (λ (k : ℕ). test (optional_node k) L) z
-
-module _ (L : Lent) (h : ℕ) (hs : List ℕ) where
-  pub names_then : check_names (h ∷ []) L ≡ ok tt L → check_names (h ∷ hs) L ≡ check_names hs L
-  names_then e = go (is_name (held L) h) refl
-    where
-      go : (b : Bool) → is_name (held L) h ≡ b → check_names (h ∷ hs) L ≡ check_names hs L
-      go true q = name_on L h hs (sym q)
-      go false q = no_ok (sym (name_not L h [] (sym q)) ∙ e)
-
-  pub names_stop : (q : Refusal) → check_names (h ∷ []) L ≡ refused q → check_names (h ∷ hs) L ≡ refused q
-  names_stop q e = go (is_name (held L) h) refl
-    where
-      go : (b : Bool) → is_name (held L) h ≡ b → check_names (h ∷ hs) L ≡ refused q
-      go true p = no_ok (sym e ∙ (name_on L h [] (sym p) ∙ no_names L))
-      go false p = name_not L h hs (sym p) ∙ (sym (name_not L h [] (sym p)) ∙ e)

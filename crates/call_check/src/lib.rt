@@ -8,91 +8,82 @@ ghost use Rattle.definition.specs.Build.{Lent, lent, check_handles, check_names}
 ghost use Rattle.definition.specs.Build as B;
 ghost use Rattle.call_check.specs.Tests.{Says, FitsIf, Below};
 
-use arena_check::{Checked, check, first_wrong, is_name_at, size, too_long, wrong_table};
-use definition::{Answer, Bignum, Counts, Node, Refusal, Slice};
+use arena_check::{check, first_wrong, is_name_at, too_long, wrong_table};
+use definition::{Bignum, Counts, Node, Refusal, Slice};
 
 // ---- tables, arena, handles and names
 
 // 1, then 2.
-pub fn begin(nodes: &[u32], references: &[u32], bytes: &[u8], counts: Counts, more: u32) -> Answer
+pub fn begin(
+    nodes: &[u32],
+    references: &[u32],
+    bytes: &[u8],
+    counts: Counts,
+    more: u32,
+) -> Result<(), Refusal>
     ensures by_index { (ts : List (ℕ × Bool)) → lowest ts ≡ more → Says result (B.check ts) (lent nodes.now references.now bytes.now counts) }
     ensures fits_if { FitsIf result (length nodes.now) (length references.now) (length bytes.now) more counts }
 {
     let w = wrong_table(nodes.len(), references.len(), bytes.len(), more);
     if w != 0 {
-        return Answer::Refused(Refusal::BadTables(w));
+        return Err(Refusal::BadTables(w));
     }
-    match check(&nodes[..], &references[..], &bytes[..], counts) {
-        Checked::Right => Answer::Accepted,
-        Checked::Wrong(f) => Answer::Refused(Refusal::BadArena(f)),
-    }
+    check(nodes, references, bytes, counts).map_err(Refusal::BadArena)
 }
 
 // 13 for a handle that is not below the node count.
-pub fn check_handle(h: u32, count: usize) -> Answer
+pub fn check_handle(h: u32, count: usize) -> Result<(), Refusal>
     ensures says { (L : Lent) → L.counts.nodes ≡ count → Says result (check_handles (h ∷ [])) L }
     ensures below { Below result h count }
 {
-    if size(h) < count {
-        Answer::Accepted
+    if (h as usize) < count {
+        Ok(())
     } else {
-        Answer::Refused(Refusal::BadHandle(h))
+        Err(Refusal::BadHandle(h))
     }
 }
 
-pub fn check_handles_at(handles: &[u32], count: usize) -> Answer
+// 13 for the first handle that is not.
+pub fn check_handles_at(handles: &[u32], count: usize) -> Result<(), Refusal>
     ensures { (L : Lent) → L.counts.nodes ≡ count → Says result (check_handles handles.now) L }
 {
-    let mut i = 0;
-    while i < handles.len() {
-        let h = handles[i];
-        if size(h) < count {
-            i = i + 1;
-        } else {
-            return Answer::Refused(Refusal::BadHandle(h));
-        }
+    for h in handles {
+        check_handle(*h, count)?;
     }
-    Answer::Accepted
+    Ok(())
 }
 
 // 14 for a name that is no symbol.
-pub fn check_name(nodes: &[u32], count: usize, h: u32) -> Answer
+pub fn check_name(nodes: &[u32], count: usize, h: u32) -> Result<(), Refusal>
     requires { count * width ≤ length nodes.now }
     ensures { (L : Lent) → L.tables.nodes ≡ nodes.now → L.counts.nodes ≡ count → Says result (check_names (h ∷ [])) L }
 {
-    if is_name_at(&nodes[..], count, h) {
-        Answer::Accepted
+    if is_name_at(nodes, count, h) {
+        Ok(())
     } else {
-        Answer::Refused(Refusal::WrongKind(h))
+        Err(Refusal::WrongKind(h))
     }
 }
 
 // 14 for the first of a pair that is no symbol.
-pub fn check_pair_names(nodes: &[u32], count: usize, pairs: &[u32]) -> Answer
+pub fn check_pair_names(nodes: &[u32], count: usize, pairs: &[u32]) -> Result<(), Refusal>
     requires { (count * width ≤ length nodes.now) × (length pairs.now / 2 * 2 ≡ length pairs.now) }
     ensures { (L : Lent) → L.tables.nodes ≡ nodes.now → L.counts.nodes ≡ count → Says result (check_names (firsts pairs.now)) L }
 {
-    let n = pairs.len() / 2;
-    let mut i = 0;
-    while i < n {
-        let h = pairs[i * 2];
-        if is_name_at(&nodes[..], count, h) {
-            i = i + 1;
-        } else {
-            return Answer::Refused(Refusal::WrongKind(h));
-        }
+    for i in 0..pairs.len() / 2 {
+        check_name(nodes, count, pairs[i * 2])?;
     }
-    Answer::Accepted
+    Ok(())
 }
 
 // 16 for a magnitude that is too great.
-pub fn check_magnitude(m: u64) -> Answer
+pub fn check_magnitude(m: u64) -> Result<(), Refusal>
     ensures { (L : Lent) → Says result (B.check_magnitude m) L }
 {
     if m < Bignum::TOO_BIG {
-        Answer::Accepted
+        Ok(())
     } else {
-        Answer::Refused(Refusal::TooBig(Bignum::UNITS as u32))
+        Err(Refusal::TooBig(Bignum::UNITS as u32))
     }
 }
 
@@ -103,15 +94,12 @@ pub fn begin_handle(
     bytes: &[u8],
     counts: Counts,
     h: u32,
-) -> Answer
+) -> Result<(), Refusal>
     ensures says { Says result (B.handles_checked (h ∷ [])) (lent nodes.now references.now bytes.now counts) }
     ensures fits_if { FitsIf result (length nodes.now) (length references.now) (length bytes.now) 0 counts × Below result h counts.nodes }
 {
-    let count = counts.nodes;
-    match begin(&nodes[..], &references[..], &bytes[..], counts, 0) {
-        Answer::Accepted => check_handle(h, count),
-        Answer::Refused(q) => Answer::Refused(q),
-    }
+    begin(nodes, references, bytes, counts, 0)?;
+    check_handle(h, counts.nodes)
 }
 
 // 1, 2, then two handles.
@@ -122,23 +110,20 @@ pub fn begin_handles(
     counts: Counts,
     first: u32,
     second: u32,
-) -> Answer
+) -> Result<(), Refusal>
     ensures says { Says result (B.handles_checked (first ∷ second ∷ [])) (lent nodes.now references.now bytes.now counts) }
     ensures below { Below result first counts.nodes × Below result second counts.nodes }
 {
-    let count = counts.nodes;
-    match begin_handle(&nodes[..], &references[..], &bytes[..], counts, first) {
-        Answer::Accepted => check_handle(second, count),
-        Answer::Refused(q) => Answer::Refused(q),
-    }
+    begin_handle(nodes, references, bytes, counts, first)?;
+    check_handle(second, counts.nodes)
 }
 
 // 13 for the node of a default or of a class, where there is one.
-pub fn check_optional(word: u32, count: usize) -> Answer
+pub fn check_optional(word: u32, count: usize) -> Result<(), Refusal>
     ensures { (L : Lent) → L.counts.nodes ≡ count → Says result (check_handles (optional_node word)) L }
 {
     if word == 0 {
-        return Answer::Accepted;
+        return Ok(());
     }
     check_handle(word - 1, count)
 }
@@ -151,50 +136,48 @@ pub fn begin_class(
     counts: Counts,
     h: u32,
     class: u32,
-) -> Answer
+) -> Result<(), Refusal>
     ensures says { Says result (B.handles_checked (h ∷ optional_node class)) (lent nodes.now references.now bytes.now counts) }
     ensures fits_if { FitsIf result (length nodes.now) (length references.now) (length bytes.now) 0 counts × Below result h counts.nodes }
 {
-    let count = counts.nodes;
-    match begin_handle(&nodes[..], &references[..], &bytes[..], counts, h) {
-        Answer::Accepted => check_optional(class, count),
-        Answer::Refused(q) => Answer::Refused(q),
-    }
+    begin_handle(nodes, references, bytes, counts, h)?;
+    check_optional(class, counts.nodes)
 }
 
 // 14 for a node of a kind that takes no class.
-pub fn check_class(nodes: &[u32], count: usize, h: u32) -> Answer
+pub fn check_class(nodes: &[u32], count: usize, h: u32) -> Result<(), Refusal>
     requires { (h < count) × (count * width ≤ length nodes.now) }
     ensures { (L : Lent) → L.tables.nodes ≡ nodes.now → L.counts.nodes ≡ count → Says result (B.check_class h) L }
 {
-    let k = nodes[size(h) * Node::WIDTH];
-    if (k == Node::ARRAY) | (k == Node::HASH) | (k == Node::STRING) {
-        Answer::Accepted
-    } else {
-        Answer::Refused(Refusal::WrongKind(h))
+    match nodes[h as usize * Node::WIDTH] {
+        Node::ARRAY | Node::HASH | Node::STRING => Ok(()),
+        _ => Err(Refusal::WrongKind(h)),
     }
 }
 
 // 14 for a class, where there is one, that is no symbol.
-pub fn check_class_name(nodes: &[u32], count: usize, class: u32) -> Answer
+pub fn check_class_name(nodes: &[u32], count: usize, class: u32) -> Result<(), Refusal>
     requires { count * width ≤ length nodes.now }
     ensures { (L : Lent) → L.tables.nodes ≡ nodes.now → L.counts.nodes ≡ count → Says result (check_names (optional_node class)) L }
 {
     if class == 0 {
-        return Answer::Accepted;
+        return Ok(());
     }
-    check_name(&nodes[..], count, class - 1)
+    check_name(nodes, count, class - 1)
 }
 
 // 14 for an object's name, then for the names of its pairs.
-pub fn check_object_names(nodes: &[u32], count: usize, name: u32, pairs: &[u32]) -> Answer
+pub fn check_object_names(
+    nodes: &[u32],
+    count: usize,
+    name: u32,
+    pairs: &[u32],
+) -> Result<(), Refusal>
     requires { (count * width ≤ length nodes.now) × (length pairs.now / 2 * 2 ≡ length pairs.now) }
     ensures { (L : Lent) → L.tables.nodes ≡ nodes.now → L.counts.nodes ≡ count → Says result (check_names (name ∷ firsts pairs.now)) L }
 {
-    match check_name(&nodes[..], count, name) {
-        Answer::Accepted => check_pair_names(&nodes[..], count, &pairs[..]),
-        Answer::Refused(q) => Answer::Refused(q),
-    }
+    check_name(nodes, count, name)?;
+    check_pair_names(nodes, count, pairs)
 }
 
 // ---- other slices that a builder takes
@@ -218,5 +201,5 @@ pub fn wrong_pairs(n: usize) -> u32
     ensures by_index { (ps : List ℕ) → length ps ≡ n → lowest (B.pair_slice ps ∷ []) ≡ result }
     ensures n_value { result ≡ 0 → n / 2 * 2 ≡ n }
 {
-    first_wrong(Slice::MEMBERS, too_long(n) | (n % 2 != 0), 0)
+    first_wrong(Slice::MEMBERS, too_long(n) || n % 2 != 0, 0)
 }

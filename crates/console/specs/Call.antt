@@ -1,10 +1,12 @@
 -- What the programs' load of an input answers and leaves, by the definition of load's call.
-use Rattle.std.specs.Prelude.{ℕ, false, List, ltb, length}
+use Rattle.std.specs.Prelude.{ℕ, ◌≡◌, false, List, ltb, length, Result, Ok, Err}
 use Rattle.definition.specs.Run.{pick}
 use Rattle.definition.specs.Slice.{INPUT}
 use Rattle.definition.specs.Arena.{counts_of}
-use Rattle.definition.specs.Load.{Lists, LoadCall, load_call}
-use Rattle.definition.specs.declared.Answer.TheVariants.{Refused}
+use Rattle.definition.specs.Load.{Lists, LoadAnswer, load_answer, LoadCall, load_call}
+use Rattle.definition.specs.Refused.{Refused}
+use Rattle.definition.specs.declared.Loaded.{Loaded}
+use Rattle.definition.specs.declared.Refusal.{Refusal}
 use Rattle.definition.specs.declared.Refusal.TheVariants.{NoSpace}
 
 -- 12, slice 8; nothing is touched
@@ -14,3 +16,8 @@ too_long T = record { answer = record { answer = Refused (NoSpace INPUT); counts
 -- more than 16,384 bytes are too long; the limit is 64
 unfoldable pub input_call : List ℕ → Lists → LoadCall
 input_call input T = pick (ltb 16384 (length input)) (too_long T) (load_call input T 64)
+
+-- the code's Result is this answer: all of it, or its refusal
+abbrev pub Answers : Result Loaded Refusal → LoadAnswer → Type 0
+Answers (Ok r) a = load_answer (Ok r) ≡ a
+Answers (Err q) a = Refused q ≡ a.answer

@@ -6,14 +6,14 @@ use mathlib.Core.Option.{none}
 use mathlib.Core.Path.{◌≡◌, sym, ap, ◌∙◌, subst}
 use lib.Dec.{ltb}
 use lib.ListN.{length}
-use Rattle.definition.specs.Run.{refused, pick}
+use Rattle.std.specs.Prelude.{Ok, Err}
+use Rattle.definition.specs.Run.{pick}
 use Rattle.definition.specs.Arena.{fault}
 use Rattle.definition.specs.Build.{Lent, lent}
-use Rattle.definition.specs.Cost.{cost_done}
-use Rattle.definition.specs.Load.{Lists, LoadCall, load_call}
-use Rattle.definition.specs.declared.Answer.{Answer}
-use Rattle.definition.specs.declared.Answer.TheVariants.{Accepted, Refused}
-use Rattle.definition.specs.declared.Costed.{Costed}
+use Rattle.definition.specs.Cost.{CostAnswer, cost_answer, cost_done}
+use Rattle.definition.specs.Load.{Lists, load_answer, LoadCall, load_call_of, load_call}
+use Rattle.definition.specs.Refused.{Answer, Accepted, Refused}
+use Rattle.definition.specs.declared.Loaded.{Loaded}
 use Rattle.definition.specs.declared.Refusal.{Refusal}
 use Rattle.lists.specs.Lists.{apart}
 use Rattle.load_forest.specs.Call.{load_accepted, tables_of, call_well_formed}
@@ -24,28 +24,36 @@ use Rattle.costing.specs.Batch.{cost_root, cost_loaded, cost_after, cost_call}
 abbrev pub left : LoadCall → Lent
 left k = lent k.lent.nodes k.lent.references k.lent.bytes k.answer.counts
 
--- the input's load left k
-module _ (input : List ℕ) (T : Lists) (k : LoadCall) (e : k ≡ input_call input T) where
-  after : cost_after k ≡ cost_call input T
-  unfolding cost_call
-  after = ap (λ (x : LoadCall). cost_after x) e
+module _ (input : List ℕ) (T : Lists) where
+  abbrev k : LoadCall
+  k = input_call input T
 
   abbrev called : Bool → LoadCall
   called b = pick b (too_long T) (load_call input T 64)
 
-  -- where it is accepted it is well formed
-  pub well_formed : k.answer.answer ≡ Accepted → fault (tables_of k.lent) k.answer.counts ≡ none
+  -- the input's load is well formed where it is accepted
+  k_right : k.answer.answer ≡ Accepted → fault (tables_of k.lent) k.answer.counts ≡ none
   unfolding input_call pick
-  well_formed a = subst (λ (x : LoadCall). fault (tables_of x.lent) x.answer.counts ≡ none) (sym e) (long (ltb 16384 (length input)) (sym (ap (λ (x : LoadCall). x.answer.answer) e) ∙ a))
+  k_right = long (ltb 16384 (length input))
     where
       long : (b : Bool) → (called b).answer.answer ≡ Accepted → fault (tables_of (called b).lent) (called b).answer.counts ≡ none
       long true q = apart (cc)
       long false q = call_well_formed input T 64 (load_accepted input T 64 q)
 
-  pub costed : {r : Costed} → k.answer.answer ≡ Accepted → r ≡ cost_done (cost_root (left k)) → r ≡ cost_call input T
-  unfolding cost_loaded
-  costed a h = h ∙ sym (ap (λ (x : Answer). cost_loaded x (left k)) a) ∙ after
+  -- it was accepted, with r, and left T'
+  module _ (r : Loaded) (T' : Lists) (e : load_answer (Ok r) ≡ k.answer) (f : T' ≡ k.lent) where
+    same : load_call_of (load_answer (Ok r)) T' ≡ k
+    same i = load_call_of (e i) (f i)
 
-  pub handed_on : {r : Costed} (q : Refusal) → k.answer.answer ≡ Refused q → r ≡ cost_done (refused q) → r ≡ cost_call input T
-  unfolding cost_loaded
-  handed_on q a h = h ∙ sym (ap (λ (x : Answer). cost_loaded x (left k)) a) ∙ after
+    pub well_formed : fault (tables_of T') r.counts ≡ none
+    unfolding load_answer
+    well_formed = subst (λ (x : LoadCall). fault (tables_of x.lent) x.answer.counts ≡ none) (sym same) (k_right (sym (ap (λ (x : LoadCall). x.answer.answer) same)))
+
+    pub costed : {x : CostAnswer} → x ≡ cost_done (cost_root (lent T'.nodes T'.references T'.bytes r.counts)) → x ≡ cost_call input T
+    unfolding cost_call cost_loaded load_answer
+    costed h = h ∙ ap (λ (x : LoadCall). cost_after x) same
+
+  -- its refusal is handed on
+  pub handed_on : (q : Refusal) → Refused q ≡ k.answer.answer → cost_answer (Err q) ≡ cost_call input T
+  unfolding cost_call cost_loaded cost_answer cost_done
+  handed_on q e = ap (λ (x : Answer). cost_loaded x (left k)) e

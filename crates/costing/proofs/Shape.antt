@@ -12,8 +12,7 @@ use Rattle.definition.specs.Run.{Outcome, refused, refuse, look, pick}
 use Rattle.definition.specs.Node.{Row, nil, bool, fixnum, symbol, array, hash, object, string, user, float, bignum, kind, row_of, rows, width}
 use Rattle.definition.specs.Arena.{Arena, arena, node, range, fault}
 use Rattle.definition.specs.Build.{Lent, held}
-use Rattle.definition.specs.Cost.{batch_cost, cost_done}
-use Rattle.definition.specs.declared.Costed.{Costed}
+use Rattle.definition.specs.Cost.{batch_cost}
 use Rattle.definition.specs.declared.Refusal.TheVariants.{NotARecipe}
 use Rattle.lists.specs.Lists.{At, at_get_d}
 use Rattle.lists.specs.Ranges.{length_range, range_next, range_none}
@@ -41,17 +40,17 @@ module _ (a b : ℕ) (L : Lent) where
   chosen : Bool → Bool → Outcome Lent ℕ
   chosen x y = pick (x && y) (batch_cost a b) other_shape L
 
-  pub both : {r : Costed} → r ≡ cost_done (batch_cost a b L) → is_hash (held L) a ≡ true → is_hash (held L) b ≡ true → r ≡ cost_done (cost_pair a b L)
+  pub both : true ≡ is_hash (held L) a → true ≡ is_hash (held L) b → cost_pair a b L ≡ batch_cost a b L
   unfolding cost_pair look pick chosen
-  both h p q = h ∙ ap cost_done (sym (ap (chosen (is_hash (held L) a)) q ∙ ap (λ (x : Bool). chosen x true) p))
+  both p q = sym (λ j. chosen (p j) (q j))
 
-  pub first_other : {r : Costed} → r ≡ cost_done (refused (NotARecipe L.counts.root)) → is_hash (held L) a ≡ false → r ≡ cost_done (cost_pair a b L)
+  pub first_other : false ≡ is_hash (held L) a → cost_pair a b L ≡ refused (NotARecipe L.counts.root)
   unfolding cost_pair other_shape refuse look pick chosen
-  first_other h p = h ∙ ap cost_done (sym (ap (λ (x : Bool). chosen x (is_hash (held L) b)) p))
+  first_other p = sym (ap (λ (x : Bool). chosen x (is_hash (held L) b)) p)
 
-  pub second_other : {r : Costed} → r ≡ cost_done (refused (NotARecipe L.counts.root)) → is_hash (held L) a ≡ true → is_hash (held L) b ≡ false → r ≡ cost_done (cost_pair a b L)
+  pub second_other : true ≡ is_hash (held L) a → false ≡ is_hash (held L) b → cost_pair a b L ≡ refused (NotARecipe L.counts.root)
   unfolding cost_pair other_shape refuse look pick chosen
-  second_other h p q = h ∙ ap cost_done (sym (ap (chosen (is_hash (held L) a)) q ∙ ap (λ (x : Bool). chosen x false) p))
+  second_other p q = sym (λ j. chosen (p j) (q j))
 
 -- ---- the root
 
@@ -85,28 +84,30 @@ range_two l s h =
     ∙ ap (◌∷◌ (get_or l s 0)) (range_next l (suc s) 0 _ (at_get_d l (suc s) 0 (omega arith)) ∙ ap (◌∷◌ (get_or l (suc s) 0)) (range_none l (suc (suc s))))
     ∙ ap (λ (i : ℕ). get_or l s 0 ∷ get_or l i 0 ∷ []) (sym (add-one s))
 
--- i is the root
-module _ (L : Lent) (e : fault L.tables L.counts ≡ none) (i : ℕ) (q : i ≡ L.counts.root) where
+module _ (L : Lent) (e : fault L.tables L.counts ≡ none) where
+  abbrev first : ℕ
+  first = get_or L.tables.nodes (L.counts.root * width) 0
+
   abbrev word : ℕ → ℕ
-  word k = get_or L.tables.nodes (i * width + k) 0
+  word k = get_or L.tables.nodes (L.counts.root * width + k) 0
 
   fit : Fit L.tables L.counts
   fit = fault_fit L.tables L.counts e
 
-  -- its words are in the table
-  pub root_inside : i * width + width ≤ length L.tables.nodes
-  root_inside = omega (arith, fit.nodes_fit, fit.root_below, q)
+  -- the root's words are in the table
+  pub root_inside : L.counts.root * width + width ≤ length L.tables.nodes
+  root_inside = omega (arith, fit.nodes_fit, fit.root_below)
 
-  root_row : node (held L) L.counts.root ≡ row_of (get_or L.tables.nodes (i * width) 0) (word 1) (word 2) (word 3) (word 4) (word 5) (word 6) (word 7)
+  root_row : node (held L) L.counts.root ≡ row_of first (word 1) (word 2) (word 3) (word 4) (word 5) (word 6) (word 7)
   unfolding arena
-  root_row = ap (node (held L)) (sym q) ∙ node_row (held L) L.counts.nodes L.tables.nodes refl i (omega (arith, fit.root_below, q))
+  root_row = node_row (held L) L.counts.nodes L.tables.nodes refl L.counts.root fit.root_below
 
-  pub not_array : {r : Costed} → r ≡ cost_done (refused (NotARecipe L.counts.root)) → (get_or L.tables.nodes (i * width) 0 ≡ 4 → ⊥) → r ≡ cost_done (cost_root L)
+  pub not_array : (first ≡ 4 → ⊥) → cost_root L ≡ refused (NotARecipe L.counts.root)
   unfolding cost_root cost_elements other_shape look refuse
-  not_array h n =
-      h ∙ sym (ap (λ (l : List ℕ). cost_done (cost_elements l L)) (no_elements (held L) (node (held L) L.counts.root) (λ k. n (kind_is _ _ _ _ _ _ _ _ 4 (sym (ap kind root_row) ∙ k) (omega arith)))))
+  not_array n =
+      ap (λ (l : List ℕ). cost_elements l L) (no_elements (held L) (node (held L) L.counts.root) (λ k. n (kind_is _ _ _ _ _ _ _ _ 4 (sym (ap kind root_row) ∙ k) (omega arith))))
 
-  module _ (k : get_or L.tables.nodes (i * width) 0 ≡ 4) where
+  module _ (k : first ≡ 4) where
     array_row : node (held L) L.counts.root ≡ array (word 3) (word 4) (word 7)
     array_row = root_row ∙ row_4 _ _ _ _ _ _ _ _ k
 
@@ -120,34 +121,30 @@ module _ (L : Lent) (e : fault L.tables L.counts ≡ none) (i : ℕ) (q : i ≡ 
     unfolding elements
     listed = ap (elements (held L)) array_row
 
-    pub other_number : {r : Costed} → r ≡ cost_done (refused (NotARecipe L.counts.root)) → (word 4 ≡ 2 → ⊥) → r ≡ cost_done (cost_root L)
+    pub other_number : (word 4 ≡ 2 → ⊥) → cost_root L ≡ refused (NotARecipe L.counts.root)
     unfolding cost_root look
-    other_number h n =
-        h
-        ∙ ap cost_done
-        (sym
-        (ap (λ (l : List ℕ). cost_elements l L) listed
-        ∙ other_length _ L (λ p. n (sym (length_range (held L).references (word 3) (word 4) in_list) ∙ p))))
+    other_number n =
+        ap (λ (l : List ℕ). cost_elements l L) listed
+        ∙ other_length _ L (λ p. n (sym (length_range (held L).references (word 3) (word 4) in_list) ∙ p))
 
-    -- two elements, which stand in the reference table from s on
-    module _ (two : word 4 ≡ 2) (s : ℕ) (p : s ≡ word 3) where
-      used : s + 2 ≤ L.counts.references
-      used = omega (arith, in_list, fit.references, two, p)
+    -- two elements
+    module _ (two : word 4 ≡ 2) where
+      used : word 3 + 2 ≤ L.counts.references
+      used = omega (arith, in_list, fit.references, two)
 
-      pub two_inside : s + 2 ≤ length L.tables.references
+      pub two_inside : word 3 + 2 ≤ length L.tables.references
       two_inside = omega (arith, used, fit.references_fit)
 
-      two_listed : range (held L).references (word 3) (word 4) ≡ get_or L.tables.references s 0 ∷ get_or L.tables.references (s + 1) 0 ∷ []
+      two_listed : range (held L).references (word 3) (word 4) ≡ get_or L.tables.references (word 3) 0 ∷ get_or L.tables.references (word 3 + 1) 0 ∷ []
       unfolding arena
       two_listed =
-          ap (λ (x : ℕ). range (held L).references x (word 4)) (sym p)
-          ∙ ap (range (held L).references s) two
-          ∙ range_take L.tables.references L.counts.references s 2 used
-          ∙ range_two L.tables.references s two_inside
+          ap (range (held L).references (word 3)) two
+          ∙ range_take L.tables.references L.counts.references (word 3) 2 used
+          ∙ range_two L.tables.references (word 3) two_inside
 
-      pub two_elements : {r : Costed} → r ≡ cost_done (cost_pair (get_or L.tables.references s 0) (get_or L.tables.references (s + 1) 0) L) → r ≡ cost_done (cost_root L)
+      pub two_elements : cost_root L ≡ cost_pair (get_or L.tables.references (word 3) 0) (get_or L.tables.references (word 3 + 1) 0) L
       unfolding cost_root cost_elements look
-      two_elements h = h ∙ sym (ap (λ (l : List ℕ). cost_done (cost_elements l L)) (listed ∙ two_listed))
+      two_elements = ap (λ (l : List ℕ). cost_elements l L) (listed ∙ two_listed)
 
 -- the node table holds the nodes counted
 pub nodes_inside : (L : Lent) → fault L.tables L.counts ≡ none → L.counts.nodes * width ≤ length L.tables.nodes

@@ -6,9 +6,9 @@ use Rattle.definition.specs.Arena.{Arena, node, range}
 use Rattle.definition.specs.Build.{Lent, lent, held}
 use Rattle.definition.specs.Cost.{batch_cost, cost_done}
 use Rattle.definition.specs.Load.{Lists, LoadCall}
-use Rattle.definition.specs.declared.Answer.{Answer}
-use Rattle.definition.specs.declared.Answer.TheVariants.{Accepted, Refused}
-use Rattle.definition.specs.declared.Costed.{Costed}
+use Rattle.definition.specs.Refused.{Answer}
+use Rattle.definition.specs.Refused.{Accepted, Refused}
+use Rattle.definition.specs.Cost.{CostAnswer}
 use Rattle.definition.specs.declared.Refusal.TheVariants.{NotARecipe}
 use Rattle.console.specs.Call.{input_call}
 
@@ -49,12 +49,12 @@ unfoldable pub cost_root : Run Lent ℕ
 cost_root = look λ L. cost_elements (elements (held L) (node (held L) L.counts.root))
 
 -- the cost in the arena that load left, or load's refusal
-unfoldable pub cost_loaded : Answer → Lent → Costed
+unfoldable pub cost_loaded : Answer → Lent → CostAnswer
 cost_loaded Accepted L = cost_done (cost_root L)
 cost_loaded (Refused q) L = cost_done (refused q)
 
-abbrev pub cost_after : LoadCall → Costed
+abbrev pub cost_after : LoadCall → CostAnswer
 cost_after k = cost_loaded k.answer.answer (lent k.lent.nodes k.lent.references k.lent.bytes k.answer.counts)
 
-unfoldable pub cost_call : List ℕ → Lists → Costed
+unfoldable pub cost_call : List ℕ → Lists → CostAnswer
 cost_call input T = cost_after (input_call input T)

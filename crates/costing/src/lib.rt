@@ -6,15 +6,16 @@ ghost use Rattle.std.proofs.Math.Option.{none};
 ghost use Rattle.definition.specs.Node.{width, rows};
 ghost use Rattle.definition.specs.Arena.{Arena, fault};
 ghost use Rattle.definition.specs.Build.{lent};
-ghost use Rattle.definition.specs.Cost.{cost_done};
+ghost use Rattle.definition.specs.Cost.{cost_done, cost_answer};
 ghost use Rattle.definition.specs.Load.{lists};
 ghost use Rattle.console.specs.Call.{input_call};
 ghost use Rattle.costing.specs.Batch.{is_hash, cost_pair, cost_root, cost_call};
 
-use arena_check::size;
-use batch_cost::{batch_cost, refused};
-use console::{end_row, load_input, put_number, put_refusal};
-use definition::{Answer, Costed, Counts, Node, Refusal};
+use batch_cost::batch_cost;
+use console::{Output, Tables, load_input, write_refusal};
+use definition::{Counts, Node, Refusal};
+use std::fmt;
+use std::fmt::Write;
 
 // The elements that a root must have: the recipe and the prices.
 const ELEMENTS: u32 = 2;
@@ -24,12 +25,8 @@ fn is_hash_at(nodes: &[u32], count: usize, h: u32) -> bool
     requires { count * width ≤ length nodes.now }
     ensures { (A : Arena) → A.nodes ≡ rows count nodes.now → result ≡ is_hash A h }
 {
-    let at = size(h);
-    if at < count {
-        nodes[at * Node::WIDTH] == Node::HASH
-    } else {
-        false
-    }
+    let i = h as usize;
+    i < count && nodes[i * Node::WIDTH] == Node::HASH
 }
 
 // The cost of the root's two elements, 20 with the root unless both are hashes.
@@ -40,52 +37,37 @@ fn cost_pair(
     counts: Counts,
     recipe: u32,
     prices: u32,
-) -> Costed
+) -> Result<u64, Refusal>
     requires { counts.nodes * width ≤ length nodes.now }
-    ensures { result ≡ cost_done (cost_pair recipe prices (lent nodes.now references.now bytes.now counts)) }
+    ensures { cost_answer result ≡ cost_done (cost_pair recipe prices (lent nodes.now references.now bytes.now counts)) }
 {
     let count = counts.nodes;
-    let root = counts.root;
-    if !is_hash_at(&nodes[..], count, recipe) {
-        return refused(Refusal::NotARecipe(root));
+    if is_hash_at(nodes, count, recipe) && is_hash_at(nodes, count, prices) {
+        batch_cost(nodes, references, bytes, counts, recipe, prices)
+    } else {
+        Err(Refusal::NotARecipe(counts.root))
     }
-    if !is_hash_at(&nodes[..], count, prices) {
-        return refused(Refusal::NotARecipe(root));
-    }
-    batch_cost(
-        &nodes[..],
-        &references[..],
-        &bytes[..],
-        counts,
-        recipe,
-        prices,
-    )
 }
 
 // The cost of a root that is an array of two hashes, 20 with the root for any other.
-fn cost_root(nodes: &[u32], references: &[u32], bytes: &[u8], counts: Counts) -> Costed
+fn cost_root(
+    nodes: &[u32],
+    references: &[u32],
+    bytes: &[u8],
+    counts: Counts,
+) -> Result<u64, Refusal>
     requires { fault (lent nodes.now references.now bytes.now counts).tables counts ≡ none }
-    ensures { result ≡ cost_done (cost_root (lent nodes.now references.now bytes.now counts)) }
+    ensures { cost_answer result ≡ cost_done (cost_root (lent nodes.now references.now bytes.now counts)) }
 {
     let root = counts.root;
-    let at = size(root) * Node::WIDTH;
-    if nodes[at] != Node::ARRAY {
-        return refused(Refusal::NotARecipe(root));
+    let at = root as usize * Node::WIDTH;
+    if nodes[at] != Node::ARRAY || nodes[at + Node::COUNT] != ELEMENTS {
+        return Err(Refusal::NotARecipe(root));
     }
-    if nodes[at + Node::COUNT] != ELEMENTS {
-        return refused(Refusal::NotARecipe(root));
-    }
-    let start = size(nodes[at + Node::LIST]);
+    let start = nodes[at + Node::LIST] as usize;
     let recipe = references[start];
     let prices = references[start + 1];
-    cost_pair(
-        &nodes[..],
-        &references[..],
-        &bytes[..],
-        counts,
-        recipe,
-        prices,
-    )
+    cost_pair(nodes, references, bytes, counts, recipe, prices)
 }
 
 // The cost of what the input holds, or load's refusal.
@@ -96,30 +78,26 @@ pub fn cost_input(
     bytes: &mut [u8],
     symbols: &mut [u32],
     objects: &mut [u32],
-) -> Costed
-    ensures value { result ≡ cost_call input.now (lists nodes.old references.old bytes.old symbols.old objects.old) }
+) -> Result<u64, Refusal>
+    ensures value { cost_answer result ≡ cost_call input.now (lists nodes.old references.old bytes.old symbols.old objects.old) }
     ensures objects_after { lists nodes.new references.new bytes.new symbols.new objects.new ≡ (input_call input.now (lists nodes.old references.old bytes.old symbols.old objects.old)).lent }
 {
-    let r = load_input(&input[..], nodes, references, bytes, symbols, objects);
-    let answer = r.answer;
-    let counts = r.counts;
-    match answer {
-        Answer::Accepted => cost_root(nodes, references, bytes, counts),
-        Answer::Refused(q) => refused(q),
-    }
-}
-
-fn put_cents(out: &mut [u8], at: usize, cents: u64) -> usize {
-    let p = put_number(out, at, cents);
-    end_row(out, p)
+    let loaded = load_input(input, nodes, references, bytes, symbols, objects)?;
+    cost_root(nodes, references, bytes, loaded.counts)
 }
 
 // The cents, or the refusal: a row.
-pub fn put_cost(out: &mut [u8], at: usize, r: Costed) -> usize {
-    let answer = r.answer;
-    let cents = r.cents;
-    match answer {
-        Answer::Accepted => put_cents(out, at, cents),
-        Answer::Refused(q) => put_refusal(out, at, Answer::Refused(q)),
+pub fn write_cost(out: &mut Output<'_>, input: &[u8]) -> fmt::Result {
+    let mut tables = Tables::new();
+    match cost_input(
+        input,
+        &mut tables.nodes,
+        &mut tables.references,
+        &mut tables.bytes,
+        &mut tables.symbols,
+        &mut tables.objects,
+    ) {
+        Ok(cents) => writeln!(out, "{cents:>11}"),
+        Err(q) => write_refusal(out, q),
     }
 }

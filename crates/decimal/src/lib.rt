@@ -1,72 +1,36 @@
 // A number's text in a Float: an optional minus, digits, and a point with digits after it; and its double.
 #![tactic(auto)]
 
-ghost use Rattle.std.specs.Prelude.{◌≡◌, ◌+◌, ◌-◌, ◌*◌, ◌^◌, ◌≤◌, ◌<◌, length, drop};
+ghost use Rattle.std.specs.Prelude.{◌≡◌, ◌+◌, ◌*◌, ◌^◌, ◌≤◌, ◌<◌, length};
 ghost use Rattle.std.proofs.Math.Option.{some};
-ghost use Rattle.definition.specs.Weight.{is_digit, digits, decimal_if, unsigned, decimal, whole_number, with_sign, quotient, text_reading};
+ghost use Rattle.std.specs.Char.{is_ascii_digit};
+ghost use Rattle.std.specs.List.{prefix_len};
+ghost use Rattle.definition.specs.Weight.{digits, decimal_if, unsigned, decimal, whole_number, with_sign, quotient, text_reading};
 
 use definition::{Decimal, Reading};
 
 // ---- the text
 
-fn is_digit(b: u8) -> bool
-    ensures { result ≡ is_digit b }
+// How many digits the text begins with.
+fn count_digits(text: &[u8]) -> usize
+    ensures { result ≡ prefix_len is_ascii_digit text.now }
 {
-    (Decimal::ZERO <= b) & (b <= Decimal::NINE)
-}
-
-// Where the digits from `at` on end.
-fn digits_end(text: &[u8], at: usize) -> usize
-    requires { at ≤ length text.now }
-    ensures value { result ≡ at + length (digits (drop at text.now)) }
-    ensures upper_bound { result ≤ length text.now }
-{
-    let mut i = at;
-    while i < text.len() {
-        if !is_digit(text[i]) {
-            return i;
-        }
-        i = i + 1;
-    }
-    i
+    text.iter().take_while(|b| b.is_ascii_digit()).count()
 }
 
 // ---- its double
 
-// A digit's number.
-fn digit(b: u8) -> u64
-    requires { 0x30 ≤ b }
-    ensures { result ≡ b - 0x30 }
-{
-    (b - Decimal::ZERO) as u64
-}
-
-// The digits from `at` to `end` as a whole number, after those of n.
-fn whole_number(text: &[u8], n: u64, at: usize, end: usize) -> u64
-    requires { (end ≡ at + length (digits (drop at text.now))) × (end ≤ length text.now) × ((n + 1) * 10 ^ (end - at) ≤ 10 ^ 15) }
-    ensures value { result ≡ whole_number n (digits (drop at text.now)) }
-    ensures result_bound { result + 1 ≤ (n + 1) * 10 ^ (end - at) }
+// The digits of `part` as a whole number, after those of n.
+fn whole_number(part: &[u8], n: u64) -> u64
+    requires { (digits part.now ≡ part.now) × ((n + 1) * 10 ^ length part.now ≤ 10 ^ 15) }
+    ensures value { result ≡ whole_number n part.now }
+    ensures result_bound { result + 1 ≤ (n + 1) * 10 ^ length part.now }
 {
     let mut m = n;
-    let mut i = at;
-    while i < end {
-        m = m * 10 + digit(text[i]);
-        i = i + 1;
+    for b in part {
+        m = m * 10 + u64::from(*b - Decimal::ZERO);
     }
     m
-}
-
-fn power_of_ten(places: usize) -> u64
-    requires { places ≤ 15 }
-    ensures { result ≡ 10 ^ places }
-{
-    let mut p: u64 = 1;
-    let mut i = 0;
-    while i < places {
-        p = p * 10;
-        i = i + 1;
-    }
-    p
 }
 
 // The digits' number divided once by the power of ten, the sign set last.
@@ -74,44 +38,40 @@ fn double(minus: bool, n: u64, places: usize) -> f64
     requires { (n < 10 ^ 15) × (places ≤ 15) }
     ensures { result ≡ with_sign minus (quotient n places) }
 {
-    let q = n as f64 / power_of_ten(places) as f64;
+    let q = n as f64 / 10u64.pow(places as u32) as f64;
     if minus { -q } else { q }
 }
 
 // ---- both
 
-// The whole digits from `at` to `point`, and those after the point from `start` to the end.
-fn read_parts(text: &[u8], minus: bool, at: usize, point: usize, start: usize) -> Reading
-    requires { (point ≡ at + length (digits (drop at text.now))) × (point ≤ length text.now) × (length text.now ≡ start + length (digits (drop start text.now))) }
-    ensures { result ≡ text_reading (decimal_if minus (digits (drop at text.now)) (some (digits (drop start text.now)))) }
+// The digits before the point, and those after it.
+fn read_parts(minus: bool, whole: &[u8], part: &[u8]) -> Reading
+    requires { (digits whole.now ≡ whole.now) × (digits part.now ≡ part.now) }
+    ensures { result ≡ text_reading (decimal_if minus whole.now (some part.now)) }
 {
-    let end = text.len();
-    let places = end - start;
-    if (at < point) & (point - at + places <= Decimal::DIGITS) {
-        let n = whole_number(text, 0, at, point);
-        let m = whole_number(text, n, start, end);
+    let places = part.len();
+    if (0 < whole.len()) & (whole.len() + places <= Decimal::DIGITS) {
+        let n = whole_number(whole, 0);
+        let m = whole_number(part, n);
         return Reading::Double(double(minus, m, places));
     }
     Reading::NotANumber
 }
 
-// The text from `at` on, after a minus or not.
-fn read_unsigned(text: &[u8], minus: bool, at: usize) -> Reading
-    requires { at ≤ length text.now }
-    ensures { result ≡ text_reading (unsigned minus (drop at text.now)) }
+// The text after a minus or not.
+fn read_unsigned(minus: bool, text: &[u8]) -> Reading
+    ensures { result ≡ text_reading (unsigned minus text.now) }
 {
-    let point = digits_end(text, at);
-    let end = text.len();
-    if point == end {
-        return read_parts(text, minus, at, point, end);
+    let (whole, rest) = text.split_at(count_digits(text));
+    if rest.len() == 0 {
+        return read_parts(minus, whole, rest);
     }
-    if text[point] != Decimal::POINT {
+    if rest[0] != Decimal::POINT {
         return Reading::NotANumber;
     }
-    let start = point + 1;
-    let last = digits_end(text, start);
-    if (start < last) & (last == end) {
-        return read_parts(text, minus, at, point, start);
+    let part = &rest[1..];
+    if (0 < part.len()) & (count_digits(part) == part.len()) {
+        return read_parts(minus, whole, part);
     }
     Reading::NotANumber
 }
@@ -124,7 +84,7 @@ pub fn read_decimal(text: &[u8]) -> Reading
         return Reading::NotANumber;
     }
     if text[0] == Decimal::MINUS {
-        return read_unsigned(text, true, 1);
+        return read_unsigned(true, &text[1..]);
     }
-    read_unsigned(text, false, 0)
+    read_unsigned(false, text)
 }

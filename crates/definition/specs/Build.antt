@@ -1,5 +1,5 @@
 -- The getters and the builder: the answer and all that is lent, as each call leaves it (01, "Builder and listing"; 02, 2.1, 2.4 and 2.9).
-use Rattle.std.specs.Prelude.{ℕ, zero, suc, ◌+◌, ◌-◌, ◌*◌, ◌/◌, ◌%◌, Bool, not, ◌||◌, List, [], ◌∷◌, ◌++◌, ltb, leb, eqb, ℤ, pos, negsuc, length, get_or, set, take, drop, replicate}
+use Rattle.std.specs.Prelude.{ℕ, zero, suc, ◌+◌, ◌-◌, ◌*◌, ◌/◌, ◌%◌, Bool, not, ◌||◌, List, [], ◌∷◌, ◌++◌, ltb, leb, eqb, ℤ, pos, negsuc, length, get_or, set, take, drop, replicate, Result, Ok, Err}
 use Rattle.std.proofs.Math.Option.{Option, none, some}
 use Rattle.std.proofs.lemmas.List.Edits.{sets}
 use Rattle.definition.specs.Run.{Run, Outcome, ok, refused, pure, refuse, ◌>>=◌, look, pick}
@@ -7,14 +7,12 @@ use Rattle.definition.specs.Node.{Row, nil, bool, fixnum, symbol, array, hash, o
 use Rattle.definition.specs.Magnitude.{fits, sign, magnitude}
 use Rattle.definition.specs.Slice.{NODES, REFERENCES, BYTES, INPUT, MEMBERS}
 use Rattle.definition.specs.Arena.{Tables, Arena, tables_of, counts_of, arena, node, firsts, is_name, too_long, bad_nodes, lowest, allowed, fault, sound, zeroed, find_symbol}
-use Rattle.definition.specs.declared.Answer.TheVariants.{Accepted, Refused}
-use Rattle.definition.specs.declared.Begun.{Begun}
+use Rattle.definition.specs.Refused.{Answer, Accepted, Refused}
 use Rattle.definition.specs.declared.Counts.{Counts}
+use Rattle.definition.specs.declared.Refusal.TheVariants.{BadTables, NoSpace, BadHandle, WrongKind, TooBig}
 use Rattle.definition.specs.declared.Created.{Created}
 use Rattle.definition.specs.declared.Name.{Name}
-use Rattle.definition.specs.declared.Number.{Number}
-use Rattle.definition.specs.declared.Refusal.TheVariants.{BadTables, NoSpace, BadHandle, WrongKind, TooBig}
-use Rattle.definition.specs.declared.Words.{Words}
+use Rattle.definition.specs.declared.Refusal.{Refusal}
 
 -- tables and counts, which a call may change
 pub record Lent : Type 0 where
@@ -202,13 +200,57 @@ create_bignum minus low high = check [] >>= λ _. check_magnitude (magnitude low
 
 -- ---- the calls
 
+-- what the builder answers, and what `new` and the getters do
+pub record BuildAnswer : Type 0 where
+  pub answer : Answer
+  pub handle : ℕ
+  pub counts : Counts
+
+pub record NewAnswer : Type 0 where
+  pub answer : Answer
+  pub counts : Counts
+
+pub record NumberAnswer : Type 0 where
+  pub answer : Answer
+  pub value : ℕ
+
+pub record WordsAnswer : Type 0 where
+  pub answer : Answer
+  pub words : List ℕ
+
+pub record NameAnswer : Type 0 where
+  pub answer : Answer
+  pub start : ℕ
+  pub length : ℕ
+
+-- by the code's Result; a refused builder "hands back the counts given"
+unfoldable pub build_answer : Counts → Result Created Refusal → BuildAnswer
+build_answer given (Ok r) = record { answer = Accepted; handle = r.handle; counts = r.counts }
+build_answer given (Err q) = record { answer = Refused q; handle = 0; counts = given }
+
+unfoldable pub new_answer : Result Counts Refusal → NewAnswer
+new_answer (Ok c) = record { answer = Accepted; counts = c }
+new_answer (Err q) = record { answer = Refused q; counts = counts_of 0 0 0 0 }
+
+unfoldable pub number_answer : Result ℕ Refusal → NumberAnswer
+number_answer (Ok n) = record { answer = Accepted; value = n }
+number_answer (Err q) = record { answer = Refused q; value = 0 }
+
+unfoldable pub words_answer : Result (List ℕ) Refusal → WordsAnswer
+words_answer (Ok ws) = record { answer = Accepted; words = ws }
+words_answer (Err q) = record { answer = Refused q; words = replicate width 0 }
+
+unfoldable pub name_answer : Result Name Refusal → NameAnswer
+name_answer (Ok r) = record { answer = Accepted; start = r.start; length = r.length }
+name_answer (Err q) = record { answer = Refused q; start = 0; length = 0 }
+
 -- a builder's answer and all that is lent: "refusal changes nothing and hands back the counts given"
 pub record BuildCall : Type 0 where
-  pub answer : Created
+  pub answer : BuildAnswer
   pub tables : Tables
 
 -- its answer and the three tables put together
-abbrev pub build_call_of : Created → List ℕ → List ℕ → List ℕ → BuildCall
+abbrev pub build_call_of : BuildAnswer → List ℕ → List ℕ → List ℕ → BuildCall
 build_call_of a n r b = record { answer = a; tables = tables_of n r b }
 
 -- the answer of a builder by its outcome
@@ -221,27 +263,27 @@ unfoldable pub build_call : Run Lent ℕ → Lent → BuildCall
 build_call m L = build_done L (m L)
 
 -- a getter's answer; "What a refused answer holds besides is 0"
-unfoldable pub number_done : Outcome Lent ℕ → Number
+unfoldable pub number_done : Outcome Lent ℕ → NumberAnswer
 number_done (ok n L) = record { answer = Accepted; value = n }
 number_done (refused r) = record { answer = Refused r; value = 0 }
 
 -- `get`
-unfoldable pub words_done : Outcome Lent (List ℕ) → Words
+unfoldable pub words_done : Outcome Lent (List ℕ) → WordsAnswer
 words_done (ok ws L) = record { answer = Accepted; words = ws }
 words_done (refused r) = record { answer = Refused r; words = replicate width 0 }
 
 -- `get_symbol`
-unfoldable pub name_done : Outcome Lent (List ℕ) → Name
+unfoldable pub name_done : Outcome Lent (List ℕ) → NameAnswer
 name_done (ok ws L) = record { answer = Accepted; start = get_or ws 0 0; length = get_or ws 1 0 }
 name_done (refused r) = record { answer = Refused r; start = 0; length = 0 }
 
 -- "`new` zeroes its tables and returns counts 1, 0, 0, 0; after 1, zeros, nothing touched"
 pub record NewCall : Type 0 where
-  pub answer : Begun
+  pub answer : NewAnswer
   pub tables : Tables
 
 -- its answer and the three tables put together
-abbrev pub new_call_of : Begun → List ℕ → List ℕ → List ℕ → NewCall
+abbrev pub new_call_of : NewAnswer → List ℕ → List ℕ → List ℕ → NewCall
 new_call_of a n r b = record { answer = a; tables = tables_of n r b }
 
 -- by the lowest wrong slice, or 0

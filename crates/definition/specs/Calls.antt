@@ -13,14 +13,14 @@ use Rattle.definition.specs.Dump.{DumpCall, dump_call_of}
 use Rattle.definition.specs.Build as B
 use Rattle.definition.specs.Build.{Lent, BuildCall, NewCall, lent, build_call_of, new_call_of}
 use Rattle.definition.specs.Starred.{holds, load_with, dump_with}
-use Rattle.definition.specs.declared.Answer.TheVariants.{Accepted, Refused}
+use Rattle.definition.specs.Refused.{Accepted, Refused}
 use Rattle.definition.specs.declared.Fault.TheVariants.{Counts as BadCounts, Node as BadNode}
-use Rattle.definition.specs.declared.Name.{Name}
-use Rattle.definition.specs.declared.Number.{Number}
+use Rattle.definition.specs.Build.{NameAnswer}
+use Rattle.definition.specs.Build.{NumberAnswer}
 use Rattle.definition.specs.declared.Refusal.{Refusal}
 use Rattle.definition.specs.declared.Refusal.TheVariants.{BadTables, BadArena, InvalidVersion, ShortInput, InvalidKind, NegativeCount, MissingSymbol, MissingObject, NotASymbol, NotAnObject}
 use Rattle.definition.specs.declared.Refusal.TheVariants.{TooDeep, NoSpace, BadHandle, WrongKind, TooBig, NotWrappable}
-use Rattle.definition.specs.declared.Words.{Words}
+use Rattle.definition.specs.Build.{WordsAnswer}
 
 -- ---- rows and their words
 
@@ -322,11 +322,11 @@ begun =
     ∷ []
 
 -- a number, a node's words, a name's start and length
-numbered : Lent × Run Lent ℕ → Number
+numbered : Lent × Run Lent ℕ → NumberAnswer
 unfolding B.number_done
 numbered (L, m) = B.number_done (m L)
 
-abbrev told : List ((Lent × Run Lent ℕ) × Number)
+abbrev told : List ((Lent × Run Lent ℕ) × NumberAnswer)
 told =
     ((full, B.get_root), record { answer = Accepted; value = 0 })
     ∷ ((broken, B.get_root), record { answer = Refused (BadArena BadCounts); value = 0 })
@@ -334,21 +334,21 @@ told =
     ∷ ((full, B.get_kind 2), record { answer = Refused (BadHandle 2); value = 0 })
     ∷ []
 
-nodes : ℕ → Words
+nodes : ℕ → WordsAnswer
 unfolding B.words_done
 nodes h = B.words_done (B.get_words h full)
 
-abbrev got : List (ℕ × Words)
+abbrev got : List (ℕ × WordsAnswer)
 got =
     (1, record { answer = Accepted; words = words (symbol 0 1) })
     ∷ (2, record { answer = Refused (BadHandle 2); words = replicate width 0 })
     ∷ []
 
-names : ℕ → Name
+names : ℕ → NameAnswer
 unfolding B.name_done
 names h = B.name_done (B.get_name h full)
 
-abbrev named : List (ℕ × Name)
+abbrev named : List (ℕ × NameAnswer)
 named =
     (1, record { answer = Accepted; start = 0; length = 1 })
     ∷ (0, record { answer = Refused (WrongKind 0); start = 0; length = 0 })

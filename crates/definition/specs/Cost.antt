@@ -1,13 +1,13 @@
 -- What a recipe costs at given prices, in cents (02, 2.7).
-use Rattle.std.specs.Prelude.{ℕ, ◌+◌, ◌*◌, ◌/◌, Bool, false, ◌&&◌, ◌||◌, List, [], ◌∷◌, ltb, leb, eqb, length}
+use Rattle.std.specs.Prelude.{ℕ, ◌+◌, ◌*◌, ◌/◌, Bool, false, ◌&&◌, ◌||◌, List, [], ◌∷◌, ltb, leb, eqb, length, Result, Ok, Err}
 use Rattle.std.proofs.Math.Option.{Option, none, some}
 use Rattle.definition.specs.Run.{Run, Outcome, ok, refused, pure, refuse, ◌>>=◌, look, pick}
 use Rattle.definition.specs.Node.{Row, START, LIST, COUNT, fixnum_kind, hash_kind, kind, word, equal}
 use Rattle.definition.specs.Arena.{Arena, node, range, name_of, is_name}
 use Rattle.definition.specs.Build.{Lent, held, handles_checked}
-use Rattle.definition.specs.declared.Answer.TheVariants.{Accepted, Refused}
-use Rattle.definition.specs.declared.Costed.{Costed}
+use Rattle.definition.specs.Refused.{Answer, Accepted, Refused}
 use Rattle.definition.specs.declared.Refusal.TheVariants.{NotARecipe, NoPrice}
+use Rattle.definition.specs.declared.Refusal.{Refusal}
 
 -- ---- a hash as a recipe or as prices
 
@@ -120,7 +120,17 @@ cost_nodes recipe prices = check_recipe recipe >>= λ _. check_prices prices >>=
 unfoldable pub batch_cost : ℕ → ℕ → Run Lent ℕ
 batch_cost recipe prices = handles_checked (recipe ∷ prices ∷ []) >>= λ _. cost_nodes recipe prices
 
+-- what it answers
+pub record CostAnswer : Type 0 where
+  pub answer : Answer
+  pub cents : ℕ
+
+-- by the code's Result
+unfoldable pub cost_answer : Result ℕ Refusal → CostAnswer
+cost_answer (Ok n) = record { answer = Accepted; cents = n }
+cost_answer (Err q) = record { answer = Refused q; cents = 0 }
+
 -- its answer: refused, no cents
-unfoldable pub cost_done : Outcome Lent ℕ → Costed
+unfoldable pub cost_done : Outcome Lent ℕ → CostAnswer
 cost_done (ok cents L) = record { answer = Accepted; cents = cents }
 cost_done (refused r) = record { answer = Refused r; cents = 0 }

@@ -1,5 +1,5 @@
 -- What dump answers and what it leaves in output and scratch (01, "dump"; 02, 2.1, 2.4 and 2.9).
-use Rattle.std.specs.Prelude.{ℕ, zero, suc, ◌-◌, ◌*◌, ◌/◌, true, false, ◌||◌, List, [], ◌∷◌, ◌++◌, ltb, leb, eqb, length}
+use Rattle.std.specs.Prelude.{ℕ, zero, suc, ◌-◌, ◌*◌, ◌/◌, true, false, ◌||◌, List, [], ◌∷◌, ◌++◌, ltb, leb, eqb, length, Result, Ok, Err}
 use Rattle.std.proofs.Math.Option.{Option, none, some}
 use Rattle.definition.specs.Run.{Run, Outcome, ok, refused, pure, refuse, ◌>>=◌, look, pick}
 use Rattle.definition.specs.Integer.{integer_bytes}
@@ -8,11 +8,10 @@ use Rattle.definition.specs.Node.{Row, Vars, nil, bool, fixnum, symbol, array, h
 use Rattle.definition.specs.Magnitude.{magnitude, bignum_bytes}
 use Rattle.definition.specs.Slice.{NODES, REFERENCES, BYTES, OUTPUT, LIMIT, SCRATCH, greatest_limit}
 use Rattle.definition.specs.Arena.{Tables, Arena, arena, node, range, name_of, too_long, bad_nodes, lowest, allowed, fault, sound, padded, zeroed}
-use Rattle.definition.specs.declared.Answer.{Answer}
-use Rattle.definition.specs.declared.Answer.TheVariants.{Accepted, Refused}
+use Rattle.definition.specs.Refused.{Answer, Accepted, Refused}
 use Rattle.definition.specs.declared.Counts.{Counts}
-use Rattle.definition.specs.declared.Dumped.{Dumped}
 use Rattle.definition.specs.declared.Refusal.TheVariants.{TooDeep, NoSpace}
+use Rattle.definition.specs.declared.Refusal.{Refusal}
 
 -- the bytes written, and the symbols and objects met so far; a node's number is its place in its list
 pub record Written : Type 0 where
@@ -142,9 +141,19 @@ dump_wrong T scratch output limit =
     ((NODES, bad_nodes (length T.nodes)) ∷ (REFERENCES, too_long (length T.references)) ∷ (BYTES, too_long (length T.bytes)) ∷ (OUTPUT, too_long (length output))
     ∷ (LIMIT, ltb greatest_limit limit) ∷ (SCRATCH, too_long (length scratch) || ltb (length scratch) (length T.nodes / width)) ∷ [])
 
+-- what dump answers
+pub record DumpAnswer : Type 0 where
+  pub answer : Answer
+  pub written : ℕ
+
+-- by the code's Result
+unfoldable pub dump_answer : Result ℕ Refusal → DumpAnswer
+dump_answer (Ok n) = record { answer = Accepted; written = n }
+dump_answer (Err q) = record { answer = Refused q; written = 0 }
+
 -- a call's answer, and output and scratch as they then stand
 pub record DumpCall : Type 0 where
-  pub answer : Dumped
+  pub answer : DumpAnswer
   pub scratch : List ℕ
   pub output : List ℕ
 

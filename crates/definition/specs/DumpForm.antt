@@ -4,8 +4,8 @@ use Rattle.definition.specs.Node.{width}
 use Rattle.definition.specs.Arena.{tables_of}
 use Rattle.definition.specs.Load.{LoadCall, lists}
 use Rattle.definition.specs.Starred.{in_dump_form, holds, load_with, dump_with}
-use Rattle.definition.specs.declared.Answer.{Answer}
-use Rattle.definition.specs.declared.Answer.TheVariants.{Accepted, Refused}
+use Rattle.definition.specs.Refused.{Answer}
+use Rattle.definition.specs.Refused.{Accepted, Refused}
 use Rattle.definition.specs.declared.Refusal.TheVariants.{TooDeep}
 
 abbrev forms : List (List ℕ × Bool)

@@ -1,5 +1,5 @@
 -- What load answers and what it leaves in the tables: a reader over growing lists (01, "load"; 02, 2.1 to 2.4, 2.6 and 2.9).
-use Rattle.std.specs.Prelude.{ℕ, zero, suc, ◌+◌, ◌-◌, ◌*◌, ◌/◌, Bool, true, false, ◌&&◌, ◌||◌, List, [], ◌∷◌, ◌++◌, ltb, leb, eqb, length, get_or, set, replicate}
+use Rattle.std.specs.Prelude.{ℕ, zero, suc, ◌+◌, ◌-◌, ◌*◌, ◌/◌, Bool, true, false, ◌&&◌, ◌||◌, List, [], ◌∷◌, ◌++◌, ltb, leb, eqb, Result, Ok, Err, length, get_or, set, replicate}
 use Rattle.std.proofs.Math.Option.{Option, none, some}
 use Rattle.definition.specs.Run.{Outcome, ok, refused, pure, refuse, ◌>>=◌, look, pick}
 use Rattle.definition.specs.Integer.{Form, value as form_value, data_bytes, form, little, wrong_sign, integer_bytes}
@@ -10,11 +10,12 @@ use Rattle.definition.specs.Magnitude.{fits, sign, sign_byte, unit_bytes, bignum
 use Rattle.definition.specs.Slice.{NODES, REFERENCES, BYTES, SYMBOLS, OBJECTS, LIMIT, INPUT, greatest_limit}
 use Rattle.definition.specs.Arena.{range, too_long, bad_nodes, lowest, padded, zeroed, counts_of, find_symbol, compared_among}
 use Rattle.definition.specs.State.{Room, State, Reader, at_set, nodes_set, references_set, bytes_set, symbols_set, objects_set, noted, copied_more, compared_more}
-use Rattle.definition.specs.declared.Answer.TheVariants.{Accepted, Refused}
-use Rattle.definition.specs.declared.Loaded.{Loaded}
+use Rattle.definition.specs.Refused.{Answer, Accepted, Refused}
 use Rattle.definition.specs.declared.Refusal.{Refusal}
 use Rattle.definition.specs.declared.Refusal.TheVariants.{BadTables, InvalidVersion, ShortInput, InvalidKind, NegativeCount, MissingSymbol, MissingObject, NotASymbol, NotAnObject}
 use Rattle.definition.specs.declared.Refusal.TheVariants.{TooDeep, NoSpace, BadSign, TooBig, WrongSign, NotWrappable}
+use Rattle.definition.specs.declared.Counts.{Counts}
+use Rattle.definition.specs.declared.Loaded.{Loaded}
 
 -- ---- what is noted
 
@@ -319,13 +320,30 @@ load_tests input T limit =
 unfoldable pub load_wrong : List ℕ → Lists → ℕ → ℕ
 load_wrong input T limit = lowest (load_tests input T limit)
 
+-- what load answers
+pub record LoadAnswer : Type 0 where
+  pub answer : Answer
+  pub counts : Counts
+  pub used : ℕ
+  pub form : Bool
+
+-- "A load refused with 1 returns counts 0, 0, 0, 0, otherwise 1, 0, 0, 0"
+unfoldable pub counts_left : Refusal → Counts
+counts_left (BadTables slice) = counts_of 0 0 0 0
+counts_left q = counts_of 1 0 0 0
+
+-- by the code's Result; refused, "bytes used are then 0", "A refused load says no"
+unfoldable pub load_answer : Result Loaded Refusal → LoadAnswer
+load_answer (Ok r) = record { answer = Accepted; counts = r.counts; used = r.used; form = r.form }
+load_answer (Err q) = record { answer = Refused q; counts = counts_left q; used = 0; form = false }
+
 -- a call's answer, and everything lent as it then stands
 pub record LoadCall : Type 0 where
-  pub answer : Loaded
+  pub answer : LoadAnswer
   pub lent : Lists
 
 -- the two put together
-abbrev pub load_call_of : Loaded → Lists → LoadCall
+abbrev pub load_call_of : LoadAnswer → Lists → LoadCall
 load_call_of a T = record { answer = a; lent = T }
 
 -- "otherwise 1, 0, 0, 0 over zeroed tables; bytes used are then 0", "A refused load says no"; accepted: the lists laid out, then zeros, and "both lists are zero at the end"

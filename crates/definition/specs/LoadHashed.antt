@@ -1,22 +1,33 @@
 -- What the hashed load answers and what it leaves in the tables and the bucket table (02, 2.8).
-use Rattle.std.specs.Prelude.{ℕ, zero, suc, ◌/◌, Bool, ◌||◌, List, [], ◌∷◌, ◌++◌, ltb, length, get_or}
+use Rattle.std.specs.Prelude.{ℕ, zero, suc, ◌/◌, Bool, ◌||◌, List, [], ◌∷◌, ◌++◌, ltb, length, get_or, Result, Ok, Err}
 use Rattle.definition.specs.Run.{Outcome, ok, refused}
 use Rattle.definition.specs.Node.{nil, width}
 use Rattle.definition.specs.Slice.{BUCKETS}
 use Rattle.definition.specs.Arena.{name_of, too_long, lowest, zeroed}
 use Rattle.definition.specs.Buckets.{fnv_1a, searches, empty}
 use Rattle.definition.specs.State.{State}
-use Rattle.definition.specs.Load.{Lists, LoadCall, load, room_of, load_tests, load_done, load_if}
+use Rattle.definition.specs.Load.{LoadAnswer, load_answer, Lists, LoadCall, load, room_of, load_tests, load_done, load_if}
 use Rattle.definition.specs.declared.Hashed.{Hashed}
+use Rattle.definition.specs.declared.Refusal.{Refusal}
+
+-- what it answers
+pub record HashedAnswer : Type 0 where
+  pub load : LoadAnswer
+  pub looked : ℕ
+
+-- by the code's Result; "0 when refused"
+unfoldable pub hashed_answer : Result Hashed Refusal → HashedAnswer
+hashed_answer (Ok r) = record { load = load_answer (Ok r.load); looked = r.looked }
+hashed_answer (Err q) = record { load = load_answer (Err q); looked = 0 }
 
 -- its answer, and everything lent as it then stands, the bucket table too
 pub record HashedCall : Type 0 where
-  pub answer : Hashed
+  pub answer : HashedAnswer
   pub lent : Lists
   pub buckets : List ℕ
 
 -- the three put together
-abbrev pub hashed_call_of : Hashed → Lists → List ℕ → HashedCall
+abbrev pub hashed_call_of : HashedAnswer → Lists → List ℕ → HashedCall
 hashed_call_of a T B = record { answer = a; lent = T; buckets = B }
 
 -- "adds the number of words looked at" to load's answer

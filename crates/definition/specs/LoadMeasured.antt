@@ -1,17 +1,29 @@
 -- What the measuring load answers and what it leaves in the tables (02, 2.3).
-use Rattle.std.specs.Prelude.{ℕ, zero, suc, List}
+use Rattle.std.specs.Prelude.{ℕ, zero, suc, List, Result, Ok, Err}
 use Rattle.definition.specs.Run.{Outcome, ok, refused}
 use Rattle.definition.specs.State.{State}
-use Rattle.definition.specs.Load.{Lists, LoadCall, load, room_of, load_wrong, load_done, load_if}
+use Rattle.definition.specs.Load.{LoadAnswer, load_answer, Lists, LoadCall, load, room_of, load_wrong, load_done, load_if}
 use Rattle.definition.specs.declared.Measured.{Measured}
+use Rattle.definition.specs.declared.Refusal.{Refusal}
+
+-- what it answers
+pub record MeasuredAnswer : Type 0 where
+  pub load : LoadAnswer
+  pub copied : ℕ
+  pub compared : ℕ
+
+-- by the code's Result; "0 when refused"
+unfoldable pub measured_answer : Result Measured Refusal → MeasuredAnswer
+measured_answer (Ok r) = record { load = load_answer (Ok r.load); copied = r.copied; compared = r.compared }
+measured_answer (Err q) = record { load = load_answer (Err q); copied = 0; compared = 0 }
 
 -- its answer, and everything lent as it then stands
 pub record MeasuredCall : Type 0 where
-  pub answer : Measured
+  pub answer : MeasuredAnswer
   pub lent : Lists
 
 -- the two put together
-abbrev pub measured_call_of : Measured → Lists → MeasuredCall
+abbrev pub measured_call_of : MeasuredAnswer → Lists → MeasuredCall
 measured_call_of a T = record { answer = a; lent = T }
 
 -- "adds two counts to load's answer": the bytes copied and the bytes compared

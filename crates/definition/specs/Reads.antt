@@ -10,22 +10,22 @@ use Rattle.definition.specs.Load as L
 use Rattle.definition.specs.Load.{LoadCall, lists, load_call_of}
 use Rattle.definition.specs.Reader.{read_at, taken, header_taken, spanned, left, next_byte, next_header, next_integer, next_byte_string, load_next, offset_after}
 use Rattle.definition.specs.Starred.{holds, load_with}
-use Rattle.definition.specs.declared.Answer.TheVariants.{Accepted, Refused}
+use Rattle.definition.specs.Refused.{Accepted, Refused}
 use Rattle.definition.specs.declared.Refusal.{Refusal}
 use Rattle.definition.specs.declared.Refusal.TheVariants.{BadTables, InvalidVersion, ShortInput, NegativeCount, WrongSign}
-use Rattle.definition.specs.declared.Taken.{Taken}
-use Rattle.definition.specs.declared.Text.{Text}
+use Rattle.definition.specs.Reader.{TakenAnswer}
+use Rattle.definition.specs.Reader.{TextAnswer}
 
 -- a value, the offset after it, and whether dump writes its bytes; a refusal, and the offset given
-abbrev found : ℕ → ℕ → Bool → Taken
+abbrev found : ℕ → ℕ → Bool → TakenAnswer
 found v offset form = record { answer = Accepted; value = v; offset = offset; form = form }
 
-abbrev none : Refusal → ℕ → Taken
+abbrev none : Refusal → ℕ → TakenAnswer
 none q offset = record { answer = Refused q; value = 0; offset = offset; form = false }
 
 -- ---- bytes
 
-abbrev bytes : List ((List ℕ × ℕ) × Taken)
+abbrev bytes : List ((List ℕ × ℕ) × TakenAnswer)
 bytes =
     ((7 ∷ 8 ∷ 9 ∷ [], 0), found 7 1 true)
     ∷ ((7 ∷ 8 ∷ 9 ∷ [], 1), found 8 2 true)
@@ -41,7 +41,7 @@ lefts = ((7 ∷ 8 ∷ 9 ∷ [], 0), 3) ∷ ((7 ∷ 8 ∷ 9 ∷ [], 2), 1) ∷ ((
 
 -- ---- headers: an older version is not dump's; both bytes are read first
 
-abbrev headers : List ((List ℕ × ℕ) × Taken)
+abbrev headers : List ((List ℕ × ℕ) × TakenAnswer)
 headers =
     ((4 ∷ 8 ∷ 48 ∷ [], 0), found 0 2 true)
     ∷ ((4 ∷ 7 ∷ 48 ∷ [], 0), found 0 2 false)
@@ -55,7 +55,7 @@ headers =
 
 -- ---- integers
 
-abbrev integers : List ((List ℕ × ℕ) × Taken)
+abbrev integers : List ((List ℕ × ℕ) × TakenAnswer)
 integers =
     ((0x00 ∷ [], 0), found 0 1 true)
     ∷ ((0x05 ∷ [], 0), found 0 1 false)
@@ -74,13 +74,13 @@ integers =
 
 -- ---- byte strings: where the bytes start, and how many they are
 
-abbrev text : ℕ → ℕ → ℕ → Bool → Text
+abbrev text : ℕ → ℕ → ℕ → Bool → TextAnswer
 text start n offset form = record { answer = Accepted; start = start; length = n; offset = offset; form = form }
 
-abbrev no_text : Refusal → ℕ → Text
+abbrev no_text : Refusal → ℕ → TextAnswer
 no_text q offset = record { answer = Refused q; start = 0; length = 0; offset = offset; form = false }
 
-abbrev texts : List ((List ℕ × ℕ) × Text)
+abbrev texts : List ((List ℕ × ℕ) × TextAnswer)
 texts =
     ((0x07 ∷ 0x61 ∷ 0x62 ∷ [], 0), text 1 2 3 true)
     ∷ ((0x00 ∷ 0x01 ∷ 0x01 ∷ 0x61 ∷ 0x62 ∷ [], 1), text 3 1 4 false)

@@ -1,14 +1,22 @@
 -- The number and the two details of each refusal (01, "Refused calls"; 02, 2.4 to 2.7 and 2.9).
-use Rattle.std.specs.Prelude.{ℕ, ◌+◌, ◌-◌, Bool, true, false, ltb, ℤ, pos, negsuc}
+use Rattle.std.specs.Prelude.{ℕ, ◌-◌, ltb, ℤ, pos, negsuc, unsigned_abs, Result, Ok, Err}
 use Rattle.definition.specs.Run.{pick}
 use Rattle.definition.specs.declared.Fault.{Fault}
 use Rattle.definition.specs.declared.Fault.TheVariants.{Counts, Node}
 use Rattle.definition.specs.declared.Refusal.{Refusal}
 use Rattle.definition.specs.declared.Refusal.TheVariants.{BadTables, BadArena, InvalidVersion, ShortInput, InvalidKind, NegativeCount, MissingSymbol, MissingObject, NotASymbol, NotAnObject}
 use Rattle.definition.specs.declared.Refusal.TheVariants.{TooDeep, NoSpace, BadHandle, WrongKind, BadSign, TooBig, NotAWeight, BadMoisture, WrongSign, NotARecipe, NoPrice, NotWrappable}
-use Rattle.definition.specs.declared.Answer.{Answer}
 use Rattle.definition.specs.declared.Numbers.{Numbers}
-use Rattle.definition.specs.declared.Answer.TheVariants.{Accepted, Refused}
+
+-- accepted, or refused with a refusal
+pub data Answer : Type 0 where
+  Accepted : Answer
+  Refused : Refusal → Answer
+
+-- the code answers with a Result
+unfoldable pub answer_of : {A : Type 0} → Result A Refusal → Answer
+answer_of (Ok x) = Accepted
+answer_of (Err q) = Refused q
 
 -- "the 32 bits read as signed"
 unfoldable pub signed : ℕ → ℤ
@@ -49,20 +57,11 @@ unfoldable pub answer_numbers : Answer → ℕ × ℤ × ℤ
 answer_numbers Accepted = (0, pos 0, pos 0)
 answer_numbers (Refused r) = numbers r
 
--- ---- as programs take them: the first detail's sign apart
-
--- is an integer below zero, and how far is it from zero?
-unfoldable pub below : ℤ → Bool
-below (pos n) = false
-below (negsuc n) = true
-
-unfoldable pub size : ℤ → ℕ
-size (pos n) = n
-size (negsuc n) = n + 1
+-- ---- as programs take them
 
 -- the number and the two details, of which the second is never below zero
 unfoldable pub told : ℕ × ℤ × ℤ → Numbers
-told (n, first, second) = record { number = n; below = below first; first = size first; second = size second }
+told (n, first, second) = record { number = n; first = first; second = unsigned_abs second }
 
 -- a refusal's, and an answer's
 unfoldable pub numbers_told : Refusal → Numbers

@@ -13,8 +13,8 @@ use Rattle.definition.specs.Load as L
 use Rattle.definition.specs.LoadMeasured as LM
 use Rattle.definition.specs.LoadHashed as LH
 use Rattle.definition.specs.Dump as D
-use Rattle.definition.specs.declared.Answer.{Answer}
-use Rattle.definition.specs.declared.Answer.TheVariants.{Accepted, Refused}
+use Rattle.definition.specs.Refused.{Answer}
+use Rattle.definition.specs.Refused.{Accepted, Refused}
 use Rattle.definition.specs.declared.Counts.{Counts}
 
 -- ---- integers

@@ -1,5 +1,5 @@
 -- A node read as a number, and wet weight from dry weight (02, 2.5).
-use Rattle.std.specs.Prelude.{ℕ, ◌+◌, ◌-◌, ◌*◌, ◌^◌, ◌≤◌, ◌≡◌, Bool, true, false, ◌&&◌, ◌||◌, List, [], ◌∷◌, ◌++◌, ◌⊎◌, T, leb, eqb, pos, negsuc, length, drop, Float}
+use Rattle.std.specs.Prelude.{ℕ, ◌+◌, ◌-◌, ◌*◌, ◌^◌, ◌≤◌, ◌≡◌, Bool, true, false, ◌&&◌, ◌||◌, List, [], ◌∷◌, ◌++◌, ◌⊎◌, T, leb, eqb, pos, negsuc, length, drop, Float, Result, Ok, Err}
 use Rattle.std.proofs.Math.Option.{Option, none, some}
 use Rattle.std.specs.Float.{fin, binary64}
 use Rattle.std.specs.Float.Ieee.{neg, sub, div, lt, le, of_int, fits}
@@ -10,13 +10,12 @@ use Rattle.definition.specs.Refused.{signed}
 use Rattle.definition.specs.Node.{Row, START, LENGTH, fixnum_kind, float_kind, kind, word}
 use Rattle.definition.specs.Arena.{node, range}
 use Rattle.definition.specs.Build.{Lent, held, handles_checked}
-use Rattle.definition.specs.declared.Answer.TheVariants.{Accepted, Refused}
-use Rattle.definition.specs.declared.Read.{Read}
+use Rattle.definition.specs.Refused.{Answer, Accepted, Refused}
 use Rattle.definition.specs.declared.Reading.{Reading}
 use Rattle.definition.specs.declared.Reading.TheVariants.{Whole, Double, NotANumber}
 use Rattle.definition.specs.declared.Refusal.TheVariants.{NotAWeight, BadMoisture}
-use Rattle.definition.specs.declared.Weighed.{Weighed}
 use Rattle.definition.specs.declared.Weighing.{Weighing}
+use Rattle.definition.specs.declared.Refusal.{Refusal}
 
 -- ---- the text of a number: [minus] digits [point digits]
 
@@ -147,13 +146,31 @@ wet_weight dry moisture = handles_checked (dry ∷ moisture ∷ []) >>= λ _. we
 
 -- ---- the calls
 
+-- what `reading` and `wet_weight` answer
+pub record ReadingAnswer : Type 0 where
+  pub answer : Answer
+  pub reading : Reading
+
+pub record WeighedAnswer : Type 0 where
+  pub answer : Answer
+  pub weighing : Weighing
+
+-- by the code's Result; refused, not a number, and three positive zeros
+unfoldable pub reading_answer : Result Reading Refusal → ReadingAnswer
+reading_answer (Ok r) = record { answer = Accepted; reading = r }
+reading_answer (Err q) = record { answer = Refused q; reading = NotANumber }
+
+unfoldable pub weighed_answer : Result Weighing Refusal → WeighedAnswer
+weighed_answer (Ok w) = record { answer = Accepted; weighing = w }
+weighed_answer (Err q) = record { answer = Refused q; weighing = record { dry = positive_zero; moisture = positive_zero; wet = positive_zero } }
+
 -- `reading`'s answer
-unfoldable pub read_done : Outcome Lent Reading → Read
+unfoldable pub read_done : Outcome Lent Reading → ReadingAnswer
 read_done (ok r L) = record { answer = Accepted; reading = r }
 read_done (refused r) = record { answer = Refused r; reading = NotANumber }
 
 -- `wet_weight`'s: refused, three positive zeros
-unfoldable pub weighed_done : Outcome Lent Weighing → Weighed
+unfoldable pub weighed_done : Outcome Lent Weighing → WeighedAnswer
 weighed_done (ok w L) = record { answer = Accepted; weighing = w }
 weighed_done (refused r) = record { answer = Refused r; weighing = record { dry = positive_zero; moisture = positive_zero; wet = positive_zero } }
 

@@ -228,23 +228,16 @@ pub enum Refusal {
     NotWrappable(u8),
 }
 
-#[derive(Clone, Copy)]
-pub enum Answer {
-    Accepted,
-    Refused(Refusal),
-}
-
-// An answer's number and two details, for programs. Where `below` says so the first detail is below 0, and `first` is how far.
+// A refusal's number and two details, for programs; 0 is no refusal.
 #[derive(Clone, Copy)]
 pub struct Numbers {
     pub number: u32,
-    pub below: bool,
-    pub first: u32,
+    pub first: i64,
     pub second: u32,
 }
 
 // How much of the three tables is used, and the root's node.
-#[derive(Clone, Copy)]
+#[derive(Clone, Copy, PartialEq, Eq)]
 pub struct Counts {
     pub nodes: usize,
     pub references: usize,
@@ -255,7 +248,6 @@ pub struct Counts {
 // load: the counts of the arena it filled, the bytes of input used, and whether dump writes just these.
 #[derive(Clone, Copy)]
 pub struct Loaded {
-    pub answer: Answer,
     pub counts: Counts,
     pub used: usize,
     pub form: bool,
@@ -279,7 +271,6 @@ pub struct Hashed {
 // A reader's byte, header or integer: its value, for the header 0, the offset then, and whether dump writes these bytes.
 #[derive(Clone, Copy)]
 pub struct Taken {
-    pub answer: Answer,
     pub value: u32,
     pub offset: usize,
     pub form: bool,
@@ -289,45 +280,15 @@ pub struct Taken {
 // its length so.
 #[derive(Clone, Copy)]
 pub struct Text {
-    pub answer: Answer,
     pub start: usize,
     pub length: usize,
     pub offset: usize,
     pub form: bool,
 }
 
-// dump: the number of bytes written.
-#[derive(Clone, Copy)]
-pub struct Dumped {
-    pub answer: Answer,
-    pub written: usize,
-}
-
-// new: the counts of an arena that holds nil.
-#[derive(Clone, Copy)]
-pub struct Begun {
-    pub answer: Answer,
-    pub counts: Counts,
-}
-
-// root, kind and the like: one number.
-#[derive(Clone, Copy)]
-pub struct Number {
-    pub answer: Answer,
-    pub value: u32,
-}
-
-// get: a node's words.
-#[derive(Clone, Copy)]
-pub struct Words {
-    pub answer: Answer,
-    pub words: [u32; Node::WIDTH],
-}
-
 // get_symbol: where the name's bytes start, and how many they are.
 #[derive(Clone, Copy)]
 pub struct Name {
-    pub answer: Answer,
     pub start: u32,
     pub length: u32,
 }
@@ -335,7 +296,6 @@ pub struct Name {
 // create_*, replace_root and replace_class: the new node, the old root or the old class word, and the counts as they now are.
 #[derive(Clone, Copy)]
 pub struct Created {
-    pub answer: Answer,
     pub handle: u32,
     pub counts: Counts,
 }
@@ -348,31 +308,10 @@ pub enum Reading {
     NotANumber,
 }
 
-// reading: what the node reads as, not a number where the call is refused.
-#[derive(Clone, Copy)]
-pub struct Read {
-    pub answer: Answer,
-    pub reading: Reading,
-}
-
 // Dry weight, moisture and wet weight.
 #[derive(Clone, Copy)]
 pub struct Weighing {
     pub dry: f64,
     pub moisture: f64,
     pub wet: f64,
-}
-
-// wet_weight: the weighing, three positive zeros where the call is refused.
-#[derive(Clone, Copy)]
-pub struct Weighed {
-    pub answer: Answer,
-    pub weighing: Weighing,
-}
-
-// batch_cost: the sum in cents, 0 where the call is refused.
-#[derive(Clone, Copy)]
-pub struct Costed {
-    pub answer: Answer,
-    pub cents: u64,
 }

@@ -3,16 +3,17 @@
 
 ghost use Rattle.std.specs.Prelude.{◌≡◌, ℕ, ◌-◌, ◌<◌, length};
 ghost use Rattle.definition.specs.Arena.{Arena, range};
-ghost use Rattle.definition.specs.Dump.{write_elements, write_value, dump_call, dump_call_of};
+ghost use Rattle.definition.specs.Dump.{write_elements, write_value, dump_answer, dump_call, dump_call_of};
 ghost use Rattle.well_formed.specs.Right.{ListIn};
 ghost use Rattle.writer.specs.Held.{buffers, Lent, Listed, Ready, Meets, stopped};
 ghost use Rattle.dump.specs.Whole.{whole};
 
-use arena_check::{Checked, check, size};
-use definition::{Answer, Counts, Dumped, Node, Refusal, Slice};
+use arena_check::check;
+use definition::{Counts, Node, Refusal, Slice};
 use dumper::{list_words, open_value, wrong_slice};
-use store::{zero_bytes, zero_words};
-use writer::{DEEP, DONE, FULL, WHOLE, WRITTEN, write_byte, write_shorts};
+use object_writer::Opened;
+use store::fill_from;
+use writer::{Progress, Stop, write_byte, write_shorts};
 
 // The n values from reference `start` on, in order. Integers and links to symbols are most of a recipe: as many of them as come
 // next are written in a loop of their own, and then the value after them.
@@ -23,18 +24,18 @@ fn write_elements(
     bytes: &[u8],
     scratch: &mut [u32],
     output: &mut [u8],
-    c: &mut [usize; 3],
+    c: &mut Progress,
     start: usize,
     n: usize,
     levels: u32,
-) -> u32
+) -> Result<(), Stop>
     requires { Ready (λ A. Lent A nodes.now bytes.now × Listed A references.now × ListIn A start n) (buffers scratch.old output.old) c.old }
     ensures { (A : Arena) (room limit : ℕ) → Lent A nodes.now bytes.now → Listed A references.now → ListIn A start n → Meets A room limit (write_elements (write_value room A limit levels) (range A.references start n)) (buffers scratch.old output.old) c.old result (buffers scratch.new output.new) c.new }
 {
     let mut i = 0;
     while i < n {
         if levels == 0 {
-            return DEEP;
+            return Err(Stop::TooDeep);
         }
         let j = i
             + write_shorts(
@@ -47,24 +48,21 @@ fn write_elements(
                 n - i,
             );
         if n <= j {
-            return DONE;
+            return Ok(());
         }
-        let w = write_value(
+        write_value(
             &nodes[..],
             &references[..],
             &bytes[..],
             scratch,
             output,
             c,
-            size(references[start + j]),
+            references[start + j] as usize,
             levels,
-        );
-        if w != DONE {
-            return w;
-        }
+        )?;
         i = j + 1;
     }
-    DONE
+    Ok(())
 }
 
 // The value of node v, with so many levels left. The members of every kind are written by one call, so that a level of nesting
@@ -76,17 +74,17 @@ fn write_value(
     bytes: &[u8],
     scratch: &mut [u32],
     output: &mut [u8],
-    c: &mut [usize; 3],
+    c: &mut Progress,
     v: usize,
     levels: u32,
-) -> u32
+) -> Result<(), Stop>
     requires { Ready (λ A. Lent A nodes.now bytes.now × Listed A references.now × (v < length A.nodes)) (buffers scratch.old output.old) c.old }
     ensures { (A : Arena) (room limit : ℕ) → Lent A nodes.now bytes.now → Listed A references.now → v < length A.nodes → Meets A room limit (write_value room A limit levels v) (buffers scratch.old output.old) c.old result (buffers scratch.new output.new) c.new }
 {
     if levels == 0 {
-        return DEEP;
+        return Err(Stop::TooDeep);
     }
-    let w = open_value(
+    if let Opened::Whole = open_value(
         &nodes[..],
         &references[..],
         &bytes[..],
@@ -95,34 +93,27 @@ fn write_value(
         c,
         v,
         levels - 1,
-    );
-    if w == WHOLE {
-        return DONE;
-    }
-    if w != DONE {
-        return w;
+    )? {
+        return Ok(());
     }
     let k = nodes[v * Node::WIDTH];
-    let x = write_elements(
+    write_elements(
         &nodes[..],
         &references[..],
         &bytes[..],
         scratch,
         output,
         c,
-        size(nodes[v * Node::WIDTH + Node::LIST]),
+        nodes[v * Node::WIDTH + Node::LIST] as usize,
         list_words(k, nodes[v * Node::WIDTH + Node::COUNT]),
         levels - 1,
-    );
-    if x != DONE {
-        return x;
-    }
+    )?;
     if k != Node::HASH {
-        return DONE;
+        return Ok(());
     }
     let d = nodes[v * Node::WIDTH + Node::DEFAULT];
     if d == 0 {
-        return DONE;
+        return Ok(());
     }
     write_value(
         &nodes[..],
@@ -131,7 +122,7 @@ fn write_value(
         scratch,
         output,
         c,
-        size(d) - 1,
+        d as usize - 1,
         levels - 1,
     )
 }
@@ -143,21 +134,15 @@ fn write_root(
     bytes: &[u8],
     scratch: &mut [u32],
     output: &mut [u8],
-    c: &mut [usize; 3],
+    c: &mut Progress,
     root: usize,
     limit: u32,
-) -> u32
+) -> Result<(), Stop>
     requires { Ready (λ A. Lent A nodes.now bytes.now × Listed A references.now × (root < length A.nodes)) (buffers scratch.old output.old) c.old }
     ensures { (A : Arena) (room : ℕ) → Lent A nodes.now bytes.now → Listed A references.now → root < length A.nodes → root ≡ A.root → Meets A room limit (whole room A limit) (buffers scratch.old output.old) c.old result (buffers scratch.new output.new) c.new }
 {
-    let a = write_byte(output, c, 4);
-    if a != DONE {
-        return a;
-    }
-    let b = write_byte(output, c, 8);
-    if b != DONE {
-        return b;
-    }
+    write_byte(output, c, 4)?;
+    write_byte(output, c, 8)?;
     write_value(
         &nodes[..],
         &references[..],
@@ -170,15 +155,14 @@ fn write_root(
     )
 }
 
-// The refusal that the writers' answer w says.
-fn refusal(w: u32, limit: u32) -> Refusal
-    requires { 1 < w }
-    ensures { result ≡ stopped limit (w - 2) }
+// The refusal of a writer that stopped.
+fn refusal(stop: Stop, limit: u32) -> Refusal
+    ensures { result ≡ stopped limit stop }
 {
-    if w == FULL {
-        return Refusal::NoSpace(Slice::OUTPUT);
+    match stop {
+        Stop::NoSpace => Refusal::NoSpace(Slice::OUTPUT),
+        Stop::TooDeep => Refusal::TooDeep(limit)
     }
-    Refusal::TooDeep(limit)
 }
 
 // Dumps the arena into output, whose rest is zeroed last; numbers by node stand in scratch meanwhile.
@@ -190,8 +174,8 @@ pub fn dump(
     scratch: &mut [u32],
     output: &mut [u8],
     limit: u32,
-) -> Dumped
-    ensures { dump_call_of result.answer result.written scratch.new output.new ≡ dump_call (record { nodes = nodes.entry.now; references = references.now; bytes = bytes.now }) counts scratch.old output.old limit }
+) -> Result<usize, Refusal>
+    ensures { dump_call_of (dump_answer result).answer (dump_answer result).written scratch.new output.new ≡ dump_call (record { nodes = nodes.entry.now; references = references.now; bytes = bytes.now }) counts scratch.old output.old limit }
 {
     let w = wrong_slice(
         nodes.len(),
@@ -202,44 +186,29 @@ pub fn dump(
         scratch.len(),
     );
     if w != 0 {
-        return Dumped {
-            answer: Answer::Refused(Refusal::BadTables(w)),
-            written: 0,
-        };
+        return Err(Refusal::BadTables(w));
     }
-    let root = size(counts.root);
-    match check(&nodes[..], &references[..], &bytes[..], counts) {
-        Checked::Wrong(f) => Dumped {
-            answer: Answer::Refused(Refusal::BadArena(f)),
-            written: 0,
-        },
-        Checked::Right => {
-            zero_words(scratch, 0);
-            let mut c = [0usize; 3];
-            let w = write_root(
-                &nodes[..],
-                &references[..],
-                &bytes[..],
-                scratch,
-                output,
-                &mut c,
-                root,
-                limit,
-            );
-            zero_words(scratch, 0);
-            if w == DONE {
-                let n = c[WRITTEN];
-                zero_bytes(output, n);
-                return Dumped {
-                    answer: Answer::Accepted,
-                    written: n,
-                };
-            }
-            zero_bytes(output, 0);
-            Dumped {
-                answer: Answer::Refused(refusal(w, limit)),
-                written: 0,
-            }
+    let root = counts.root as usize;
+    check(nodes, references, bytes, counts).map_err(Refusal::BadArena)?;
+    fill_from(scratch, 0, 0);
+    let mut c = Progress {
+        written: 0,
+        symbols: 0,
+        objects: 0,
+    };
+    let w = write_root(
+        nodes, references, bytes, scratch, output, &mut c, root, limit,
+    );
+    fill_from(scratch, 0, 0);
+    match w {
+        Ok(()) => {
+            let written = c.written;
+            fill_from(output, written, 0);
+            Ok(written)
+        }
+        Err(stop) => {
+            fill_from(output, 0, 0);
+            Err(refusal(stop, limit))
         }
     }
 }

@@ -5,7 +5,7 @@ use Rattle.std.proofs.Math.Option.{Option, none, some}
 use Rattle.definition.specs.Run.{Outcome, ok, refused, pure, refuse, next, ◌>>=◌}
 use Rattle.definition.specs.Arena.{Tables, arena, allowed, fault, sound, padded, zeroed}
 use Rattle.definition.specs.Dump.{Written, dump, dump_wrong, dump_call_of, dump_done, dump_checked, dump_call}
-use Rattle.definition.specs.declared.Answer.TheVariants.{Accepted}
+use Rattle.definition.specs.Refused.{Accepted}
 use Rattle.definition.specs.declared.Counts.{Counts}
 use Rattle.definition.specs.declared.Fault.{Fault}
 use Rattle.lists.specs.Lists.{apart}

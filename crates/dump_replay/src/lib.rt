@@ -6,12 +6,9 @@
 #![tactic(auto)]
 
 use console::{BYTES, NODES, NUMBERED, REFERENCES};
-use definition::Dumped;
+use definition::Refusal;
 use dump::dump;
-use replay_cases::{
-    bytes_agree, bytes_at, counts_at, junk, laid, place, plus, same_answer, set_bytes, set_words,
-    touched, word, words_agree, words_at, zeros,
-};
+use replay_cases::{Case, Held};
 
 // Places in a case.
 const SIZES: usize = 2;
@@ -36,22 +33,27 @@ const GIVEN_AT: usize = 18;
 
 const TABLES: usize = 19;
 
-fn dumped_agrees(data: &[u8], r: Dumped, scratch: &[u32], output: &[u8]) -> bool {
-    let answer = r.answer;
-    let written = r.written;
-    let number = word(&data[..], ANSWER);
+fn dumped_agrees(
+    case: Case<'_>,
+    r: Result<usize, Refusal>,
+    scratch: &[u32],
+    output: &[u8],
+) -> bool {
+    let number = case.word(ANSWER);
     let answered = number == 0 || 2 < number;
-    let at = place(&data[..], GIVEN_AT);
-    let given = place(&data[..], GIVEN);
-    same_answer(&data[..], ANSWER, answer)
-        && place(&data[..], WRITTEN) == written
-        && words_agree(&data[..], touched(answered, zeros()), &scratch[..])
-        && bytes_agree(&data[..], touched(answered, laid(at, given)), &output[..])
+    let dumped = Held::Laid {
+        at: case.place(GIVEN_AT),
+        n: case.place(GIVEN),
+    };
+    case.answers(ANSWER, r)
+        && case.place(WRITTEN) == r.unwrap_or(0)
+        && Held::ZEROS.if_touched(answered).agrees(case, scratch)
+        && dumped.if_touched(answered).agrees(case, output)
 }
 
 // A case in tables, scratch and output of just its lengths.
 fn fitted_agrees(
-    data: &[u8],
+    case: Case<'_>,
     bytes: &[u8],
     nodes: &mut [u32],
     references: &mut [u32],
@@ -60,46 +62,44 @@ fn fitted_agrees(
 ) -> bool {
     let n = nodes.len();
     let r = references.len();
-    set_words(&data[..], laid(TABLES, n), nodes);
-    set_words(&data[..], laid(plus(TABLES, n), r), references);
-    set_words(&data[..], junk(), scratch);
-    set_bytes(&data[..], junk(), output);
-    let counts = counts_at(&data[..], COUNTS);
-    let limit = word(&data[..], LIMIT);
+    Held::Laid { at: TABLES, n }.set(case, nodes);
+    Held::Laid {
+        at: n.saturating_add(TABLES),
+        n: r,
+    }
+    .set(case, references);
+    Held::Junk.set(case, scratch);
+    Held::Junk.set(case, output);
     let done = dump(
         nodes,
         references,
-        &bytes[..],
-        counts,
+        bytes,
+        case.counts(COUNTS),
         scratch,
         output,
-        limit,
+        case.word(LIMIT),
     );
-    dumped_agrees(&data[..], done, scratch, output)
+    dumped_agrees(case, done, scratch, output)
 }
 
-pub fn agree(data: &[u8]) -> bool {
+pub fn agree(case: Case<'_>) -> bool {
     let mut nodes = [0u32; NODES];
     let mut references = [0u32; REFERENCES];
     let mut scratch = [0u32; NUMBERED];
     let mut output = [0u8; BYTES];
-    let n = words_at(&data[..], SIZES, &nodes);
-    let r = words_at(&data[..], SIZES + 1, &references);
-    let s = words_at(&data[..], SCRATCH, &scratch);
-    let o = bytes_at(&data[..], OUTPUT, &output);
-    let start = place(&data[..], BYTES_AT);
-    let end = plus(start, place(&data[..], SIZES + 2));
-    if end <= data.len() {
-        if start <= end {
-            return fitted_agrees(
-                &data[..],
-                &data[start..end],
-                &mut nodes[..n],
-                &mut references[..r],
-                &mut scratch[..s],
-                &mut output[..o],
-            );
-        }
+    let n = case.place(SIZES).min(NODES);
+    let r = case.place(SIZES + 1).min(REFERENCES);
+    let s = case.place(SCRATCH).min(NUMBERED);
+    let o = case.place(OUTPUT).min(BYTES);
+    match case.part(SIZES + 2, BYTES_AT) {
+        Some(bytes) => fitted_agrees(
+            case,
+            bytes,
+            &mut nodes[..n],
+            &mut references[..r],
+            &mut scratch[..s],
+            &mut output[..o],
+        ),
+        None => false,
     }
-    false
 }

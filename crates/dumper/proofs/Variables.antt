@@ -14,12 +14,17 @@ use Rattle.lists.specs.Lists.{At, at_get_d}
 use Rattle.lists.specs.Ranges.{length_range, range_next, range_none}
 use Rattle.well_formed.specs.Nodes.{node_at}
 use Rattle.well_formed.specs.Right.{PairsIn}
-use Rattle.writer.specs.Held.{Buffers, Listed, IsSymbol, Leads, Meets}
-use Rattle.writer.specs.Laws.{assoc, unit_right, lead_as, lead_after, lead_first, lead_goes, lead_stop}
+use Rattle.std.specs.declared.result.Result.TheVariants.{Ok, Err}
+use Rattle.writer.specs.declared.Progress.{Progress}
+use Rattle.writer.specs.declared.Stop.{Stop}
+use Rattle.writer.specs.declared.Stop.TheVariants.{TooDeep as Deep}
+use Rattle.writer.specs.Held.{Buffers, Listed, IsSymbol, Goes, Meets}
+use Rattle.writer.specs.Laws.{Passed, assoc, unit_right, then, goes_as, goes_first, lead_first}
 use Rattle.writer.proofs.Names.{is_symbol}
 use Rattle.writer.proofs.Scalars.{symbol_same}
 use Rattle.writer.proofs.Members.{listed_at, value_deep, value_row}
-use Rattle.object_writer.specs.Laws.{deep}
+use Rattle.object_writer.specs.Values.{Beginning, Heads}
+use Rattle.object_writer.specs.Laws.{deep, head_stop, head_after}
 
 first_of : (l : List ℕ) → 0 < length l → At (firsts l) 0 (get_or l 0 0)
 unfolding firsts
@@ -89,12 +94,12 @@ module _ (room : ℕ) {A : Arena} (limit levels start n : ℕ) (P : PairsIn A st
         )
 
     -- the call that writes the name, after the one that writes the count
-    module _ {B B₁ B₂ : Buffers} {c c₁ c₂ : List ℕ} {r s : ℕ} (z : levels ≡ 0) (done : r ≡ 0) (count : Meets A room limit (write room (integer_bytes n)) B c r B₁ c₁) (name : IsSymbol A a → Meets A room limit (write_name room A a) B₁ c₁ s B₂ c₂) where
-      name_next : Leads A room limit (write_instance_variables room A (write_value room A limit levels) start n) (refuse (TooDeep limit) >> (variables_deep z).0) B c s B₂ c₂
-      name_next = lead_as (variables_deep z).1 (lead_after (lead_goes done (lead_first _ count)) (lead_first _ (name first_name)))
+    module _ {B B₁ : Buffers} {c c₁ : Progress} {u : Unit {0}} (z : levels ≡ 0) (count : Meets A room limit (write room (integer_bytes n)) B c (Ok u) B₁ c₁) where
+      name_next : Goes A room (write_instance_variables room A (write_value room A limit levels) start n) B c (write_name room A a >> (refuse (TooDeep limit) >> (variables_deep z).0)) B₁ c₁
+      name_next = goes_as (variables_deep z).1 (goes_first _ count.leads)
 
-      pub name_stops : {m : Writer} → (s ≡ 0 → ⊥) → Leads A room limit (write_instance_variables room A (write_value room A limit levels) start n) m B c s B₂ c₂
-      name_stops e = lead_stop e name_next
+      pub name_stops : {B₂ : Buffers} {c₂ : Progress} {m : Writer} {q : Stop} {s : Beginning} → Passed s q → (IsSymbol A a → Meets A room limit (write_name room A a) B₁ c₁ (Err q) B₂ c₂) → Heads A room limit (write_instance_variables room A (write_value room A limit levels) start n) m B c s B₂ c₂
+      name_stops p name = head_after name_next (head_stop _ p (lead_first _ (name first_name)).leads)
 
-      pub name_deep : {m : Writer} → s ≡ 0 → Leads A room limit (write_instance_variables room A (write_value room A limit levels) start n) m B c 3 B₂ c₂
-      name_deep e = lead_after (lead_goes e name_next) (deep _)
+      pub name_deep : {B₂ : Buffers} {c₂ : Progress} {m : Writer} {w : Unit {0}} → (IsSymbol A a → Meets A room limit (write_name room A a) B₁ c₁ (Ok w) B₂ c₂) → Heads A room limit (write_instance_variables room A (write_value room A limit levels) start n) m B c (Err Deep) B₂ c₂
+      name_deep name = head_after (then name_next (goes_first _ (name first_name).leads)) (record { heads = deep limit _ })

@@ -2,22 +2,24 @@
 #![tactic(auto)]
 
 ghost use Rattle.std.specs.Prelude.{◌≡◌, ℕ, ◌+◌, ◌*◌, ◌<◌, length, get_or};
+ghost use Rattle.std.specs.declared.result.Result.TheVariants.{Ok};
 ghost use Rattle.definition.specs.Node.{width, LIST, COUNT, DEFAULT};
 ghost use Rattle.definition.specs.Arena.{Arena, node, range};
 ghost use Rattle.definition.specs.Dump.{write_level, write_elements, write_instance_variables, write_row, write_value};
 ghost use Rattle.well_formed.specs.Right.{PairsIn};
-ghost use Rattle.writer.specs.Held.{buffers, Lent, Listed, Ready, Leads};
+ghost use Rattle.writer.specs.Held.{buffers, Lent, Listed, Ready};
+ghost use Rattle.object_writer.specs.declared.Opened.TheVariants.{More};
 ghost use Rattle.object_writer.specs.Values.{Heads};
 ghost use Rattle.dumper.specs.Members.{listed, members_of, MembersIn};
 ghost use Rattle.dumper.specs.Lengths.{wrong, Allowed};
 
-use arena_check::{first_wrong, size, too_long, wrong_table};
+use arena_check::{first_wrong, too_long, wrong_table};
 use definition::{LIMIT, Node, Slice, ValueKind};
 use object_writer::{
-    number_object, open_bignum, open_classed, open_list, open_marked, open_text, whole,
+    Opened, number_object, open_bignum, open_classed, open_list, open_marked, open_text,
 };
 use writer::{
-    DEEP, DONE, WHOLE, write_byte_string, write_fixnum, write_named, write_scalar, write_symbol,
+    Progress, Stop, write_byte_string, write_fixnum, write_named, write_scalar, write_symbol,
 };
 
 // The number of pairs. A pair's words are a name and a value, so the pairs are then written as elements; but names have no
@@ -28,36 +30,30 @@ fn open_variables(
     bytes: &[u8],
     scratch: &mut [u32],
     output: &mut [u8],
-    c: &mut [usize; 3],
+    c: &mut Progress,
     start: u32,
     n: u32,
     levels: u32,
-) -> u32
+) -> Result<Opened, Stop>
     requires { Ready (λ A. Lent A nodes.now bytes.now × Listed A references.now × PairsIn A start n) (buffers scratch.old output.old) c.old }
-    ensures { (A : Arena) (room limit : ℕ) → Lent A nodes.now bytes.now → Listed A references.now → PairsIn A start n → Leads A room limit (write_instance_variables room A (write_value room A limit levels) start n) (write_elements (write_value room A limit levels) (range A.references start (n * 2))) (buffers scratch.old output.old) c.old result (buffers scratch.new output.new) c.new }
+    ensures { (A : Arena) (room limit : ℕ) → Lent A nodes.now bytes.now → Listed A references.now → PairsIn A start n → Heads A room limit (write_instance_variables room A (write_value room A limit levels) start n) (write_elements (write_value room A limit levels) (range A.references start (n * 2))) (buffers scratch.old output.old) c.old result (buffers scratch.new output.new) c.new }
 {
-    let w = write_fixnum(output, c, n);
-    if w != DONE {
-        return w;
-    }
+    write_fixnum(output, c, n)?;
     if levels != 0 {
-        return DONE;
+        return Ok(Opened::More);
     }
     if n == 0 {
-        return DONE;
+        return Ok(Opened::More);
     }
-    let s = write_symbol(
+    write_symbol(
         &nodes[..],
         &bytes[..],
         scratch,
         output,
         c,
-        size(references[size(start)]),
-    );
-    if s != DONE {
-        return s;
-    }
-    DEEP
+        references[start as usize] as usize,
+    )?;
+    Err(Stop::TooDeep)
 }
 
 // An object: its byte, its name, the number of its variables.
@@ -67,30 +63,26 @@ fn open_named(
     bytes: &[u8],
     scratch: &mut [u32],
     output: &mut [u8],
-    c: &mut [usize; 3],
+    c: &mut Progress,
     v: usize,
     levels: u32,
-) -> u32
+) -> Result<Opened, Stop>
     requires { (get_or nodes.now (v * width) 0 ≡ 6) × Ready (λ A. Lent A nodes.now bytes.now × Listed A references.now × (v < length A.nodes)) (buffers scratch.old output.old) c.old }
     ensures heads { (A : Arena) (room limit : ℕ) → Lent A nodes.now bytes.now → Listed A references.now → v < length A.nodes → Heads A room limit (write_row room A (write_level limit levels) (write_value room A limit levels) v (node A v)) (members_of room A (write_value room A limit levels) 6 (get_or nodes.now (v * width + LIST) 0) (get_or nodes.now (v * width + COUNT) 0) (get_or nodes.now (v * width + DEFAULT) 0)) (buffers scratch.old output.old) c.old result (buffers scratch.new output.new) c.new }
-    ensures members_in { (A : Arena) → Lent A nodes.now bytes.now → v < length A.nodes → result ≡ 0 → MembersIn A nodes.now v }
+    ensures members_in { (A : Arena) → Lent A nodes.now bytes.now → v < length A.nodes → result ≡ Ok More → MembersIn A nodes.now v }
 {
-    let w = number_object(scratch, output, c, v);
-    if w != DONE {
-        return w;
+    if let Opened::Whole = number_object(scratch, output, c, v)? {
+        return Ok(Opened::Whole);
     }
-    let s = write_named(
+    write_named(
         &nodes[..],
         &bytes[..],
         scratch,
         output,
         c,
         ValueKind::OBJECT,
-        size(nodes[v * Node::WIDTH + Node::NAME]),
-    );
-    if s != DONE {
-        return s;
-    }
+        nodes[v * Node::WIDTH + Node::NAME] as usize,
+    )?;
     open_variables(
         &nodes[..],
         &references[..],
@@ -111,16 +103,16 @@ fn open_string(
     bytes: &[u8],
     scratch: &mut [u32],
     output: &mut [u8],
-    c: &mut [usize; 3],
+    c: &mut Progress,
     v: usize,
     levels: u32,
-) -> u32
+) -> Result<Opened, Stop>
     requires { (get_or nodes.now (v * width) 0 ≡ 7) × Ready (λ A. Lent A nodes.now bytes.now × Listed A references.now × (v < length A.nodes)) (buffers scratch.old output.old) c.old }
     ensures heads { (A : Arena) (room limit : ℕ) → Lent A nodes.now bytes.now → Listed A references.now → v < length A.nodes → Heads A room limit (write_row room A (write_level limit levels) (write_value room A limit levels) v (node A v)) (members_of room A (write_value room A limit levels) 7 (get_or nodes.now (v * width + LIST) 0) (get_or nodes.now (v * width + COUNT) 0) (get_or nodes.now (v * width + DEFAULT) 0)) (buffers scratch.old output.old) c.old result (buffers scratch.new output.new) c.new }
-    ensures members_in { (A : Arena) → Lent A nodes.now bytes.now → v < length A.nodes → result ≡ 0 → MembersIn A nodes.now v }
+    ensures members_in { (A : Arena) → Lent A nodes.now bytes.now → v < length A.nodes → result ≡ Ok More → MembersIn A nodes.now v }
 {
     let f = nodes[v * Node::WIDTH + Node::VARIABLES];
-    let w = open_text(
+    if let Opened::Whole = open_text(
         &nodes[..],
         &bytes[..],
         scratch,
@@ -131,12 +123,11 @@ fn open_string(
         f,
         nodes[v * Node::WIDTH + Node::CLASS],
         levels,
-    );
-    if w != DONE {
-        return w;
+    )? {
+        return Ok(Opened::Whole);
     }
     if f == 0 {
-        return WHOLE;
+        return Ok(Opened::Whole);
     }
     open_variables(
         &nodes[..],
@@ -158,43 +149,36 @@ fn open_user_defined(
     bytes: &[u8],
     scratch: &mut [u32],
     output: &mut [u8],
-    c: &mut [usize; 3],
+    c: &mut Progress,
     v: usize,
     levels: u32,
-) -> u32
+) -> Result<Opened, Stop>
     requires { (get_or nodes.now (v * width) 0 ≡ 8) × Ready (λ A. Lent A nodes.now bytes.now × Listed A references.now × (v < length A.nodes)) (buffers scratch.old output.old) c.old }
     ensures heads { (A : Arena) (room limit : ℕ) → Lent A nodes.now bytes.now → Listed A references.now → v < length A.nodes → Heads A room limit (write_row room A (write_level limit levels) (write_value room A limit levels) v (node A v)) (members_of room A (write_value room A limit levels) 8 (get_or nodes.now (v * width + LIST) 0) (get_or nodes.now (v * width + COUNT) 0) (get_or nodes.now (v * width + DEFAULT) 0)) (buffers scratch.old output.old) c.old result (buffers scratch.new output.new) c.new }
-    ensures members_in { (A : Arena) → Lent A nodes.now bytes.now → v < length A.nodes → result ≡ 0 → MembersIn A nodes.now v }
+    ensures members_in { (A : Arena) → Lent A nodes.now bytes.now → v < length A.nodes → result ≡ Ok More → MembersIn A nodes.now v }
 {
     let f = nodes[v * Node::WIDTH + Node::VARIABLES];
-    let w = open_marked(scratch, output, c, v, f, levels);
-    if w != DONE {
-        return w;
+    if let Opened::Whole = open_marked(scratch, output, c, v, f, levels)? {
+        return Ok(Opened::Whole);
     }
-    let x = write_named(
+    write_named(
         &nodes[..],
         &bytes[..],
         scratch,
         output,
         c,
         ValueKind::USER_DEFINED,
-        size(nodes[v * Node::WIDTH + Node::NAME]),
-    );
-    if x != DONE {
-        return x;
-    }
-    let s = write_byte_string(
+        nodes[v * Node::WIDTH + Node::NAME] as usize,
+    )?;
+    write_byte_string(
         &bytes[..],
         output,
         c,
         nodes[v * Node::WIDTH + Node::START],
         nodes[v * Node::WIDTH + Node::LENGTH],
-    );
-    if s != DONE {
-        return s;
-    }
+    )?;
     if f == 0 {
-        return WHOLE;
+        return Ok(Opened::Whole);
     }
     open_variables(
         &nodes[..],
@@ -217,13 +201,13 @@ pub fn open_value(
     bytes: &[u8],
     scratch: &mut [u32],
     output: &mut [u8],
-    c: &mut [usize; 3],
+    c: &mut Progress,
     v: usize,
     levels: u32,
-) -> u32
+) -> Result<Opened, Stop>
     requires { Ready (λ A. Lent A nodes.now bytes.now × Listed A references.now × (v < length A.nodes)) (buffers scratch.old output.old) c.old }
     ensures heads { (A : Arena) (room limit : ℕ) → Lent A nodes.now bytes.now → Listed A references.now → v < length A.nodes → Heads A room limit (write_row room A (write_level limit levels) (write_value room A limit levels) v (node A v)) (members_of room A (write_value room A limit levels) (get_or nodes.now (v * width) 0) (get_or nodes.now (v * width + LIST) 0) (get_or nodes.now (v * width + COUNT) 0) (get_or nodes.now (v * width + DEFAULT) 0)) (buffers scratch.old output.old) c.old result (buffers scratch.new output.new) c.new }
-    ensures members_in { (A : Arena) → Lent A nodes.now bytes.now → v < length A.nodes → result ≡ 0 → MembersIn A nodes.now v }
+    ensures members_in { (A : Arena) → Lent A nodes.now bytes.now → v < length A.nodes → result ≡ Ok More → MembersIn A nodes.now v }
 {
     match nodes[v * Node::WIDTH] {
         Node::ARRAY => {
@@ -287,20 +271,29 @@ pub fn open_value(
             v,
             levels,
         ),
-        Node::FLOAT => whole(open_text(
-            &nodes[..],
-            &bytes[..],
-            scratch,
-            output,
-            c,
-            v,
-            ValueKind::FLOAT,
-            0,
-            0,
-            levels,
-        )),
-        Node::BIGNUM => whole(open_bignum(&nodes[..], scratch, output, c, v)),
-        _ => whole(write_scalar(&nodes[..], &bytes[..], scratch, output, c, v)),
+        Node::FLOAT => {
+            open_text(
+                &nodes[..],
+                &bytes[..],
+                scratch,
+                output,
+                c,
+                v,
+                ValueKind::FLOAT,
+                0,
+                0,
+                levels,
+            )?;
+            Ok(Opened::Whole)
+        }
+        Node::BIGNUM => {
+            open_bignum(&nodes[..], scratch, output, c, v)?;
+            Ok(Opened::Whole)
+        }
+        _ => {
+            write_scalar(&nodes[..], &bytes[..], scratch, output, c, v)?;
+            Ok(Opened::Whole)
+        }
     }
 }
 
@@ -309,9 +302,9 @@ pub fn list_words(k: u32, n: u32) -> usize
     ensures { result ≡ listed k n }
 {
     if k == Node::ARRAY {
-        size(n)
+        n as usize
     } else {
-        size(n) * 2
+        n as usize * 2
     }
 }
 

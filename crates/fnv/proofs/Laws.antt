@@ -1,15 +1,12 @@
--- The definition's exclusive-or is the machine's, a product of two words fits twice the bits, and a hash goes on byte by byte.
-use Prim.Native.Nat.{ℕ, zero, suc, ◌+◌, ◌*◌, ◌/◌, ◌%◌, ◌^◌, ◌≤◌, ◌<◌}
+-- The definition's exclusive-or is the machine's, and a hash is a fold over its bytes.
+use Prim.Native.Nat.{ℕ, zero, suc, ◌+◌, ◌*◌, ◌/◌, ◌%◌, ◌^◌, ◌<◌}
 use native.Mathlib.Omega.{arith}
-use native.Mathlib.Numerals.{add-one}
-use native.Mathlib.Nat.{pow-suc, mul-le-mul}
-use mathlib.Core.Path.{◌≡◌, refl, sym, ap}
-use mathlib.Core.List.{List}
+use native.Mathlib.Nat.{pow-suc}
+use mathlib.Core.Path.{◌≡◌, refl, sym}
+use mathlib.Core.List.{List, [], ◌∷◌}
 use lib.Bits.{bit_xor, differ, xor_step}
-use lib.ListN.{length, get_or, take, drop}
-use Rattle.definition.specs.Arena.{range}
-use Rattle.definition.specs.Buckets.{exclusive_or, fnv_from}
-use Rattle.lists.specs.Ranges.{range_step, range_end}
+use Rattle.std.specs.Prelude.{fold}
+use Rattle.definition.specs.Buckets.{exclusive_or, fnv_from, fnv_1a}
 
 -- two binary digits differ where their sum is odd
 odd : (x y : ℕ) → x < 2 → y < 2 → differ x y ≡ (x + y) % 2
@@ -35,19 +32,17 @@ xor_is (suc n) a b h l =
 pub xor_32 : (a b : ℕ) → a < 4294967296 → b < 256 → bit_xor a b ≡ exclusive_or 32 a b
 xor_32 a b h l = sym (xor_is 32 a b (omega arith) (omega arith))
 
-pub product_fits : (a b : ℕ) → a < 4294967296 → b < 4294967296 → a * b < 18446744073709551616
-product_fits a b h l =
-    let p : a ≤ 4294967295 = omega arith in
-    let q : b ≤ 4294967295 = omega arith in
-    omega (arith, mul-le-mul p q)
+-- ---- the hash as a fold
 
--- ---- the hash of a range
+-- the hash k after the byte b
+abbrev pub next_hash : ℕ → ℕ → ℕ
+next_hash k b = exclusive_or 32 k b * 16777619 % 4294967296
 
-module _ (l : List ℕ) (from n : ℕ) (h : from + n ≤ length l) where
-  pub hash_more : (k i : ℕ) → i < n → fnv_from k (drop i (take n (drop from l))) ≡ fnv_from (exclusive_or 32 k (get_or l (from + i) 0) * 16777619 % 4294967296) (drop (i + 1) (take n (drop from l)))
-  unfolding fnv_from range
-  hash_more k i g = rw (add-one i) (ap (fnv_from k) (range_step l from n i h g))
+hash_from : (k : ℕ) (l : List ℕ) → fold next_hash k l ≡ fnv_from k l
+unfolding fnv_from
+hash_from k [] = refl
+hash_from k (b ∷ bs) = hash_from (next_hash k b) bs
 
-  pub hash_all : (k i : ℕ) → n ≤ i → fnv_from k (drop i (take n (drop from l))) ≡ k
-  unfolding fnv_from range
-  hash_all k i g = ap (fnv_from k) (range_end l from n i h g)
+pub hash_fold : (l : List ℕ) → fold next_hash 2166136261 l ≡ fnv_1a l
+unfolding fnv_1a
+hash_fold l = hash_from 2166136261 l

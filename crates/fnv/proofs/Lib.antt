@@ -1,2 +1,2 @@
--- What the proofs share: exclusive-or and products of 32 bits, and a hash byte by byte.
+-- What the proofs share: exclusive-or of 32 bits, and a hash as a fold.
 pub mod Laws

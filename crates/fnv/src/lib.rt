@@ -8,11 +8,11 @@ const START: u32 = 2166136261;
 
 const PRIME: u32 = 16777619;
 
-// The low 32 bits of the product.
+// The low 32 bits of the product, by this name and with its meaning as document 01 asks.
 fn wrapping_mul(a: u32, b: u32) -> u32
     ensures { result ≡ a * b % 4294967296 }
 {
-    ((a as u64) * (b as u64) % 4294967296) as u32
+    a.wrapping_mul(b)
 }
 
 // The hash k after one byte more.
@@ -27,11 +27,7 @@ pub fn fnv_1a(input: &[u8], from: usize, n: usize) -> u32
     requires { from + n ≤ length input.now }
     ensures { result ≡ fnv_1a (take n (drop from input.now)) }
 {
-    let mut k = START;
-    let mut i: usize = 0;
-    while i < n {
-        k = hash_byte(k, input[from + i]);
-        i = i + 1;
-    }
-    k
+    input[from..from + n]
+        .iter()
+        .fold(START, |k, b| hash_byte(k, *b))
 }

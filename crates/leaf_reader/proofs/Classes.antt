@@ -6,18 +6,20 @@ use mathlib.Core.Bool.{Bool, true, false, ◌||◌}
 use mathlib.Core.Logic.{◌⊎◌, inl, inr}
 use mathlib.Core.List.{List}
 use lib.Dec.{eqb, ltb}
-use lib.ListN.{length, get_or, set, get_or-eq_default}
+use lib.ListN.{length, get_or, get_or-eq_default}
 use borrow.Author.Tests.{eq-eqb, ne_eqb, eqb-true, lt-ltb, le-ltb, ltb-false}
 use Rattle.definition.specs.Run.{pure, refuse, next, pick, look, ◌>>=◌}
 use Rattle.definition.specs.Kind.{STRING, ARRAY, HASH, HASH_DEFAULT, USER_CLASS}
 use Rattle.definition.specs.State.{Room, State, Reader, at_set}
 use Rattle.definition.specs.Load.{read_byte, read_symbol_like, read_string, read_array, read_hash, read_wrapped, read_user_class, value_of, head}
 use Rattle.definition.specs.declared.Refusal.TheVariants.{ShortInput, NotWrappable}
-use Rattle.reader.specs.Answers.{coded, at_short, at_wrapped, REFUSED}
-use Rattle.load_state.specs.Holds.{Lent, Goes, Leads, Meets, at_of}
+use Rattle.reader.specs.Answers.{refusal_at, stop, at_short}
+use Rattle.std.specs.Prelude.{Ok, Err}
+use Rattle.reader.specs.declared.Stop.{Stop}
+use Rattle.load_state.specs.declared.Progress.{Progress}
+use Rattle.load_state.specs.Holds.{Lent, Goes, Leads, Meets}
 use Rattle.load_state.specs.Laws.{still, given, goes_first, lead_after, refuses, bind_assoc}
 use Rattle.load_state.specs.Names.{untrue}
-use Rattle.load_state.specs.Places.{AT}
 use Rattle.input_reader.proofs.Input.{byte_goes}
 use Rattle.leaf_reader.specs.Classes.{wrappable, wrapping, named_class, read_class, valued, Follows}
 
@@ -25,42 +27,42 @@ use Rattle.leaf_reader.specs.Classes.{wrappable, wrapping, named_class, read_cla
 pub none_past : (input : List ℕ) (at : ℕ) → length input ≤ at → get_or input at 0 ≡ USER_CLASS → ⊥
 none_past input at l e = omega (arith, e, get_or-eq_default input 0 {n = at} l)
 
-module _ {input : List ℕ} {room : Room} {T : Lent} {c : List ℕ} where
+module _ {input : List ℕ} {room : Room} {T : Lent} {c : Progress} where
   -- another byte comes next: no class
-  pub no_class : {limit : ℕ} → (get_or input (at_of c) 0 ≡ USER_CLASS → ⊥) → Meets input room limit (read_class input room) T c 0 T c
+  pub no_class : {limit : ℕ} → (get_or input c.at 0 ≡ USER_CLASS → ⊥) → Meets input room limit (read_class input room) T c (Ok 0) T c
   unfolding read_class look pick
-  no_class n = given (λ s H. omega arith) (still λ s H. let k : at_of c ≡ s.at = H.counted.count_at in simp (← k, ne_eqb _ _ n))
+  no_class n = given (still λ s H. let k : c.at ≡ s.at = H.counted.count_at in simp (← k, ne_eqb _ _ n))
 
   -- `C` comes next
-  pub a_class : get_or input (at_of c) 0 ≡ USER_CLASS → Goes input room (read_class input room) T c (named_class input room) T c
+  pub a_class : get_or input c.at 0 ≡ USER_CLASS → Goes input room (read_class input room) T c (named_class input room) T c
   unfolding read_class look pick
-  a_class e = still λ s H. let k : at_of c ≡ s.at = H.counted.count_at in simp (← k, eq-eqb _ _ e)
+  a_class e = still λ s H. let k : c.at ≡ s.at = H.counted.count_at in simp (← k, eq-eqb _ _ e)
 
   -- and is passed
-  pub class_passed : at_of c < length input → Goes input room (named_class input room) T c (read_symbol_like input room >>= wrapping input) T (set c AT (at_of c + 1))
+  pub class_passed : c.at < length input → Goes input room (named_class input room) T c (read_symbol_like input room >>= wrapping input) T (record c { at = c.at + 1 })
   unfolding named_class
   class_passed l = goes_first _ (byte_goes l)
 
   module _ {limit : ℕ} (n : ℕ) where
     -- no byte after the name
-    pub wrapped_missing : {m' : Reader ℕ} {T' : Lent} {c' : List ℕ} → length input ≤ at_of c → Leads input room limit (wrapping input n) m' T c (coded 4 0) T' c'
+    pub wrapped_missing : {m' : ℕ → Reader ℕ} {T' : Lent} {c' : Progress} → length input ≤ c.at → Leads input room limit (wrapping input n) m' T c (Err (stop 4 0)) T' c'
     unfolding wrapping look pick
     wrapped_missing l =
-        lead_after {T' = T} {c' = c} (still λ s H. let k : at_of c ≡ s.at = H.counted.count_at in simp (← k, le-ltb _ _ l)) (refuses ShortInput (omega arith) (at_short limit))
+        lead_after {T = T} {c = c} (still λ s H. let k : c.at ≡ s.at = H.counted.count_at in simp (← k, le-ltb _ _ l)) (refuses ShortInput (at_short limit))
 
     -- one that can have no class
-    pub wrapped_other : {m' : Reader ℕ} {T' : Lent} {c' : List ℕ} → at_of c < length input → get_or input (at_of c) 0 ≤ 255 → wrappable (get_or input (at_of c) 0) ≡ false → Leads input room limit (wrapping input n) m' T c (coded 22 (get_or input (at_of c) 0)) T' c'
+    pub wrapped_other : {m' : ℕ → Reader ℕ} {T' : Lent} {c' : Progress} {q : Stop} → c.at < length input → refusal_at limit q.code ≡ NotWrappable (get_or input c.at 0) → wrappable (get_or input c.at 0) ≡ false → Leads input room limit (wrapping input n) m' T c (Err q) T' c'
     unfolding wrapping look pick
     wrapped_other l b e =
-        lead_after {T' = T} {c' = c} (still λ s H. let k : at_of c ≡ s.at = H.counted.count_at in simp (← k, lt-ltb _ _ l, e))
-        (refuses (NotWrappable (get_or input (at_of c) 0)) (omega arith) (at_wrapped limit (get_or input (at_of c) 0) b))
+        lead_after {T = T} {c = c} (still λ s H. let k : c.at ≡ s.at = H.counted.count_at in simp (← k, lt-ltb _ _ l, e))
+        (refuses (NotWrappable (get_or input c.at 0)) b)
 
     -- one that can
-    pub wrapped_right : n + 1 < REFUSED → at_of c < length input → wrappable (get_or input (at_of c) 0) ≡ true → Meets input room limit (wrapping input n) T c (n + 1) T c
+    pub wrapped_right : c.at < length input → wrappable (get_or input c.at 0) ≡ true → Meets input room limit (wrapping input n) T c (Ok (n + 1)) T c
     unfolding wrapping look pick
-    wrapped_right f l e =
+    wrapped_right l e =
         let z : suc n ≡ n + 1 = omega arith in
-        given (λ s H. f) (still λ s H. let k : at_of c ≡ s.at = H.counted.count_at in simp (← k, lt-ltb _ _ l, e, z))
+        given (still λ s H. let k : c.at ≡ s.at = H.counted.count_at in simp (← k, lt-ltb _ _ l, e, z))
 
 -- the kind byte after a class, and after none
 pub follows_one : (n : ℕ) {k : ℕ} → wrappable k ≡ true → Follows (n + 1) k

@@ -5,11 +5,14 @@ use mathlib.Core.Path.{◌≡◌, sym, ap, refl, ◌∙◌}
 use mathlib.Core.List.{List, [], ◌∷◌}
 use mathlib.Core.Logic.{◌⊎◌, inl, inr}
 use borrow.Author.Tests.{ne_eqb}
+use Rattle.std.specs.Prelude.{Result}
+use Rattle.reader.specs.declared.Stop.{Stop}
 use Rattle.definition.specs.Run.{pick}
 use Rattle.definition.specs.Kind.{NIL, TRUE, FALSE, FIXNUM, SYMBOL, SYMBOL_LINK, OBJECT_LINK, INSTANCE_VARIABLES, ARRAY, HASH, HASH_DEFAULT, OBJECT, STRING, USER_DEFINED, FLOAT, BIGNUM, USER_CLASS}
 use Rattle.definition.specs.Node.{Row, string, float, absent, words, kind}
 use Rattle.definition.specs.State.{Room, Reader}
 use Rattle.definition.specs.Load.{String, Float, Unknown, head, value_of, read_text, read_string, read_float, read_wrapped}
+use Rattle.load_state.specs.declared.Progress.{Progress}
 use Rattle.load_state.specs.Holds.{Lent, Leads, Plain}
 use Rattle.leaf_reader.specs.Parts.{Leaf}
 use Rattle.leaf_reader.specs.Classes.{valued}
@@ -17,7 +20,7 @@ use Rattle.input_reader.proofs.Heads.{headed}
 use Rattle.load_state.specs.Names.{other_kind}
 
 -- a value that is no string has no class
-pub plain : {input : List ℕ} {room : Room} {limit : ℕ} {T T' : Lent} {c c' : List ℕ} {r k w : ℕ} {m' : Reader ℕ} (inner : Reader ℕ) → (w ≡ 0) ⊎ (k ≡ STRING) → (k ≡ STRING → ⊥)
+pub plain : {input : List ℕ} {room : Room} {limit : ℕ} {T T' : Lent} {c c' : Progress} {r : Result ℕ Stop} {k w : ℕ} {m' : ℕ → Reader ℕ} (inner : Reader ℕ) → (w ≡ 0) ⊎ (k ≡ STRING) → (k ≡ STRING → ⊥)
     → Leads input room limit (value_of input room inner k (head k)) m' T c r T' c' → Leads input room limit (valued input room inner k w) m' T c r T' c'
 unfolding valued
 plain inner (inl e) n m = rw e m
@@ -28,7 +31,7 @@ pub other_byte : {k n : ℕ} → k ≡ n → (n ≡ STRING → ⊥) → k ≡ ST
 other_byte e f g = f (sym e ∙ g)
 
 -- a byte string alone, of one of two kinds
-pub text_headed : {input : List ℕ} {room : Room} {limit : ℕ} {T T' : Lent} {c c' : List ℕ} {r k number : ℕ} {m' : Reader ℕ} (inner : Reader ℕ) (w : ℕ) → (w ≡ 0) ⊎ (k ≡ STRING) → (k ≡ STRING) ⊎ (k ≡ FLOAT) → (k ≡ STRING → number ≡ 7) → ((k ≡ STRING → ⊥) → number ≡ 9)
+pub text_headed : {input : List ℕ} {room : Room} {limit : ℕ} {T T' : Lent} {c c' : Progress} {r : Result ℕ Stop} {k number : ℕ} {m' : ℕ → Reader ℕ} (inner : Reader ℕ) (w : ℕ) → (w ≡ 0) ⊎ (k ≡ STRING) → (k ≡ STRING) ⊎ (k ≡ FLOAT) → (k ≡ STRING → number ≡ 7) → ((k ≡ STRING → ⊥) → number ≡ 9)
     → ((row : ℕ → ℕ → Row) → ((start n : ℕ) → words (row start n) ≡ number ∷ start ∷ n ∷ 0 ∷ 0 ∷ 0 ∷ 0 ∷ w ∷ []) → ((start n : ℕ) → Plain (row start n)) → Leads input room limit (read_text input room row) m' T c r T' c')
     → Leads input room limit (valued input room inner k w) m' T c r T' c'
 unfolding head pick value_of read_string read_float read_wrapped valued kind words

@@ -2,7 +2,6 @@
 use Rattle.std.specs.Prelude.{ℕ, ◌≡◌, List}
 use Rattle.definition.specs.Run.{◌>>=◌}
 use Rattle.definition.specs.Kind.{INSTANCE_VARIABLES, ARRAY, HASH, HASH_DEFAULT, OBJECT, USER_CLASS}
-use Rattle.definition.specs.Node.{array, hash, object}
 use Rattle.definition.specs.State.{Room, Reader}
 use Rattle.definition.specs.Load.{read_unit_count, read_magnitude}
 

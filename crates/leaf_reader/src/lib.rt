@@ -1,55 +1,51 @@
 // Values without members, and the class before a value.
 //
-// What is lent and the counts `c` hold a state of the definition before a call. Below REFUSED the number answered is the
-// value that the definition's reader gives there, and a state is held again; from REFUSED on it is the reader's refusal.
+// What is lent and how far the load has come, `c`, hold a state of the definition before a call. What is answered is the
+// value that the definition's reader gives there, and a state is held again; or it is the reader's refusal.
 #![tactic(auto)]
 
-ghost use Rattle.std.specs.Prelude.{◌≡◌, List, [], ◌∷◌, ℕ, ◌+◌, ◌*◌, ◌/◌, ◌%◌, ◌<◌, ◌≤◌, ◌⊎◌, eqb, length, get_or};
+ghost use Rattle.std.specs.Prelude.{◌≡◌, List, [], ◌∷◌, ℕ, ◌+◌, ◌*◌, ◌/◌, ◌%◌, ◌<◌, ◌≤◌, ◌⊎◌, eqb, IfOk, length, get_or};
 ghost use Rattle.definition.specs.Integer.{low_bytes};
 ghost use Rattle.definition.specs.Magnitude.{sign, sign_byte, bignum_row};
 ghost use Rattle.definition.specs.Kind.{STRING, USER_CLASS, PLUS, MINUS};
 ghost use Rattle.definition.specs.Node.{Row, words};
 ghost use Rattle.definition.specs.State.{Room, Reader};
 ghost use Rattle.definition.specs.Load.{read_fixnum, read_object_link, read_text, read_user_defined, read_sign, read_magnitude, read_bignum, add_bignum, add_object_node};
-ghost use Rattle.load_state.specs.Holds.{Symbols, Lent, lent, by_buckets, Held, Somewhere, Goes, Leads, Meets, Plain, at_of, nodes_of};
+ghost use Rattle.load_state.specs.Holds.{Symbols, Lent, lent, by_buckets, Held, Somewhere, Goes, Leads, Meets, Plain, Numbered};
 ghost use Rattle.leaf_reader.specs.Parts.{Leaf, read_number, WORD};
 ghost use Rattle.leaf_reader.specs.Classes.{wrappable, named_class, read_class, valued, Follows};
-ghost use Rattle.reader.specs.Answers.{REFUSED};
 
 use bignum::{fewest_units, magnitude_at};
 use definition::{Bignum, Node, ValueKind};
 use input_reader::{read_byte_string, read_count, read_integer};
-use load_state::{AT, COUNTS, FORM, OBJECTS};
-use reader::{
-    BIGNUM_TOO_BIG, INVALID_KIND, MISSING_OBJECT, REFUSED, SHORT_INPUT, not_wrappable, sign_byte,
-    wide,
-};
-use symbol_reader::{entry_at, read_symbol, read_symbol_like, read_symbol_link};
+use load_state::Progress;
+use reader::{Stop, sign_byte};
+use symbol_reader::{read_symbol, read_symbol_like, read_symbol_link};
 use table_writer::{add_bytes, add_node, add_object_node};
 
 // A magnitude is two words of its node, each below this.
 const WORD: u64 = 4294967296;
 
 // The entry of the object list that the index read names.
-fn read_object_link(input: &[u8], objects: &[u32], c: &mut [usize; COUNTS]) -> u64
+fn read_object_link(input: &[u8], objects: &[u32], c: &mut Progress) -> Result<usize, Stop>
     requires { (no : List ℕ) × (re : List ℕ) × (by : List ℕ) × (sy : Symbols) × Held input.now (lent no re by sy objects.now) c.old }
     ensures meets { (room : Room) (limit : ℕ) (no re by : List ℕ) (sy : Symbols) → Meets input.now room limit (read_object_link input.now) (lent no re by sy objects.now) c.old result (lent no re by sy objects.now) c.new }
-    ensures upper_bound { result < REFUSED → result < nodes_of c.new }
+    ensures upper_bound { IfOk result (Numbered c.new) }
 {
-    let n = read_count(&input[..], c);
-    entry_at(&objects[..], c[OBJECTS], n, MISSING_OBJECT)
+    let n = read_count(input, c)?;
+    if c.objects <= n {
+        return Err(Stop::missing_object(n as u32));
+    }
+    Ok(objects[n] as usize)
 }
 
 // A node of the integer read.
-fn read_fixnum(input: &[u8], nodes: &mut [u32], c: &mut [usize; COUNTS]) -> u64
+fn read_fixnum(input: &[u8], nodes: &mut [u32], c: &mut Progress) -> Result<usize, Stop>
     requires { (re : List ℕ) × (by : List ℕ) × (sy : Symbols) × (ob : List ℕ) × Held input.now (lent nodes.old re by sy ob) c.old }
     ensures meets { (room : Room) (limit : ℕ) (re by : List ℕ) (sy : Symbols) (ob : List ℕ) → Meets input.now room limit (read_fixnum input.now room) (lent nodes.old re by sy ob) c.old result (lent nodes.new re by sy ob) c.new }
-    ensures upper_bound { result < REFUSED → result < nodes_of c.new }
+    ensures upper_bound { IfOk result (Numbered c.new) }
 {
-    let n = read_integer(&input[..], c);
-    if REFUSED <= n {
-        return n;
-    }
+    let n = read_integer(input, c)?;
     add_node(nodes, c, Node::FIXNUM, n as u32, 0, 0, 0, 0)
 }
 
@@ -59,23 +55,17 @@ fn read_text(
     nodes: &mut [u32],
     bytes: &mut [u8],
     objects: &mut [u32],
-    c: &mut [usize; COUNTS],
+    c: &mut Progress,
     kind: u32,
     name: u32,
     class: u32,
-) -> u64
+) -> Result<usize, Stop>
     requires { (re : List ℕ) × (sy : Symbols) × Held input.now (lent nodes.old re bytes.old sy objects.old) c.old }
     ensures by_index { (room : Room) (limit : ℕ) (row : ℕ → ℕ → Row) (re : List ℕ) (sy : Symbols) → ((start n : ℕ) → words (row start n) ≡ kind ∷ start ∷ n ∷ 0 ∷ 0 ∷ name ∷ 0 ∷ class ∷ []) → ((start n : ℕ) → Plain (row start n)) → Meets input.now room limit (read_text input.now room row) (lent nodes.old re bytes.old sy objects.old) c.old result (lent nodes.new re bytes.new sy objects.new) c.new }
-    ensures upper_bound { result < REFUSED → result < nodes_of c.new }
+    ensures upper_bound { IfOk result (Numbered c.new) }
 {
-    let n = read_byte_string(&input[..], c);
-    if REFUSED <= n {
-        return n;
-    }
-    let start = add_bytes(&input[..], bytes, c, n);
-    if REFUSED <= start {
-        return start;
-    }
+    let n = read_byte_string(input, c)?;
+    let start = add_bytes(input, bytes, c, n)?;
     add_object_node(
         nodes,
         objects,
@@ -90,43 +80,40 @@ fn read_text(
 }
 
 // A Bignum's sign byte.
-fn read_sign(input: &[u8], c: &mut [usize; COUNTS]) -> u64
+fn read_sign(input: &[u8], c: &mut Progress) -> Result<usize, Stop>
     requires { Somewhere input.now c.old }
     ensures meets { (room : Room) (limit : ℕ) (T : Lent) → Meets input.now room limit (read_sign input.now) T c.old result T c.new }
-    ensures fact { result < REFUSED → (result ≡ PLUS) ⊎ (result ≡ MINUS) }
+    ensures fact { IfOk result (λ b. (b ≡ PLUS) ⊎ (b ≡ MINUS)) }
 {
-    let at = c[AT];
+    let at = c.at;
     if input.len() <= at {
-        return SHORT_INPUT;
+        return Err(Stop::SHORT_INPUT);
     }
-    c[AT] = at + 1;
+    c.at = at + 1;
     sign_byte(input[at])
 }
 
 // The count of a Bignum's units, which are there and are left; a count that is too great comes before units that are not.
-fn read_units(input: &[u8], c: &mut [usize; COUNTS]) -> u64
+fn read_units(input: &[u8], c: &mut Progress) -> Result<usize, Stop>
     requires { Somewhere input.now c.old }
-    ensures leads { (room : Room) (limit b : ℕ) (T : Lent) → Leads input.now room limit (read_number input.now room b) (read_magnitude input.now room b result) T c.old result T c.new }
-    ensures upper_bound { result < REFUSED → (result ≤ 4) × (at_of c.new + result * 2 ≤ length input.now) }
+    ensures leads { (room : Room) (limit b : ℕ) (T : Lent) → Leads input.now room limit (read_number input.now room b) (read_magnitude input.now room b) T c.old result T c.new }
+    ensures upper_bound { IfOk result (λ n. (n ≤ 4) × (c.new.at + n * 2 ≤ length input.now)) }
 {
-    let n = read_count(&input[..], c);
-    if REFUSED <= n {
-        return n;
+    let n = read_count(input, c)?;
+    if Bignum::UNITS < n as u64 {
+        return Err(Stop::too_big(n as u32));
     }
-    if Bignum::UNITS < n {
-        return BIGNUM_TOO_BIG + n;
+    if input.len() - c.at < n * 2 {
+        return Err(Stop::SHORT_INPUT);
     }
-    if input.len() - c[AT] < n as usize * 2 {
-        return SHORT_INPUT;
-    }
-    n
+    Ok(n)
 }
 
 // A magnitude's sign as its node has it, by the sign byte: zero is plus.
-fn sign_word(b: u64, m: u64) -> u32
+fn sign_word(b: usize, m: u64) -> u32
     ensures { words (bignum_row (eqb b MINUS) m) ≡ 10 ∷ m % WORD ∷ m / WORD ∷ 0 ∷ result ∷ 0 ∷ 0 ∷ 0 ∷ [] }
 {
-    if b != Bignum::MINUS as u64 {
+    if b != Bignum::MINUS as usize {
         return 0;
     }
     if m == 0 {
@@ -136,25 +123,25 @@ fn sign_word(b: u64, m: u64) -> u32
 }
 
 // Does dump write a magnitude with the sign byte b? Not zero with a minus.
-fn keeps_sign(b: u64, m: u64) -> bool
+fn keeps_sign(b: usize, m: u64) -> bool
     requires { (b ≡ PLUS) ⊎ (b ≡ MINUS) }
     ensures { result ≡ eqb b (sign_byte (sign (eqb b MINUS) m)) }
 {
-    if b != Bignum::MINUS as u64 {
+    if b != Bignum::MINUS as usize {
         return true;
     }
     m != 0
 }
 
 // That dump writes a magnitude with another sign byte than b, or with other units than n, is noted.
-fn note_bignum(c: &mut [usize; COUNTS], b: u64, n: u64, m: u64)
+fn note_bignum(c: &mut Progress, b: usize, n: usize, m: u64)
     requires { (b ≡ PLUS) ⊎ (b ≡ MINUS) }
     ensures { (input : List ℕ) (room : Room) (T : Lent) → Goes input room (add_bignum room b (low_bytes (n * 2) m) m) T c.old (add_object_node room (bignum_row (eqb b MINUS) m)) T c.new }
 {
-    if keeps_sign(b, m) & (n == wide(fewest_units(m))) {
+    if keeps_sign(b, m) & (n == fewest_units(m) as usize) {
         return;
     }
-    c[FORM] = 1;
+    c.form = false;
 }
 
 // The node of the magnitude that n units at the offset say, which are passed.
@@ -162,21 +149,21 @@ fn read_magnitude(
     input: &[u8],
     nodes: &mut [u32],
     objects: &mut [u32],
-    c: &mut [usize; COUNTS],
-    b: u64,
-    n: u64,
-) -> u64
-    requires { ((b ≡ PLUS) ⊎ (b ≡ MINUS)) × (n ≤ 4) × (at_of c.old + n * 2 ≤ length input.now) × ((re : List ℕ) × (by : List ℕ) × (sy : Symbols) × Held input.now (lent nodes.old re by sy objects.old) c.old) }
+    c: &mut Progress,
+    b: usize,
+    n: usize,
+) -> Result<usize, Stop>
+    requires { ((b ≡ PLUS) ⊎ (b ≡ MINUS)) × (n ≤ 4) × (c.old.at + n * 2 ≤ length input.now) × ((re : List ℕ) × (by : List ℕ) × (sy : Symbols) × Held input.now (lent nodes.old re by sy objects.old) c.old) }
     ensures meets { (room : Room) (limit : ℕ) (re by : List ℕ) (sy : Symbols) → Meets input.now room limit (read_magnitude input.now room b n) (lent nodes.old re by sy objects.old) c.old result (lent nodes.new re by sy objects.new) c.new }
-    ensures upper_bound { result < REFUSED → result < nodes_of c.new }
+    ensures upper_bound { IfOk result (Numbered c.new) }
 {
-    let at = c[AT];
-    let k = n as usize * 2;
-    let m = magnitude_at(&input[..], at, k);
+    let at = c.at;
+    let k = n * 2;
+    let m = magnitude_at(input, at, k);
     if Bignum::TOO_BIG <= m {
-        return BIGNUM_TOO_BIG + n;
+        return Err(Stop::too_big(n as u32));
     }
-    c[AT] = at + k;
+    c.at = at + k;
     note_bignum(c, b, n, m);
     add_object_node(
         nodes,
@@ -192,20 +179,19 @@ fn read_magnitude(
 }
 
 // A Bignum: its sign byte, its count of units, its units, and its node.
-fn read_bignum(input: &[u8], nodes: &mut [u32], objects: &mut [u32], c: &mut [usize; COUNTS]) -> u64
+fn read_bignum(
+    input: &[u8],
+    nodes: &mut [u32],
+    objects: &mut [u32],
+    c: &mut Progress,
+) -> Result<usize, Stop>
     requires { (re : List ℕ) × (by : List ℕ) × (sy : Symbols) × Held input.now (lent nodes.old re by sy objects.old) c.old }
     ensures meets { (room : Room) (limit : ℕ) (re by : List ℕ) (sy : Symbols) → Meets input.now room limit (read_bignum input.now room) (lent nodes.old re by sy objects.old) c.old result (lent nodes.new re by sy objects.new) c.new }
-    ensures upper_bound { result < REFUSED → result < nodes_of c.new }
+    ensures upper_bound { IfOk result (Numbered c.new) }
 {
-    let b = read_sign(&input[..], c);
-    if REFUSED <= b {
-        return b;
-    }
-    let n = read_units(&input[..], c);
-    if REFUSED <= n {
-        return n;
-    }
-    read_magnitude(&input[..], nodes, objects, c, b, n)
+    let b = read_sign(input, c)?;
+    let n = read_units(input, c)?;
+    read_magnitude(input, nodes, objects, c, b, n)
 }
 
 // A name and a byte string, and their node.
@@ -216,18 +202,15 @@ fn read_user_defined(
     symbols: &mut [u32],
     objects: &mut [u32],
     buckets: &mut [u32],
-    c: &mut [usize; COUNTS],
-) -> u64
+    c: &mut Progress,
+) -> Result<usize, Stop>
     requires { (re : List ℕ) × Held input.now (lent nodes.old re bytes.old (by_buckets symbols.old buckets.old) objects.old) c.old }
     ensures meets { (room : Room) (limit : ℕ) (re : List ℕ) → Meets input.now room limit (read_user_defined input.now room) (lent nodes.old re bytes.old (by_buckets symbols.old buckets.old) objects.old) c.old result (lent nodes.new re bytes.new (by_buckets symbols.new buckets.new) objects.new) c.new }
-    ensures upper_bound { result < REFUSED → result < nodes_of c.new }
+    ensures upper_bound { IfOk result (Numbered c.new) }
 {
-    let name = read_symbol_like(&input[..], nodes, bytes, symbols, buckets, c);
-    if REFUSED <= name {
-        return name;
-    }
+    let name = read_symbol_like(input, nodes, bytes, symbols, buckets, c)?;
     read_text(
-        &input[..],
+        input,
         nodes,
         bytes,
         objects,
@@ -258,30 +241,30 @@ pub fn read_leaf(
     symbols: &mut [u32],
     objects: &mut [u32],
     buckets: &mut [u32],
-    c: &mut [usize; COUNTS],
+    c: &mut Progress,
     k: u8,
     class: u32,
-) -> u64
+) -> Result<usize, Stop>
     requires { (re : List ℕ) × Held input.now (lent nodes.old re bytes.old (by_buckets symbols.old buckets.old) objects.old) c.old }
     ensures meets { (room : Room) (limit : ℕ) (inner : Reader ℕ) (re : List ℕ) → Leaf k → (class ≡ 0) ⊎ (k ≡ STRING) → Meets input.now room limit (valued input.now room inner k class) (lent nodes.old re bytes.old (by_buckets symbols.old buckets.old) objects.old) c.old result (lent nodes.new re bytes.new (by_buckets symbols.new buckets.new) objects.new) c.new }
-    ensures upper_bound { result < REFUSED → result < nodes_of c.new }
+    ensures upper_bound { IfOk result (Numbered c.new) }
 {
     match k {
-        ValueKind::FIXNUM => read_fixnum(&input[..], nodes, c),
-        ValueKind::SYMBOL_LINK => read_symbol_link(&input[..], symbols, c),
+        ValueKind::FIXNUM => read_fixnum(input, nodes, c),
+        ValueKind::SYMBOL_LINK => read_symbol_link(input, symbols, c),
         ValueKind::STRING | ValueKind::FLOAT => {
-            read_text(&input[..], nodes, bytes, objects, c, text_kind(k), 0, class)
+            read_text(input, nodes, bytes, objects, c, text_kind(k), 0, class)
         }
-        ValueKind::SYMBOL => read_symbol(&input[..], nodes, bytes, symbols, buckets, c),
+        ValueKind::SYMBOL => read_symbol(input, nodes, bytes, symbols, buckets, c),
         ValueKind::NIL => add_node(nodes, c, Node::NIL, 0, 0, 0, 0, 0),
         ValueKind::TRUE => add_node(nodes, c, Node::BOOL, 1, 0, 0, 0, 0),
         ValueKind::FALSE => add_node(nodes, c, Node::BOOL, 0, 0, 0, 0, 0),
-        ValueKind::OBJECT_LINK => read_object_link(&input[..], objects, c),
+        ValueKind::OBJECT_LINK => read_object_link(input, objects, c),
         ValueKind::USER_DEFINED => {
-            read_user_defined(&input[..], nodes, bytes, symbols, objects, buckets, c)
+            read_user_defined(input, nodes, bytes, symbols, objects, buckets, c)
         }
-        ValueKind::BIGNUM => read_bignum(&input[..], nodes, objects, c),
-        _ => INVALID_KIND + k as u64,
+        ValueKind::BIGNUM => read_bignum(input, nodes, objects, c),
+        _ => Err(Stop::invalid_kind(k)),
     }
 }
 
@@ -304,26 +287,23 @@ fn read_class_name(
     bytes: &mut [u8],
     symbols: &mut [u32],
     buckets: &mut [u32],
-    c: &mut [usize; COUNTS],
-) -> u64
-    requires { (at_of c.old < length input.now) × ((re : List ℕ) × (ob : List ℕ) × Held input.now (lent nodes.old re bytes.old (by_buckets symbols.old buckets.old) ob) c.old) }
+    c: &mut Progress,
+) -> Result<usize, Stop>
+    requires { (c.old.at < length input.now) × ((re : List ℕ) × (ob : List ℕ) × Held input.now (lent nodes.old re bytes.old (by_buckets symbols.old buckets.old) ob) c.old) }
     ensures meets { (room : Room) (limit : ℕ) (re ob : List ℕ) → Meets input.now room limit (named_class input.now room) (lent nodes.old re bytes.old (by_buckets symbols.old buckets.old) ob) c.old result (lent nodes.new re bytes.new (by_buckets symbols.new buckets.new) ob) c.new }
-    ensures follows { result < REFUSED → Follows result (get_or input.now (at_of c.new) 0) }
+    ensures follows { IfOk result (λ w. Follows w (get_or input.now c.new.at 0) × (w < 4294967296)) }
 {
-    c[AT] = c[AT] + 1;
-    let name = read_symbol_like(&input[..], nodes, bytes, symbols, buckets, c);
-    if REFUSED <= name {
-        return name;
-    }
-    let at = c[AT];
+    c.at += 1;
+    let name = read_symbol_like(input, nodes, bytes, symbols, buckets, c)?;
+    let at = c.at;
     if input.len() <= at {
-        return SHORT_INPUT;
+        return Err(Stop::SHORT_INPUT);
     }
     let k = input[at];
     if !is_wrappable(k) {
-        return not_wrappable(k);
+        return Err(Stop::not_wrappable(k));
     }
-    name + 1
+    Ok(name + 1)
 }
 
 // The class of the value that comes next, as a node holds it: 0 where no `C` comes.
@@ -333,18 +313,18 @@ pub fn read_class(
     bytes: &mut [u8],
     symbols: &mut [u32],
     buckets: &mut [u32],
-    c: &mut [usize; COUNTS],
-) -> u64
+    c: &mut Progress,
+) -> Result<usize, Stop>
     requires { (re : List ℕ) × (ob : List ℕ) × Held input.now (lent nodes.old re bytes.old (by_buckets symbols.old buckets.old) ob) c.old }
     ensures meets { (room : Room) (limit : ℕ) (re ob : List ℕ) → Meets input.now room limit (read_class input.now room) (lent nodes.old re bytes.old (by_buckets symbols.old buckets.old) ob) c.old result (lent nodes.new re bytes.new (by_buckets symbols.new buckets.new) ob) c.new }
-    ensures follows { result < REFUSED → Follows result (get_or input.now (at_of c.new) 0) }
+    ensures follows { IfOk result (λ w. Follows w (get_or input.now c.new.at 0) × (w < 4294967296)) }
 {
-    let at = c[AT];
+    let at = c.at;
     if input.len() <= at {
-        return 0;
+        return Ok(0);
     }
     if input[at] != ValueKind::USER_CLASS {
-        return 0;
+        return Ok(0);
     }
-    read_class_name(&input[..], nodes, bytes, symbols, buckets, c)
+    read_class_name(input, nodes, bytes, symbols, buckets, c)
 }

@@ -2,14 +2,9 @@
 // first that is refused, whose refusal it prints.
 #![tactic(auto)]
 
+use programs::Program;
 use std::process::ExitCode;
 
 fn main(rt: HostRuntime) -> ExitCode {
-    programs::run(
-        rt.stdin(),
-        rt.stderr(),
-        programs::LIST_ALL,
-        b"list_all: standard input",
-        b"list_all: standard output",
-    )
+    programs::run(rt.stdin(), rt.stderr(), Program::ListAll)
 }

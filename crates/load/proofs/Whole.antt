@@ -1,43 +1,45 @@
 -- The whole load: what is held at the start, and what stands at the end.
+use Rattle.std.specs.Prelude as code
+use Rattle.std.specs.Prelude.{Result, Ok, Err, Some, None, IfSome, is_some, unwrap_or}
+use Rattle.reader.specs.declared.Stop.{Stop}
 use Prim.Native.Nat.{ℕ, zero, suc, ◌-◌, ◌*◌, ◌/◌, ◌≤◌, ◌<◌}
 use native.Mathlib.Omega.{arith}
 use mathlib.Core.Path.{◌≡◌, refl, sym, ap, ◌∙◌, subst}
 use mathlib.Core.Bool.{Bool, true, false}
 use mathlib.Core.List.{List, [], ◌∷◌, ◌++◌}
 use mathlib.Core.Logic.{◌⊎◌, inl, inr}
-use lib.Dec.{leb, ltb, eqb}
-use lib.ListN.{length, set, replicate, take, drop, length-drop, length-replicate, drop_of_length-le}
+use lib.Dec.{leb, ltb}
+use lib.ListN.{length, replicate, take, drop, length-drop, length-replicate, drop_of_length-le}
 use lib.Seq.{sets, take_all}
 use borrow.Author.Tests.{leb-true, leb-false, ltb-false}
 use Rattle.definition.specs.Run.{pure, pick}
 use Rattle.definition.specs.Node.{nil, kind, words, flat, width}
-use Rattle.definition.specs.Arena.{named, find_symbol, zeroed, lowest, too_long}
+use Rattle.definition.specs.Arena.{named, find_symbol, zeroed, lowest, too_long, counts_of}
 use Rattle.definition.specs.Buckets.{Buckets, searches, empty}
-use Rattle.definition.specs.Load.{Lists, lists, begin, load, room_of, load_tests, load_wrong, load_done, load_if, load_call, load_call_of}
-use Rattle.definition.specs.LoadMeasured.{measured_done, measured_if, measured_call, measured_call_of}
-use Rattle.definition.specs.LoadHashed.{hash_at, words_looked, bad_buckets, hashed_wrong, hashed_done, hashed_if, hashed_call, hashed_call_of}
+use Rattle.definition.specs.Load.{Lists, lists, counts_left, load_answer, begin, load, room_of, load_tests, load_wrong, load_done, load_if, load_call, load_call_of}
+use Rattle.definition.specs.LoadMeasured.{measured_answer, measured_done, measured_if, measured_call, measured_call_of}
+use Rattle.definition.specs.LoadHashed.{hashed_answer, hash_at, words_looked, bad_buckets, hashed_wrong, hashed_done, hashed_if, hashed_call, hashed_call_of}
 use Rattle.definition.specs.Reader.{load_next}
 use Rattle.definition.specs.Hashes.{last_passes}
 use Rattle.definition.specs.Arena as A
 use Rattle.definition.specs.declared.Refusal.TheVariants.{BadTables}
 use Rattle.definition.specs.declared.Refusal.{Refusal}
-use Rattle.definition.specs.declared.Answer.TheVariants.{Accepted, Refused}
+use Rattle.definition.specs.Refused.{Refused}
 use Rattle.definition.specs.Slice.{greatest_length}
 use Rattle.lists.specs.Joined.{or_none}
 use Rattle.lists.specs.Slices.{short}
 use Rattle.lists.specs.Offsets.{next_allowed, next_denied}
 use Rattle.lists.specs.Words.{length_flat}
 use Rattle.store.specs.Laws.{cleared, cleared_whole}
-use Rattle.reader.specs.Answers.{refusal_at, REFUSED}
-use Rattle.load_state.specs.Holds.{lent, by_buckets, Begins, Holds, Held, Meets, AllFit, Interned, Hashing, hashes, find_listed, symbols_in, risen, at_of, nodes_of, references_of, bytes_of, form_of, compared_from_one, looked_of}
+use Rattle.reader.specs.Answers.{refusal_at, nil_left}
+use Rattle.load_state.specs.declared.Progress.{Progress}
+use Rattle.load_state.specs.Holds.{lent, by_buckets, Begins, Holds, Held, Meets, AllFit, Interned, Hashing, hashes, find_listed, symbols_in, risen}
 use Rattle.loader.specs.Lengths.{Allowed, wrong}
-use Rattle.load_state.specs.Counts.{still_counting}
 use Rattle.load_state.specs.Stores.{none, push, padded}
 use Rattle.value_reader.specs.Root.{whole}
-use Rattle.load.specs.Call.{loaded_as, measured_as, hashed_as, counted_as}
+use Rattle.load.specs.Call.{load_of, measured_of, hashed_of, loaded_as, counted_as}
 use Rattle.load.specs.declared.Counted.{Counted}
-use Rattle.load_state.specs.Names.{nil_plain}
-use Rattle.load_state.specs.Places.{COUNTS, NODES, COMPARED_FROM_ONE, ROOM}
+use Rattle.load_state.specs.Names.{nil_plain, untrue}
 
 -- ---- zeros
 
@@ -51,9 +53,9 @@ emptied t t₀ e l = e ∙ cleared_whole t ∙ ap (λ (n : ℕ). replicate n 0) 
 
 -- ---- the start
 
--- k is 1 where the bytes compared are counted; there is room for n nodes
-abbrev pub first_counts : ℕ → ℕ → List ℕ
-first_counts k n = set (set (set (replicate COUNTS 0) NODES 1) COMPARED_FROM_ONE k) ROOM n
+-- the bytes compared are counted from k on, or not; there is room for n nodes
+abbrev pub first_counts : code.Option ℕ → ℕ → Progress
+first_counts k n = record { at = 0; nodes = 1; references = 0; bytes = 0; symbols = 0; objects = 0; form = true; compared = k; looked = 0; room = n }
 
 first_fit : AllFit 0 (nil ∷ [])
 first_fit zero l = λ p. absurd (nil_plain p)
@@ -67,15 +69,15 @@ abbrev pub Fine : List ℕ → Lists → Bool → Type 0
 Fine input T t = Allowed (length T.nodes) (length T.references) (length T.bytes) (length T.symbols) (length T.objects) (length input) t
 
 -- no bucket table, or one of which it is told whether it is wrong, and then nothing is counted
-abbrev pub Bucketed : Lists → List ℕ → ℕ → Bool → Type 0
-Bucketed T B k t = ((length B ≡ 0) × (t ≡ false)) ⊎ ((k ≡ 0) × (t ≡ bad_buckets (length T.nodes / width) (length B)))
+abbrev pub Bucketed : Lists → List ℕ → code.Option ℕ → Bool → Type 0
+Bucketed T B k t = ((length B ≡ 0) × (t ≡ false)) ⊎ ((k ≡ None) × (t ≡ bad_buckets (length T.nodes / width) (length B)))
 
 -- a bucket table that is not wrong
 right_buckets : (n m : ℕ) → bad_buckets n m ≡ false → (n ≤ m) × (m ≤ greatest_length)
 unfolding bad_buckets
 right_buckets n m e = let (a, b) = or_none (ltb m n) (too_long m) e in (ltb-false m n a, short m b)
 
-module _ (input : List ℕ) (T : Lists) (B : List ℕ) (k : ℕ) (t : Bool) (F : Fine input T t) (l : k ≤ 1) (d : Bucketed T B k t) {no B₁ : List ℕ} (e : no ≡ sets T.nodes 0 (0 ∷ 0 ∷ 0 ∷ 0 ∷ 0 ∷ 0 ∷ 0 ∷ 0 ∷ [])) (z : B₁ ≡ zeroed B) where
+module _ (input : List ℕ) (T : Lists) (B : List ℕ) (k : code.Option ℕ) (t : Bool) (F : Fine input T t) (l : IfSome k (λ n. n ≡ 0)) (d : Bucketed T B k t) {no B₁ : List ℕ} (e : no ≡ sets T.nodes 0 (0 ∷ 0 ∷ 0 ∷ 0 ∷ 0 ∷ 0 ∷ 0 ∷ 0 ∷ [])) (z : B₁ ≡ zeroed B) where
   first_node : Begins (length T.nodes) (flat (nil ∷ [])) no
   unfolding flat words
   first_node = rw e (push (0 ∷ 0 ∷ 0 ∷ 0 ∷ 0 ∷ 0 ∷ 0 ∷ 0 ∷ []) (none T.nodes refl) (omega (arith, F.whole, F.one)))
@@ -84,11 +86,11 @@ module _ (input : List ℕ) (T : Lists) (B : List ℕ) (k : ℕ) (t : Bool) (F :
   unfolding zeroed
   same_size = ap length z ∙ length-replicate (length B) 0
 
-  first_buckets : (B₁ ≡ [] → ⊥) → Hashing (length T.nodes / width) [] (nil ∷ []) [] B₁ (first_counts k (length T.nodes / width))
+  first_buckets : (B₁ ≡ [] → ⊥) → Hashing (length T.nodes / width) [] (nil ∷ []) [] B₁ 0 (is_some k)
   unfolding searches zeroed
   first_buckets b = go d
     where
-      go : Bucketed T B k t → Hashing (length T.nodes / width) [] (nil ∷ []) [] B₁ (first_counts k (length T.nodes / width))
+      go : Bucketed T B k t → Hashing (length T.nodes / width) [] (nil ∷ []) [] B₁ 0 (is_some k)
       go (inl (u, _)) = absurd (b (z ∙ ap (λ (n : ℕ). replicate n 0) u))
       go (inr (u, r)) =
           let (g, h) = right_buckets (length T.nodes / width) (length B) (sym r ∙ F.buckets_right) in
@@ -99,16 +101,16 @@ module _ (input : List ℕ) (T : Lists) (B : List ℕ) (k : ℕ) (t : Bool) (F :
             unique = λ i j a. absurd (omega arith);
             nonzero = λ i a. absurd (omega arith);
             one = omega arith;
-            uncounted = u;
+            uncounted = ap is_some u;
           }
 
   begins : Holds input (room_of T) begin (lent no T.references T.bytes (by_buckets T.symbols B₁) T.objects) (first_counts k (length T.nodes / width))
   unfolding room_of
   begins = record {
-    fixed = record { small = record { nodes = omega (arith, F.nodes_small, F.whole); references = F.references_small; bytes = F.bytes_small; symbols = F.symbols_small; objects = F.objects_small }; short = F.input_small; ten = refl; count_space = refl };
+    fixed = record { small = record { nodes = omega (arith, F.nodes_small, F.whole); references = F.references_small; bytes = F.bytes_small; symbols = F.symbols_small; objects = F.objects_small }; short = F.input_small; count_space = refl };
     laid = record { nodes = subst (λ (n : ℕ). Begins n (flat (nil ∷ [])) no) (sym F.whole) first_node; references = none T.references refl; bytes = none T.bytes refl; symbols = none T.symbols refl; objects = none T.objects refl };
     counted = record { count_at = refl; inside = omega arith; count_nodes = refl; room_nodes = F.one; count_references = refl; count_bytes = refl; count_symbols = refl; count_objects = refl };
-    noted = record { form = refl; counted = λ n. omega (arith, n, l); copied = refl; compared = omega arith };
+    noted = record { form = refl; counted = l; copied = refl; compared = omega arith };
     known = record { below = λ i l. absurd (omega arith); entries = λ i l. absurd (omega arith); fit = first_fit; names = λ _. record { interned = first_symbols; hashed = first_buckets } };
   }
 
@@ -117,16 +119,20 @@ module _ (input : List ℕ) (T : Lists) (B : List ℕ) (k : ℕ) (t : Bool) (F :
 
 -- ---- the call
 
-module _ (input : List ℕ) (T : Lists) (B : List ℕ) (limit k : ℕ) (t : Bool) where
+counted_number : {n : ℕ} (o : code.Option ℕ) → is_some o ≡ true → IfSome o (λ k. k ≡ n) → unwrap_or o 0 ≡ n
+counted_number None e f = untrue e
+counted_number (Some k) e f = f
+
+module _ (input : List ℕ) (T : Lists) (B : List ℕ) (limit : ℕ) (k : code.Option ℕ) (t : Bool) where
   abbrev bad : ℕ
   bad = wrong (length T.nodes) (length T.references) (length T.bytes) (length T.symbols) (length T.objects) limit (length input) t
 
   -- what an answer and all lent are to each of the three loads
-  abbrev pub Answers : Counted → Lists → List ℕ → Type 0
+  abbrev pub Answers : Result Counted Refusal → Lists → List ℕ → Type 0
   Answers r T' B' =
-      (t ≡ false → load_call_of r.load T' ≡ load_call input T limit)
-      × (t ≡ false → k ≡ 1 → measured_call_of (measured_as r.load r.copied r.compared) T' ≡ measured_call input T limit)
-      × (t ≡ bad_buckets (length T.nodes / width) (length B) → hashed_call_of (hashed_as r.load r.looked) T' B' ≡ hashed_call input T B limit)
+      (t ≡ false → load_call_of (load_of r) T' ≡ load_call input T limit)
+      × (t ≡ false → k ≡ Some 0 → measured_call_of (measured_of r) T' ≡ measured_call input T limit)
+      × (t ≡ bad_buckets (length T.nodes / width) (length B) → hashed_call_of (hashed_of r) T' B' ≡ hashed_call input T B limit)
 
   plain_wrong : t ≡ false → bad ≡ load_wrong input T limit
   unfolding load_wrong
@@ -136,13 +142,13 @@ module _ (input : List ℕ) (T : Lists) (B : List ℕ) (limit k : ℕ) (t : Bool
   unfolding hashed_wrong
   hash_wrong f = ap (λ (b : Bool). lowest (load_tests input T limit ++ ((11, b) ∷ []))) f
 
-  pub not_taken : (w : ℕ) {r : Counted} → r ≡ counted_as (loaded_as (Refused (BadTables w)) 0 0 0 0 0 false) 0 0 0 → w ≡ bad → (w ≡ 0 → ⊥) → Answers r T B
-  unfolding load_call measured_call hashed_call load_if measured_if hashed_if
-  not_taken zero q e n = absurd (n refl)
-  not_taken (suc w) q e n = (
-    λ f. ap (λ r. load_call_of r.load T) q ∙ ap (λ (i : ℕ). load_if i input T limit) (e ∙ plain_wrong f),
-    λ f _. ap (λ r. measured_call_of (measured_as r.load r.copied r.compared) T) q ∙ ap (λ (i : ℕ). measured_if i input T limit) (e ∙ plain_wrong f),
-    λ f. ap (λ r. hashed_call_of (hashed_as r.load r.looked) T B) q ∙ ap (λ (i : ℕ). hashed_if i input T B limit) (e ∙ hash_wrong f),
+  pub not_taken : (w : ℕ) → w ≡ bad → (w ≡ 0 → ⊥) → Answers (Err (BadTables w)) T B
+  unfolding load_call measured_call hashed_call load_if measured_if hashed_if load_answer measured_answer hashed_answer counts_left
+  not_taken zero e n = absurd (n refl)
+  not_taken (suc w) e n = (
+    λ f. ap (λ (i : ℕ). load_if i input T limit) (e ∙ plain_wrong f),
+    λ f _. ap (λ (i : ℕ). measured_if i input T limit) (e ∙ plain_wrong f),
+    λ f. ap (λ (i : ℕ). hashed_if i input T B limit) (e ∙ hash_wrong f),
   )
 
   -- nothing is wrong: what the loads come to
@@ -153,40 +159,40 @@ module _ (input : List ℕ) (T : Lists) (B : List ℕ) (limit k : ℕ) (t : Bool
     λ f. ap (λ (i : ℕ). hashed_if i input T B limit) (sym z ∙ e ∙ hash_wrong f),
   )
 
-  module _ (w : ℕ) (e : w ≡ bad) (z : w ≡ 0) (F : Fine input T t) (l : k ≤ 1) (d : Bucketed T B k t) {no₁ B₁ : List ℕ} (first : no₁ ≡ sets T.nodes 0 (0 ∷ 0 ∷ 0 ∷ 0 ∷ 0 ∷ 0 ∷ 0 ∷ 0 ∷ [])) (zeros : B₁ ≡ zeroed B) {no re by sy B₂ ob c : List ℕ} {h : ℕ} (m : Meets input (room_of T) limit (whole input (room_of T) limit) (lent no₁ T.references T.bytes (by_buckets T.symbols B₁) T.objects) (first_counts k (length T.nodes / width)) h (lent no re by (by_buckets sy B₂) ob) c) where
-    pub loaded : {no' re' by' sy' ob' B' : List ℕ} {x : ℕ} → x ≡ compared_from_one c - 1 → h < REFUSED → no' ≡ cleared (nodes_of c * width) no → re' ≡ cleared (references_of c) re → by' ≡ cleared (bytes_of c) by → sy' ≡ zeroed T.symbols → ob' ≡ zeroed T.objects → B' ≡ zeroed B → length B₂ ≡ length B
-        → Answers (counted_as (loaded_as Accepted (nodes_of c) (references_of c) (bytes_of c) h (at_of c) (eqb (form_of c) 0)) (bytes_of c) x (looked_of c)) (lists no' re' by' sy' ob') B'
-    unfolding load load_done measured_done hashed_done words_looked hash_at pure A.padded room_of
-    loaded n g p q r u v a b =
-        let G = m.goes g in
+  module _ (w : ℕ) (e : w ≡ bad) (z : w ≡ 0) (F : Fine input T t) (l : IfSome k (λ n. n ≡ 0)) (d : Bucketed T B k t) {no₁ B₁ : List ℕ} (first : no₁ ≡ sets T.nodes 0 (0 ∷ 0 ∷ 0 ∷ 0 ∷ 0 ∷ 0 ∷ 0 ∷ 0 ∷ [])) (zeros : B₁ ≡ zeroed B) where
+    pub loaded : {no re by sy B₂ ob : List ℕ} {c : Progress} {h : ℕ} → Meets input (room_of T) limit (whole input (room_of T) limit) (lent no₁ T.references T.bytes (by_buckets T.symbols B₁) T.objects) (first_counts k (length T.nodes / width)) (Ok h) (lent no re by (by_buckets sy B₂) ob) c → {no' re' by' sy' ob' B' : List ℕ} {x : ℕ} → x ≡ unwrap_or c.compared 0 → no' ≡ cleared (c.nodes * width) no → re' ≡ cleared c.references re → by' ≡ cleared c.bytes by → sy' ≡ zeroed T.symbols → ob' ≡ zeroed T.objects → B' ≡ zeroed B → length B₂ ≡ length B
+        → Answers (Ok (counted_as (loaded_as c.nodes c.references c.bytes h c.at c.form) c.bytes x c.looked)) (lists no' re' by' sy' ob') B'
+    unfolding load load_done measured_done hashed_done words_looked hash_at pure A.padded room_of load_answer measured_answer hashed_answer
+    loaded {c = c} {h} m n p q r u v a b =
+        let G = m.led in
         let y = G.goes begin (begins input T B k t F l d first zeros) in
         let H = y.holds in
         let s = y.state in
-        let nodes = padded (nodes_of c * width) H.laid.nodes (ap (λ (n : ℕ). n * width) H.counted.count_nodes ∙ sym (length_flat s.nodes)) p ∙ ap (λ (n : ℕ). flat s.nodes ++ replicate (n - length (flat s.nodes)) 0) F.whole in
-        let tables = lists_same nodes (padded (references_of c) H.laid.references H.counted.count_references q) (padded (bytes_of c) H.laid.bytes H.counted.count_bytes r) u v in
+        let nodes = padded (c.nodes * width) H.laid.nodes (ap (λ (n : ℕ). n * width) H.counted.count_nodes ∙ sym (length_flat s.nodes)) p ∙ ap (λ (n : ℕ). flat s.nodes ++ replicate (n - length (flat s.nodes)) 0) F.whole in
+        let tables = lists_same nodes (padded c.references H.laid.references H.counted.count_references q) (padded c.bytes H.laid.bytes H.counted.count_bytes r) u v in
         let done = taken w e z in
-        let answer : loaded_as Accepted (nodes_of c) (references_of c) (bytes_of c) h (at_of c) (eqb (form_of c) 0) ≡ loaded_as Accepted (length s.nodes) (length s.references) (length s.bytes) h s.at s.notes.form = (λ i. loaded_as Accepted (H.counted.count_nodes i) (H.counted.count_references i) (H.counted.count_bytes i) h (H.counted.count_at i) (H.noted.form i)) in (
-          λ f. (λ i. load_call_of (answer i) (tables i)) ∙ sym (ap (λ o. load_done T o) y.same) ∙ (done.0 f).0,
+        let answer : loaded_as c.nodes c.references c.bytes h c.at c.form ≡ loaded_as (length s.nodes) (length s.references) (length s.bytes) h s.at s.notes.form = (λ i. loaded_as (H.counted.count_nodes i) (H.counted.count_references i) (H.counted.count_bytes i) h (H.counted.count_at i) (H.noted.form i)) in (
+          λ f. (λ i. load_call_of (load_answer (Ok (answer i))) (tables i)) ∙ sym (ap (λ o. load_done T o) y.same) ∙ (done.0 f).0,
           λ f one.
-              let x = H.noted.counted (still_counting (first_counts k (length T.nodes / width)) c G.counts (λ i. omega (arith, one, i))) in
-              let j : _ ≡ s.notes.compared = n ∙ omega (arith, x) in
-              (λ i. measured_call_of (measured_as (answer i) ((H.counted.count_bytes ∙ sym H.noted.copied) i) (j i)) (tables i)) ∙ sym (ap (λ o. measured_done T o) y.same) ∙ (done.0 f).1,
+              let j : _ ≡ s.notes.compared = n ∙ counted_number c.compared (G.counts ∙ ap is_some one) H.noted.counted in
+              (λ i. measured_call_of (measured_answer (Ok (record { load = answer i; copied = (H.counted.count_bytes ∙ sym H.noted.copied) i; compared = j i }))) (tables i)) ∙ sym (ap (λ o. measured_done T o) y.same) ∙ (done.0 f).1,
           λ f.
               let (o, _) = right_buckets (length T.nodes / width) (length B) (sym f ∙ F.buckets_right) in
               let Z = (H.known.names refl).hashed (λ i. omega (arith, ap length i, b, o, F.one)) in
-              let j : looked_of c ≡ (searches (hashes s.bytes s.nodes) s.symbols (empty (length B))).looked = sym (ap (λ (i : Buckets). i.looked) Z.filled) ∙ ap (λ (i : ℕ). (searches (hashes s.bytes s.nodes) s.symbols (empty i)).looked) b in
-              (λ i. hashed_call_of (hashed_as (answer i) (j i)) (tables i) (a i)) ∙ sym (ap (λ o. hashed_done T B o) y.same) ∙ done.1 f,
+              let j : c.looked ≡ (searches (hashes s.bytes s.nodes) s.symbols (empty (length B))).looked = sym (ap (λ (i : Buckets). i.looked) Z.filled) ∙ ap (λ (i : ℕ). (searches (hashes s.bytes s.nodes) s.symbols (empty i)).looked) b in
+              (λ i. hashed_call_of (hashed_answer (Ok (record { load = answer i; looked = j i }))) (tables i) (a i)) ∙ sym (ap (λ o. hashed_done T B o) y.same) ∙ done.1 f,
         )
 
-    pub load_refused : {T' : Lists} {B' : List ℕ} {q : Refusal} {r : Counted} → REFUSED ≤ h → q ≡ refusal_at limit h → r ≡ counted_as (loaded_as (Refused q) 1 0 0 0 0 false) 0 0 0 → T' ≡ lists (zeroed T.nodes) (zeroed T.references) (zeroed T.bytes) (zeroed T.symbols) (zeroed T.objects) → B' ≡ zeroed B → Answers r T' B'
-    unfolding load load_done measured_done hashed_done
-    load_refused {T'} {B'} {q} g u f v a =
-        let y = (m.stops g).refuses begin (begins input T B k t F l d first zeros) in
-        let x = f ∙ ap (λ x. counted_as (loaded_as (Refused x) 1 0 0 0 0 false) 0 0 0) u in
+    pub load_refused : {no re by sy B₂ ob : List ℕ} {c : Progress} {s : Stop} → Meets input (room_of T) limit (whole input (room_of T) limit) (lent no₁ T.references T.bytes (by_buckets T.symbols B₁) T.objects) (first_counts k (length T.nodes / width)) (Err s) (lent no re by (by_buckets sy B₂) ob) c → {T' : Lists} {B' : List ℕ} {q : Refusal} → q ≡ refusal_at limit s.code → T' ≡ lists (zeroed T.nodes) (zeroed T.references) (zeroed T.bytes) (zeroed T.symbols) (zeroed T.objects) → B' ≡ zeroed B → Answers (Err q) T' B'
+    unfolding load load_done measured_done hashed_done load_answer measured_answer hashed_answer
+    load_refused {s = s} m {q = q} u v a =
+        let y = m.led.refuses begin (begins input T B k t F l d first zeros) in
+        let x : load_answer (Err q) ≡ record { answer = Refused (refusal_at limit s.code); counts = counts_of 1 0 0 0; used = 0; form = false } =
+        (λ i. record { answer = Refused (u i); counts = (ap counts_left u ∙ nil_left limit s.code) i; used = 0; form = false }) in
         let done = taken w e z in (
-          λ n. (λ i. load_call_of (x i).load (v i)) ∙ sym (ap (λ o. load_done T o) y) ∙ (done.0 n).0,
-          λ n _. (λ i. measured_call_of (measured_as (x i).load (x i).copied (x i).compared) (v i)) ∙ sym (ap (λ o. measured_done T o) y) ∙ (done.0 n).1,
-          λ n. (λ i. hashed_call_of (hashed_as (x i).load (x i).looked) (v i) (a i)) ∙ sym (ap (λ o. hashed_done T B o) y) ∙ done.1 n,
+          λ n. (λ i. load_call_of (x i) (v i)) ∙ sym (ap (λ o. load_done T o) y) ∙ (done.0 n).0,
+          λ n _. (λ i. measured_call_of (record { load = x i; copied = 0; compared = 0 }) (v i)) ∙ sym (ap (λ o. measured_done T o) y) ∙ (done.0 n).1,
+          λ n. (λ i. hashed_call_of (record { load = x i; looked = 0 }) (v i) (a i)) ∙ sym (ap (λ o. hashed_done T B o) y) ∙ done.1 n,
         )
 
 -- ---- at an offset

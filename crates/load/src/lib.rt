@@ -1,27 +1,21 @@
 // load: the calls, from the test of what is lent to the zeros behind what was read.
 #![tactic(auto)]
 
-ghost use Rattle.std.specs.Prelude.{◌≡◌, false, ◌⊎◌, ◌-◌, ◌/◌, ◌<◌, ◌≤◌, length};
+ghost use Rattle.std.specs.Prelude.{◌≡◌, false, ◌⊎◌, ◌/◌, ◌<◌, ◌≤◌, Some, None, IfSome, unwrap_or, length};
 ghost use Rattle.definition.specs.Node.{width};
 ghost use Rattle.definition.specs.Slice.{greatest_length};
-ghost use Rattle.definition.specs.Load.{lists, load_call, load_call_of};
-ghost use Rattle.definition.specs.LoadMeasured.{measured_call, measured_call_of};
-ghost use Rattle.definition.specs.LoadHashed.{bad_buckets, hashed_call, hashed_call_of};
+ghost use Rattle.definition.specs.Load.{lists, load_answer, load_call, load_call_of};
+ghost use Rattle.definition.specs.LoadMeasured.{measured_answer, measured_call, measured_call_of};
+ghost use Rattle.definition.specs.LoadHashed.{bad_buckets, hashed_answer, hashed_call, hashed_call_of};
 ghost use Rattle.definition.specs.Reader.{load_next};
-ghost use Rattle.definition.specs.declared.Answer.TheVariants.{Refused};
-ghost use Rattle.load.specs.Call.{loaded_as, measured_as, hashed_as, counted_as};
+ghost use Rattle.load.specs.Call.{load_of, measured_of, hashed_of};
 
-use definition::{Answer, Counts, Hashed, Loaded, Measured, Node, Refusal, Slice};
-use load_state::{AT, BYTES, COMPARED_FROM_ONE, COUNTS, FORM, LOOKED, NODES, REFERENCES, ROOM};
+use definition::{Counts, Hashed, Loaded, Measured, Node, Refusal, Slice};
+use load_state::Progress;
 use loader::{wrong_buckets, wrong_slice};
-use reader::{REFUSED, Reader, refusal_of, start};
-use store::{put_node, zero_bytes, zero_words};
+use reader::{Reader, start};
+use store::{fill_from, put_node};
 use value_reader::read_root;
-
-// What the count of the bytes compared begins with, by the load asked for: one, or zero where they are not counted.
-const COUNTING: usize = 1;
-
-const NOT_COUNTING: usize = 0;
 
 // Where no bucket table is lent none is wrong.
 const NONE_WRONG: bool = false;
@@ -35,41 +29,20 @@ struct Counted {
     looked: u64,
 }
 
-// The answer of a refused load: this node count, zeros, and no.
-fn refused(q: Refusal, nodes: usize) -> Counted
-    ensures { result ≡ counted_as (loaded_as (Refused q) nodes 0 0 0 0 false) 0 0 0 }
+// The bytes compared, or 0 where they were not counted.
+fn number(compared: Option<usize>) -> u64
+    ensures { result ≡ unwrap_or compared 0 }
 {
-    Counted {
-        load: Loaded {
-            answer: Answer::Refused(q),
-            counts: Counts {
-                nodes: nodes,
-                references: 0,
-                bytes: 0,
-                root: 0,
-            },
-            used: 0,
-            form: false,
-        },
-        copied: 0,
-        compared: 0,
-        looked: 0,
+    match compared {
+        None => 0,
+        Some(n) => n as u64,
     }
 }
 
-// One less, or 0 where nothing was counted.
-fn compared(counted: usize) -> u64
-    ensures { result ≡ counted - 1 }
-{
-    if counted == 0 {
-        return 0;
-    }
-    (counted - 1) as u64
-}
-
-// Loads a whole input. `counted` is COUNTING or NOT_COUNTING. Names are searched for by the bucket table if it has words, else on
-// the symbol list; `wrong` tells whether the bucket table is refused. Nothing is zeroed that is written over: of the tables
-// what is left at the end, of the lists all at the end; only the bucket table is zeroed before too.
+// Loads a whole input. `compared` is what the count of the bytes compared begins with: Some(0), or None where they are not
+// counted. Names are searched for by the bucket table if it has words, else on the symbol list; `wrong` tells whether the
+// bucket table is refused. Nothing is zeroed that is written over: of the tables what is left at the end, of the lists all
+// at the end; only the bucket table is zeroed before too.
 fn load_whole(
     input: &[u8],
     nodes: &mut [u32],
@@ -79,13 +52,13 @@ fn load_whole(
     objects: &mut [u32],
     buckets: &mut [u32],
     limit: u32,
-    counted: usize,
+    compared: Option<usize>,
     wrong: bool,
-) -> Counted
-    requires { (counted ≤ 1) × (((length buckets.old ≡ 0) × (wrong ≡ false)) ⊎ ((counted ≡ 0) × (wrong ≡ bad_buckets (length nodes.old / width) (length buckets.old)))) }
-    ensures objects_after { wrong ≡ false → load_call_of result.load (lists nodes.new references.new bytes.new symbols.new objects.new) ≡ load_call input.now (lists nodes.old references.old bytes.old symbols.old objects.old) limit }
-    ensures objects_after_2 { wrong ≡ false → counted ≡ 1 → measured_call_of (measured_as result.load result.copied result.compared) (lists nodes.new references.new bytes.new symbols.new objects.new) ≡ measured_call input.now (lists nodes.old references.old bytes.old symbols.old objects.old) limit }
-    ensures buckets_after { wrong ≡ bad_buckets (length nodes.old / width) (length buckets.old) → hashed_call_of (hashed_as result.load result.looked) (lists nodes.new references.new bytes.new symbols.new objects.new) buckets.new ≡ hashed_call input.now (lists nodes.old references.old bytes.old symbols.old objects.old) buckets.old limit }
+) -> Result<Counted, Refusal>
+    requires { IfSome compared (λ k. k ≡ 0) × (((length buckets.old ≡ 0) × (wrong ≡ false)) ⊎ ((compared ≡ None) × (wrong ≡ bad_buckets (length nodes.old / width) (length buckets.old)))) }
+    ensures objects_after { wrong ≡ false → load_call_of (load_of result) (lists nodes.new references.new bytes.new symbols.new objects.new) ≡ load_call input.now (lists nodes.old references.old bytes.old symbols.old objects.old) limit }
+    ensures objects_after_2 { wrong ≡ false → compared ≡ Some 0 → measured_call_of (measured_of result) (lists nodes.new references.new bytes.new symbols.new objects.new) ≡ measured_call input.now (lists nodes.old references.old bytes.old symbols.old objects.old) limit }
+    ensures buckets_after { wrong ≡ bad_buckets (length nodes.old / width) (length buckets.old) → hashed_call_of (hashed_of result) (lists nodes.new references.new bytes.new symbols.new objects.new) buckets.new ≡ hashed_call input.now (lists nodes.old references.old bytes.old symbols.old objects.old) buckets.old limit }
 {
     let w = wrong_slice(
         nodes.len(),
@@ -98,52 +71,55 @@ fn load_whole(
         wrong,
     );
     if w != 0 {
-        return refused(Refusal::BadTables(w), 0);
+        return Err(Refusal::BadTables(w));
     }
-    let mut c = [0usize; COUNTS];
-    c[NODES] = 1;
-    c[COMPARED_FROM_ONE] = counted;
-    c[ROOM] = nodes.len() / Node::WIDTH;
+    let mut c = Progress {
+        at: 0,
+        nodes: 1,
+        references: 0,
+        bytes: 0,
+        symbols: 0,
+        objects: 0,
+        form: true,
+        compared,
+        looked: 0,
+        room: nodes.len() / Node::WIDTH,
+    };
     put_node(nodes, 0, Node::NIL, 0, 0, 0, 0, 0, 0, 0);
-    zero_words(buckets, 0);
-    let h = read_root(
-        &input[..],
-        nodes,
-        references,
-        bytes,
-        symbols,
-        objects,
-        buckets,
-        &mut c,
-        limit,
+    fill_from(buckets, 0, 0);
+    let root = read_root(
+        input, nodes, references, bytes, symbols, objects, buckets, &mut c, limit,
     );
-    zero_words(symbols, 0);
-    zero_words(objects, 0);
-    zero_words(buckets, 0);
-    if REFUSED <= h {
-        zero_words(nodes, 0);
-        zero_words(references, 0);
-        zero_bytes(bytes, 0);
-        return refused(refusal_of(h, limit), 1);
-    }
-    zero_words(nodes, c[NODES] * Node::WIDTH);
-    zero_words(references, c[REFERENCES]);
-    zero_bytes(bytes, c[BYTES]);
-    Counted {
-        load: Loaded {
-            answer: Answer::Accepted,
-            counts: Counts {
-                nodes: c[NODES],
-                references: c[REFERENCES],
-                bytes: c[BYTES],
-                root: h as u32,
-            },
-            used: c[AT],
-            form: c[FORM] == 0,
-        },
-        copied: c[BYTES] as u64,
-        compared: compared(c[COMPARED_FROM_ONE]),
-        looked: c[LOOKED] as u64,
+    fill_from(symbols, 0, 0);
+    fill_from(objects, 0, 0);
+    fill_from(buckets, 0, 0);
+    match root {
+        Ok(h) => {
+            fill_from(nodes, c.nodes * Node::WIDTH, 0);
+            fill_from(references, c.references, 0);
+            fill_from(bytes, c.bytes, 0);
+            Ok(Counted {
+                load: Loaded {
+                    counts: Counts {
+                        nodes: c.nodes,
+                        references: c.references,
+                        bytes: c.bytes,
+                        root: h as u32,
+                    },
+                    used: c.at,
+                    form: c.form,
+                },
+                copied: c.bytes as u64,
+                compared: number(c.compared),
+                looked: c.looked as u64,
+            })
+        }
+        Err(stop) => {
+            fill_from(nodes, 0, 0);
+            fill_from(references, 0, 0);
+            fill_from(bytes, 0, 0);
+            Err(stop.refusal(limit))
+        }
     }
 }
 
@@ -171,8 +147,8 @@ pub fn load_at(
     symbols: &mut [u32],
     objects: &mut [u32],
     limit: u32,
-) -> Loaded
-    ensures { load_call_of result (lists nodes.new references.new bytes.new symbols.new objects.new) ≡ load_next input.now at (lists nodes.old references.old bytes.old symbols.old objects.old) limit }
+) -> Result<Loaded, Refusal>
+    ensures { load_call_of (load_answer result) (lists nodes.new references.new bytes.new symbols.new objects.new) ≡ load_next input.now at (lists nodes.old references.old bytes.old symbols.old objects.old) limit }
 {
     let from = inside(at, input.len());
     let mut no_buckets = [0u32; 1];
@@ -185,10 +161,10 @@ pub fn load_at(
         objects,
         &mut no_buckets[..0],
         limit,
-        NOT_COUNTING,
+        None,
         NONE_WRONG,
-    );
-    w.load
+    )?;
+    Ok(w.load)
 }
 
 // Loads what stands at a reader's offset into the tables; the two lists are scratch. The next load begins at the offset with
@@ -201,8 +177,8 @@ pub fn load_next<'a>(
     symbols: &mut [u32],
     objects: &mut [u32],
     limit: u32,
-) -> Loaded
-    ensures { load_call_of result (lists nodes.new references.new bytes.new symbols.new objects.new) ≡ load_next r.entry.input.now r.entry.offset (lists nodes.old references.old bytes.old symbols.old objects.old) limit }
+) -> Result<Loaded, Refusal>
+    ensures { load_call_of (load_answer result) (lists nodes.new references.new bytes.new symbols.new objects.new) ≡ load_next r.entry.input.now r.entry.offset (lists nodes.old references.old bytes.old symbols.old objects.old) limit }
 {
     load_at(
         r.input, r.offset, nodes, references, bytes, symbols, objects, limit,
@@ -218,8 +194,8 @@ pub fn load(
     symbols: &mut [u32],
     objects: &mut [u32],
     limit: u32,
-) -> Loaded
-    ensures { load_call_of result (lists nodes.new references.new bytes.new symbols.new objects.new) ≡ load_call input.now (lists nodes.old references.old bytes.old symbols.old objects.old) limit }
+) -> Result<Loaded, Refusal>
+    ensures { load_call_of (load_answer result) (lists nodes.new references.new bytes.new symbols.new objects.new) ≡ load_call input.now (lists nodes.old references.old bytes.old symbols.old objects.old) limit }
 {
     load_next(
         start(input),
@@ -241,12 +217,12 @@ pub fn load_measured(
     symbols: &mut [u32],
     objects: &mut [u32],
     limit: u32,
-) -> Measured
-    ensures { measured_call_of result (lists nodes.new references.new bytes.new symbols.new objects.new) ≡ measured_call input.now (lists nodes.old references.old bytes.old symbols.old objects.old) limit }
+) -> Result<Measured, Refusal>
+    ensures { measured_call_of (measured_answer result) (lists nodes.new references.new bytes.new symbols.new objects.new) ≡ measured_call input.now (lists nodes.old references.old bytes.old symbols.old objects.old) limit }
 {
     let mut no_buckets = [0u32; 1];
     let w = load_whole(
-        &input[..],
+        input,
         nodes,
         references,
         bytes,
@@ -254,15 +230,14 @@ pub fn load_measured(
         objects,
         &mut no_buckets[..0],
         limit,
-        COUNTING,
+        Some(0),
         NONE_WRONG,
-    );
-    let load = w.load;
-    Measured {
-        load: load,
+    )?;
+    Ok(Measured {
+        load: w.load,
         copied: w.copied,
         compared: w.compared,
-    }
+    })
 }
 
 // load, with names searched for by the bucket table, and how many words of it were looked at.
@@ -275,25 +250,15 @@ pub fn load_hashed(
     objects: &mut [u32],
     buckets: &mut [u32],
     limit: u32,
-) -> Hashed
-    ensures { hashed_call_of result (lists nodes.new references.new bytes.new symbols.new objects.new) buckets.new ≡ hashed_call input.now (lists nodes.old references.old bytes.old symbols.old objects.old) buckets.old limit }
+) -> Result<Hashed, Refusal>
+    ensures { hashed_call_of (hashed_answer result) (lists nodes.new references.new bytes.new symbols.new objects.new) buckets.new ≡ hashed_call input.now (lists nodes.old references.old bytes.old symbols.old objects.old) buckets.old limit }
 {
     let wrong = wrong_buckets(nodes.len(), buckets.len());
     let w = load_whole(
-        &input[..],
-        nodes,
-        references,
-        bytes,
-        symbols,
-        objects,
-        buckets,
-        limit,
-        NOT_COUNTING,
-        wrong,
-    );
-    let load = w.load;
-    Hashed {
-        load: load,
+        input, nodes, references, bytes, symbols, objects, buckets, limit, None, wrong,
+    )?;
+    Ok(Hashed {
+        load: w.load,
         looked: w.looked,
-    }
+    })
 }

@@ -10,7 +10,7 @@ use Rattle.definition.specs.Arena.{Tables, Arena, arena, padded, zeroed, row_rig
 use Rattle.definition.specs.State.{State, Room}
 use Rattle.definition.specs.Load.{Lists, lists, room_of, load, load_wrong, LoadCall, load_done, load_if, load_call}
 use Rattle.definition.specs.Slice.{greatest_length, greatest_limit}
-use Rattle.definition.specs.declared.Answer.TheVariants.{Accepted, Refused}
+use Rattle.definition.specs.Refused.{Accepted, Refused}
 use Rattle.definition.specs.declared.Counts.{Counts}
 use Rattle.definition.specs.declared.Refusal.{Refusal}
 use Rattle.lists.specs.Slices.{lowest_none, short, tables_right}

@@ -5,7 +5,7 @@ use Rattle.std.proofs.Common.{subst}
 use Rattle.std.proofs.Math.Nat.{le_trans, mul-le-mul}
 use native.Mathlib.Omega.{arith}
 use borrow.Author.Tests.{ltb-false}
-use Rattle.definition.specs.declared.Answer.TheVariants.{Accepted, Refused}
+use Rattle.definition.specs.Refused.{Accepted, Refused}
 use Rattle.definition.specs.declared.Refusal.{Refusal}
 use Rattle.definition.specs.Run.{Outcome, ok, refused}
 use Rattle.definition.specs.Node.{nil, symbol, width}

@@ -8,12 +8,10 @@
 #![tactic(auto)]
 
 use console::{BYTES, NODES, NUMBERED, REFERENCES};
-use definition::Loaded;
+use definition::{Counts, Loaded, Refusal};
 use load::{load, load_hashed, load_measured};
-use replay_cases::{
-    bytes_agree, bytes_at, junk, laid, long, place, plus, same_answer, same_counts, set_bytes,
-    set_words, touched, word, words_agree, words_at, zeros,
-};
+use refusal::counts_left;
+use replay_cases::{Case, Held};
 
 // Places in a case.
 const SIZES: usize = 2;
@@ -41,22 +39,52 @@ const BYTES_AT: usize = 38;
 const TABLES: usize = 39;
 
 // The calls.
-const LOAD: u32 = 0;
-
-const LOAD_MEASURED: u32 = 1;
-
-const LOAD_HASHED: u32 = 2;
-
-// What a call answers, with the two counts that it may add.
-#[derive(Clone, Copy)]
-struct Called {
-    load: Loaded,
-    first: u64,
-    second: u64,
+#[derive(Clone, Copy, PartialEq, Eq)]
+enum Call {
+    Load,
+    Measured,
+    Hashed,
 }
 
-fn call(
-    which: u32,
+impl Call {
+    // Where its answer stands.
+    fn answer(self) -> usize {
+        match self {
+            Call::Hashed => HASHED,
+            _ => ANSWER,
+        }
+    }
+}
+
+// What a call answers, with the counts that it may add.
+#[derive(Clone, Copy)]
+enum Called {
+    Load(Loaded),
+    Measured(Loaded, u64, u64),
+    Hashed(Loaded, u64),
+}
+
+impl Called {
+    fn load(self) -> Loaded {
+        match self {
+            Called::Load(r) | Called::Measured(r, _, _) | Called::Hashed(r, _) => r,
+        }
+    }
+
+    // Do the counts that it adds stand in the case?
+    fn counts_agree(self, case: Case<'_>) -> bool {
+        match self {
+            Called::Load(_) => true,
+            Called::Measured(_, copied, compared) => {
+                case.long(COPIED) == copied && case.long(COMPARED) == compared
+            }
+            Called::Hashed(_, looked) => case.long(LOOKED) == looked,
+        }
+    }
+}
+
+fn load_case(
+    which: Call,
     input: &[u8],
     nodes: &mut [u32],
     references: &mut [u32],
@@ -65,100 +93,51 @@ fn call(
     objects: &mut [u32],
     buckets: &mut [u32],
     limit: u32,
-) -> Called {
+) -> Result<Called, Refusal> {
     match which {
-        LOAD => {
-            let r = load(
-                &input[..],
-                nodes,
-                references,
-                bytes,
-                symbols,
-                objects,
-                limit,
-            );
-            Called {
-                load: r,
-                first: 0,
-                second: 0,
-            }
+        Call::Load => {
+            let r = load(input, nodes, references, bytes, symbols, objects, limit)?;
+            Ok(Called::Load(r))
         }
-        LOAD_MEASURED => {
-            let r = load_measured(
-                &input[..],
-                nodes,
-                references,
-                bytes,
-                symbols,
-                objects,
-                limit,
-            );
-            let loaded = r.load;
-            let copied = r.copied;
-            let compared = r.compared;
-            Called {
-                load: loaded,
-                first: copied,
-                second: compared,
-            }
+        Call::Measured => {
+            let r = load_measured(input, nodes, references, bytes, symbols, objects, limit)?;
+            Ok(Called::Measured(r.load, r.copied, r.compared))
         }
-        _ => {
+        Call::Hashed => {
             let r = load_hashed(
-                &input[..],
-                nodes,
-                references,
-                bytes,
-                symbols,
-                objects,
-                buckets,
-                limit,
-            );
-            let loaded = r.load;
-            let looked = r.looked;
-            Called {
-                load: loaded,
-                first: looked,
-                second: 0,
-            }
+                input, nodes, references, bytes, symbols, objects, buckets, limit,
+            )?;
+            Ok(Called::Hashed(r.load, r.looked))
         }
     }
 }
 
-// The answer stands at `at`.
-fn loaded_agrees(data: &[u8], at: usize, r: Loaded) -> bool {
-    let answer = r.answer;
-    let counts = r.counts;
-    let used = r.used;
-    let form = r.form;
-    same_answer(&data[..], at, answer)
-        && same_counts(&data[..], plus(at, 3), counts)
-        && place(&data[..], plus(at, 7)) == used
-        && (word(&data[..], plus(at, 8)) == 1) == form
+// The counts, the bytes used and the form stand from word `at` on.
+fn loaded_agrees(case: Case<'_>, at: usize, counts: Counts, used: usize, form: bool) -> bool {
+    case.counts(at) == counts
+        && case.place(at.saturating_add(4)) == used
+        && (case.word(at.saturating_add(5)) == 1) == form
 }
 
-// Where a call's answer stands.
-fn answer_place(which: u32) -> usize {
-    if which == LOAD_HASHED { HASHED } else { ANSWER }
-}
-
-fn called_agrees(data: &[u8], which: u32, r: Called) -> bool {
-    let loaded = r.load;
-    let first = r.first;
-    let second = r.second;
-    if !loaded_agrees(&data[..], answer_place(which), loaded) {
+fn called_agrees(case: Case<'_>, which: Call, r: Result<Called, Refusal>) -> bool {
+    let at = which.answer();
+    if !case.answers(at, r) {
         return false;
     }
-    match which {
-        LOAD => true,
-        LOAD_MEASURED => long(&data[..], COPIED) == first && long(&data[..], COMPARED) == second,
-        _ => long(&data[..], LOOKED) == first,
+    match r {
+        Ok(called) => {
+            let l = called.load();
+            loaded_agrees(case, at.saturating_add(3), l.counts, l.used, l.form)
+                && called.counts_agree(case)
+        }
+        Err(q) => loaded_agrees(case, at.saturating_add(3), counts_left(q), 0, false),
     }
 }
 
 // The tables and lists as they are after a call.
 fn tables_agree(
-    data: &[u8],
-    which: u32,
+    case: Case<'_>,
+    which: Call,
     nodes: &[u32],
     references: &[u32],
     bytes: &[u8],
@@ -166,28 +145,34 @@ fn tables_agree(
     objects: &[u32],
     buckets: &[u32],
 ) -> bool {
-    let answered = word(&data[..], answer_place(which)) != 1;
-    let n = place(&data[..], LAID);
-    let r = place(&data[..], LAID + 1);
-    let b = place(&data[..], LAID + 2);
-    let p = plus(TABLES, n);
-    let q = place(&data[..], BYTES_AT);
-    words_agree(&data[..], touched(answered, laid(TABLES, n)), &nodes[..])
-        && words_agree(&data[..], touched(answered, laid(p, r)), &references[..])
-        && bytes_agree(&data[..], touched(answered, laid(q, b)), &bytes[..])
-        && words_agree(&data[..], touched(answered, zeros()), &symbols[..])
-        && words_agree(&data[..], touched(answered, zeros()), &objects[..])
-        && words_agree(
-            &data[..],
-            touched(answered && which == LOAD_HASHED, zeros()),
-            &buckets[..],
-        )
+    let answered = case.word(which.answer()) != 1;
+    let n = case.place(LAID);
+    let laid_nodes = Held::Laid { at: TABLES, n };
+    let laid_references = Held::Laid {
+        at: n.saturating_add(TABLES),
+        n: case.place(LAID + 1),
+    };
+    let laid_bytes = Held::Laid {
+        at: case.place(BYTES_AT),
+        n: case.place(LAID + 2),
+    };
+    let zeros = Held::ZEROS.if_touched(answered);
+    laid_nodes.if_touched(answered).agrees(case, nodes)
+        && laid_references
+            .if_touched(answered)
+            .agrees(case, references)
+        && laid_bytes.if_touched(answered).agrees(case, bytes)
+        && zeros.agrees(case, symbols)
+        && zeros.agrees(case, objects)
+        && zeros
+            .if_touched(which == Call::Hashed)
+            .agrees(case, buckets)
 }
 
 // A case through one of the calls, in tables and lists of just its lengths.
 fn fitted_agrees(
-    data: &[u8],
-    which: u32,
+    case: Case<'_>,
+    which: Call,
     input: &[u8],
     nodes: &mut [u32],
     references: &mut [u32],
@@ -196,72 +181,60 @@ fn fitted_agrees(
     objects: &mut [u32],
     buckets: &mut [u32],
 ) -> bool {
-    set_words(&data[..], junk(), nodes);
-    set_words(&data[..], junk(), references);
-    set_bytes(&data[..], junk(), bytes);
-    set_words(&data[..], junk(), symbols);
-    set_words(&data[..], junk(), objects);
-    set_words(&data[..], junk(), buckets);
-    let limit = word(&data[..], LIMIT);
-    let r = call(
+    Held::Junk.set(case, nodes);
+    Held::Junk.set(case, references);
+    Held::Junk.set(case, bytes);
+    Held::Junk.set(case, symbols);
+    Held::Junk.set(case, objects);
+    Held::Junk.set(case, buckets);
+    let r = load_case(
         which,
-        &input[..],
+        input,
         nodes,
         references,
         bytes,
         symbols,
         objects,
         buckets,
-        limit,
+        case.word(LIMIT),
     );
-    called_agrees(&data[..], which, r)
+    called_agrees(case, which, r)
         & tables_agree(
-            &data[..],
-            which,
-            nodes,
-            references,
-            bytes,
-            symbols,
-            objects,
-            buckets,
+            case, which, nodes, references, bytes, symbols, objects, buckets,
         )
 }
 
-fn call_agrees(data: &[u8], which: u32) -> bool {
+fn call_agrees(case: Case<'_>, which: Call) -> bool {
     let mut nodes = [0u32; NODES];
     let mut references = [0u32; REFERENCES];
     let mut bytes = [0u8; BYTES];
     let mut symbols = [0u32; NUMBERED];
     let mut objects = [0u32; NUMBERED];
     let mut buckets = [0u32; NUMBERED];
-    let n = words_at(&data[..], SIZES, &nodes);
-    let r = words_at(&data[..], SIZES + 1, &references);
-    let b = bytes_at(&data[..], SIZES + 2, &bytes);
-    let s = words_at(&data[..], SIZES + 3, &symbols);
-    let o = words_at(&data[..], SIZES + 4, &objects);
-    let k = words_at(&data[..], SIZES + 5, &buckets);
-    let start = place(&data[..], INPUT_AT);
-    let end = plus(start, place(&data[..], INPUT));
-    if end <= data.len() {
-        if start <= end {
-            return fitted_agrees(
-                &data[..],
-                which,
-                &data[start..end],
-                &mut nodes[..n],
-                &mut references[..r],
-                &mut bytes[..b],
-                &mut symbols[..s],
-                &mut objects[..o],
-                &mut buckets[..k],
-            );
-        }
+    let n = case.place(SIZES).min(NODES);
+    let r = case.place(SIZES + 1).min(REFERENCES);
+    let b = case.place(SIZES + 2).min(BYTES);
+    let s = case.place(SIZES + 3).min(NUMBERED);
+    let o = case.place(SIZES + 4).min(NUMBERED);
+    let k = case.place(SIZES + 5).min(NUMBERED);
+    match case.part(INPUT, INPUT_AT) {
+        Some(input) => fitted_agrees(
+            case,
+            which,
+            input,
+            &mut nodes[..n],
+            &mut references[..r],
+            &mut bytes[..b],
+            &mut symbols[..s],
+            &mut objects[..o],
+            &mut buckets[..k],
+        ),
+        None => false,
     }
-    false
 }
 
-pub fn agree(data: &[u8]) -> bool {
-    call_agrees(&data[..], LOAD)
-        && call_agrees(&data[..], LOAD_MEASURED)
-        && call_agrees(&data[..], LOAD_HASHED)
+pub fn agree(case: Case<'_>) -> bool {
+    call_agrees(case, Call::Load)
+        && call_agrees(case, Call::Measured)
+        && call_agrees(case, Call::Hashed)
 }

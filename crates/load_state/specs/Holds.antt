@@ -1,56 +1,19 @@
--- When lists lent and counts hold a state of the definition, and what the number that a reader in code answers has to mean.
-use Rattle.std.specs.Prelude.{ℕ, suc, ◌+◌, ◌-◌, ◌*◌, ◌≤◌, ◌<◌, Bool, true, false, ◌≡◌, List, [], ◌∷◌, ltb, eqb, length, get_or, take, drop}
+-- When lists lent and how far a load has come hold a state of the definition, and what a reader's answer in code has to mean.
+use Rattle.load_state.specs.declared.Progress.{Progress}
+use Rattle.std.specs.Prelude as code
+use Rattle.std.specs.Prelude.{ℕ, suc, ◌+◌, ◌-◌, ◌*◌, ◌≤◌, ◌<◌, Bool, true, false, ◌≡◌, List, [], ◌∷◌, ltb, eqb, length, get_or, take, drop, is_some, IfSome, Result, MatchResult}
 use Rattle.std.proofs.Math.Option.{Option, none, some}
 use Rattle.definition.specs.Run.{Outcome, refused, pure, pick}
-use Rattle.definition.specs.Integer.{form}
 use Rattle.definition.specs.Node.{Row, nil, kind, words, flat, width, symbol_kind, START, LENGTH}
 use Rattle.definition.specs.Arena.{name_of, named, find_symbol}
 use Rattle.definition.specs.Buckets.{fnv_1a, searches, empty}
 use Rattle.definition.specs.State.{Room, Notes, State, Reader}
 use Rattle.definition.specs.declared.Refusal.{Refusal}
 use Rattle.definition.specs.Slice.{greatest_length}
-use Rattle.reader.specs.Answers.{refusal_at, REFUSED}
-use Rattle.load_state.specs.Places.{COUNTS, AT, NODES, REFERENCES, BYTES, SYMBOLS, OBJECTS, FORM, COMPARED_FROM_ONE, LOOKED, ROOM}
+use Rattle.reader.specs.Answers.{refusal_at}
+use Rattle.reader.specs.declared.Stop.{Stop}
 
 -- ---- what is held
-
--- the ten counts, in the order of the code's named places
-abbrev pub at_of : List ℕ → ℕ
-at_of c = get_or c AT 0
-
-abbrev pub nodes_of : List ℕ → ℕ
-nodes_of c = get_or c NODES 0
-
-abbrev pub references_of : List ℕ → ℕ
-references_of c = get_or c REFERENCES 0
-
-abbrev pub bytes_of : List ℕ → ℕ
-bytes_of c = get_or c BYTES 0
-
-abbrev pub symbols_of : List ℕ → ℕ
-symbols_of c = get_or c SYMBOLS 0
-
-abbrev pub objects_of : List ℕ → ℕ
-objects_of c = get_or c OBJECTS 0
-
--- 0 while all that was read is in dump form
-abbrev pub form_of : List ℕ → ℕ
-form_of c = get_or c FORM 0
-
--- one more than the bytes compared, or 0 where they are not counted
-abbrev pub compared_from_one : List ℕ → ℕ
-compared_from_one c = get_or c COMPARED_FROM_ONE 0
-
--- the words of the bucket table looked at
-abbrev pub looked_of : List ℕ → ℕ
-looked_of c = get_or c LOOKED 0
-
--- how many nodes there is room for
-abbrev pub space_of : List ℕ → ℕ
-space_of c = get_or c ROOM 0
-
-abbrev pub Counting : List ℕ → Type 0
-Counting c = compared_from_one c ≡ 0 → ⊥
 
 -- the symbol list and the bucket table lent, and whether names are searched for by them
 pub record Symbols : Type 0 where
@@ -148,21 +111,20 @@ abbrev pub hashes : List ℕ → List Row → ℕ → ℕ
 hashes bytes rows h = fnv_1a (name_at bytes rows h)
 
 -- the bucket table and the words looked at are what the searches for the symbols on the list leave; nodes with one name are one node, and node 0 is none of them; bytes compared are not counted
-pub record Hashing (n : ℕ) (bytes : List ℕ) (rows : List Row) (l B c : List ℕ) : Type 0 where
+pub record Hashing (n : ℕ) (bytes : List ℕ) (rows : List Row) (l B : List ℕ) (looked : ℕ) (counts : Bool) : Type 0 where
   pub enough : n ≤ length B
   pub short : length B ≤ greatest_length
-  pub filled : searches (hashes bytes rows) l (empty (length B)) ≡ record { words = B; looked = looked_of c }
+  pub filled : searches (hashes bytes rows) l (empty (length B)) ≡ record { words = B; looked = looked }
   pub unique : (i j : ℕ) → i < length l → j < length l → name_at bytes rows (get_or l i 0) ≡ name_at bytes rows (get_or l j 0) → get_or l i 0 ≡ get_or l j 0
   pub nonzero : (i : ℕ) → i < length l → get_or l i 0 ≡ 0 → ⊥
   pub one : 1 ≤ length rows
-  pub uncounted : compared_from_one c ≡ 0
+  pub uncounted : counts ≡ false
 
--- what does not change: the room, the input's length, and how many counts there are
-pub record Fixed (input : List ℕ) (room : Room) (c : List ℕ) : Type 0 where
+-- what does not change: the room and the input's length
+pub record Fixed (input : List ℕ) (room : Room) (space : ℕ) : Type 0 where
   pub small : Small room
   pub short : length input ≤ greatest_length
-  pub ten : length c ≡ COUNTS
-  pub count_space : space_of c ≡ room.nodes
+  pub count_space : space ≡ room.nodes
 
 -- what is laid out: each table and list begins with what is held of it
 pub record Laid (room : Room) (rows : List Row) (re by sy ob : List ℕ) (T : Lent) : Type 0 where
@@ -173,50 +135,50 @@ pub record Laid (room : Room) (rows : List Row) (re by sy ob : List ℕ) (T : Le
   pub objects : Begins room.objects ob T.objects
 
 -- what is counted: the offset, which is inside, and the lengths
-pub record Counted (size space at nodes references bytes symbols objects : ℕ) (c : List ℕ) : Type 0 where
-  pub count_at : at_of c ≡ at
+pub record Counted (size space at nodes references bytes symbols objects : ℕ) (c : Progress) : Type 0 where
+  pub count_at : c.at ≡ at
   pub inside : at ≤ size
-  pub count_nodes : nodes_of c ≡ nodes
+  pub count_nodes : c.nodes ≡ nodes
   pub room_nodes : nodes ≤ space
-  pub count_references : references_of c ≡ references
-  pub count_bytes : bytes_of c ≡ bytes
-  pub count_symbols : symbols_of c ≡ symbols
-  pub count_objects : objects_of c ≡ objects
+  pub count_references : c.references ≡ references
+  pub count_bytes : c.bytes ≡ bytes
+  pub count_symbols : c.symbols ≡ symbols
+  pub count_objects : c.objects ≡ objects
 
 -- what is noted, of so many bytes, with a bound of the bytes compared
-pub record Noted (n : Notes) (bytes bound : ℕ) (c : List ℕ) : Type 0 where
-  pub form : eqb (form_of c) 0 ≡ n.form
-  pub counted : Counting c → compared_from_one c ≡ suc n.compared
+pub record Noted (n : Notes) (bytes bound : ℕ) (in_form : Bool) (count : code.Option ℕ) : Type 0 where
+  pub form : in_form ≡ n.form
+  pub counted : IfSome count (λ k. k ≡ n.compared)
   pub copied : n.copied ≡ bytes
   pub compared : n.compared ≤ bound
 
 -- what the searches for names rest on: the symbol list, and the bucket table where there is one
-pub record Naming (n : ℕ) (bytes : List ℕ) (rows : List Row) (l : List ℕ) (y : Symbols) (c : List ℕ) : Type 0 where
+pub record Naming (n : ℕ) (bytes : List ℕ) (rows : List Row) (l : List ℕ) (y : Symbols) (looked : ℕ) (counts : Bool) : Type 0 where
   pub interned : Interned bytes rows l
-  pub hashed : (y.buckets ≡ [] → ⊥) → Hashing n bytes rows l y.buckets c
+  pub hashed : (y.buckets ≡ [] → ⊥) → Hashing n bytes rows l y.buckets looked counts
 
 -- what is known of entries and of symbols' bytes, and of names where they are searched for by the list or the bucket table
-pub record Known (n : ℕ) (bytes : List ℕ) (rows : List Row) (l ob : List ℕ) (y : Symbols) (c : List ℕ) : Type 0 where
+pub record Known (n : ℕ) (bytes : List ℕ) (rows : List Row) (l ob : List ℕ) (y : Symbols) (looked : ℕ) (counts : Bool) : Type 0 where
   pub below : AllBelow (length rows) ob
   pub entries : AllBelow (length rows) l
   pub fit : AllFit (length bytes) rows
-  pub names : y.searched ≡ true → Naming n bytes rows l y c
+  pub names : y.searched ≡ true → Naming n bytes rows l y looked counts
 
-pub record Holds (input : List ℕ) (room : Room) (s : State) (T : Lent) (c : List ℕ) : Type 0 where
-  pub fixed : Fixed input room c
+pub record Holds (input : List ℕ) (room : Room) (s : State) (T : Lent) (c : Progress) : Type 0 where
+  pub fixed : Fixed input room c.room
   pub laid : Laid room s.nodes s.references s.bytes s.symbols s.objects T
   pub counted : Counted (length input) room.nodes s.at (length s.nodes) (length s.references) (length s.bytes) (length s.symbols) (length s.objects) c
-  pub noted : Noted s.notes (length s.bytes) (s.at * length s.nodes) c
-  pub known : Known room.nodes s.bytes s.nodes s.symbols s.objects T.symbols c
+  pub noted : Noted s.notes (length s.bytes) (s.at * length s.nodes) c.form c.compared
+  pub known : Known room.nodes s.bytes s.nodes s.symbols s.objects T.symbols c.looked (is_some c.compared)
 
 -- some state is held
-pub record Held (input : List ℕ) (T : Lent) (c : List ℕ) : Type 0 where
+pub record Held (input : List ℕ) (T : Lent) (c : Progress) : Type 0 where
   pub room : Room
   pub state : State
   pub holds : Holds input room state T c
 
 -- some state is held with some tables
-pub record Somewhere (input : List ℕ) (c : List ℕ) : Type 0 where
+pub record Somewhere (input : List ℕ) (c : Progress) : Type 0 where
   pub tables : Lent
   pub held : Held input tables c
 
@@ -243,7 +205,7 @@ pub record Behind (s s' : State) (T T' : Lent) : Type 0 where
   pub objects : Kept s.objects s'.objects T.objects T'.objects
 
 -- the outcome o at the state s is that of m' at a state that is held after; where names are searched for among the nodes, nothing behind it changed
-pub record Went {A : Type 0} (input : List ℕ) (room : Room) (s : State) (o : Outcome State A) (m' : Reader A) (T T' : Lent) (c' : List ℕ) : Type 0 where
+pub record Went {A : Type 0} (input : List ℕ) (room : Room) (s : State) (o : Outcome State A) (m' : Reader A) (T T' : Lent) (c' : Progress) : Type 0 where
   pub state : State
   pub holds : Holds input room state T' c'
   pub same : o ≡ m' state
@@ -251,34 +213,34 @@ pub record Went {A : Type 0} (input : List ℕ) (room : Room) (s : State) (o : O
   pub behind : T.symbols.searched ≡ false → Behind s state T T'
 
 -- where m begins at a state that is held first, it is at m' at a state that is held after; bytes compared are counted after if they were before
-pub record Goes {A : Type 0} (input : List ℕ) (room : Room) (m : Reader A) (T : Lent) (c : List ℕ) (m' : Reader A) (T' : Lent) (c' : List ℕ) : Type 0 where
+pub record Goes {A : Type 0} (input : List ℕ) (room : Room) (m : Reader A) (T : Lent) (c : Progress) (m' : Reader A) (T' : Lent) (c' : Progress) : Type 0 where
   pub goes : (s : State) → Holds input room s T c → Went input room s (m s) m' T T' c'
-  pub counts : eqb (compared_from_one c') 0 ≡ eqb (compared_from_one c) 0
+  pub counts : is_some c'.compared ≡ is_some c.compared
 
 -- m is refused with q
-pub record Refuses {A : Type 0} (input : List ℕ) (room : Room) (m : Reader A) (T : Lent) (c : List ℕ) (q : Refusal) : Type 0 where
+pub record Refuses {A : Type 0} (input : List ℕ) (room : Room) (m : Reader A) (T : Lent) (c : Progress) (q : Refusal) : Type 0 where
   pub refuses : (s : State) → Holds input room s T c → m s ≡ refused q
 
--- by the number r: below 2^32 m has come to m', from there on it is refused
-pub record Leads {A : Type 0} (input : List ℕ) (room : Room) (limit : ℕ) (m m' : Reader A) (T : Lent) (c : List ℕ) (r : ℕ) (T' : Lent) (c' : List ℕ) : Type 0 where
-  pub goes : r < REFUSED → Goes input room m T c m' T' c'
-  pub stops : REFUSED ≤ r → Refuses input room m T c (refusal_at limit r)
+-- by the answer r: m has come to m' of its value, or it is refused
+pub record Leads {A V : Type 0} (input : List ℕ) (room : Room) (limit : ℕ) (m : Reader A) (m' : V → Reader A) (T : Lent) (c : Progress) (r : Result V Stop) (T' : Lent) (c' : Progress) : Type 0 where
+  pub led : MatchResult r (λ v. Goes input room m T c (m' v) T' c') (λ q. Refuses input room m T c (refusal_at limit q.code))
 
--- the number is m's value; there is nothing to answer; it is the length of the bytes that m gives, which stand before the offset
-abbrev pub Meets : List ℕ → Room → ℕ → Reader ℕ → Lent → List ℕ → ℕ → Lent → List ℕ → Type 0
-Meets input room limit m T c r T' c' = Leads input room limit m (pure r) T c r T' c'
-
-abbrev pub Does : List ℕ → Room → ℕ → Reader (Unit {0}) → Lent → List ℕ → ℕ → Lent → List ℕ → Type 0
-Does input room limit m T c r T' c' = Leads input room limit m (pure tt) T c r T' c'
+-- the answer is m's own; it is the length of the bytes that m gives, which stand before the offset
+abbrev pub Meets : {A : Type 0} → List ℕ → Room → ℕ → Reader A → Lent → Progress → Result A Stop → Lent → Progress → Type 0
+Meets input room limit m T c r T' c' = Leads input room limit m pure T c r T' c'
 
 abbrev pub span : List ℕ → ℕ → ℕ → List ℕ
 span input at n = take n (drop (at - n) input)
 
-abbrev pub span_of : List ℕ → List ℕ → ℕ → List ℕ
-span_of input c n = span input (at_of c) n
+abbrev pub span_of : List ℕ → Progress → ℕ → List ℕ
+span_of input c n = span input c.at n
 
-abbrev pub Spans : List ℕ → Room → ℕ → Reader (List ℕ) → Lent → List ℕ → ℕ → Lent → List ℕ → Type 0
-Spans input room limit m T c r T' c' = Leads input room limit m (pure (span_of input c' r)) T c r T' c'
+abbrev pub Spans : List ℕ → Room → ℕ → Reader (List ℕ) → Lent → Progress → Result ℕ Stop → Lent → Progress → Type 0
+Spans input room limit m T c r T' c' = Leads input room limit m (λ n. pure (span_of input c' n)) T c r T' c'
+
+-- h is a node's number, which is less than a word holds
+abbrev pub Numbered : Progress → ℕ → Type 0
+Numbered c h = (h < c.nodes) × (h < 4294967296)
 
 -- node h is no symbol
 abbrev pub Free : List ℕ → ℕ → Type 0

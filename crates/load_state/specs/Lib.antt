@@ -1,7 +1,5 @@
--- What is held: the relation between what is lent, the counts and a state, and its laws.
-pub mod Places
+-- What is held: the relation between what is lent, how far a load has come and a state, and its laws.
 pub mod Holds
-pub mod Counts
 pub mod Stores
 pub mod Names
 pub mod Hashing

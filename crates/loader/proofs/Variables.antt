@@ -5,8 +5,9 @@ use mathlib.Core.Path.{◌≡◌, refl, sym, ap, ◌∙◌}
 use mathlib.Core.Bool.{Bool, true, false}
 use mathlib.Core.Logic.{◌⊎◌, inl, inr}
 use mathlib.Core.List.{List, [], ◌∷◌}
-use lib.ListN.{length, set, get_or, get_or-eq_default}
+use lib.ListN.{length, get_or, get_or-eq_default}
 use lib.Seq.{sets}
+use Rattle.std.specs.Prelude.{Ok, Err}
 use lib.Dec.{eqb}
 use borrow.Author.Tests.{eqb-true, eqb-false}
 use Rattle.definition.specs.Run.{refuse, next, look, ◌>>=◌, refused, pure, pick}
@@ -15,13 +16,13 @@ use Rattle.definition.specs.Node.{Row, nil, bool, fixnum, symbol, array, hash, o
 use Rattle.definition.specs.State.{Room, Reader, noted, State}
 use Rattle.definition.specs.Load.{fill, set_variables, note, takes_variables}
 use Rattle.definition.specs.declared.Refusal.TheVariants.{NotAnObject}
-use Rattle.reader.specs.Answers.{coded, at_variables}
-use Rattle.load_state.specs.Holds.{Symbols, Lent, lent, Goes, Meets, Plain, at_of, nodes_of, Holds, Went}
+use Rattle.reader.specs.Answers.{stop, at_variables}
+use Rattle.load_state.specs.declared.Progress.{Progress}
+use Rattle.load_state.specs.Holds.{Symbols, Lent, lent, Goes, Meets, Plain, Holds, Went}
 use Rattle.loader.specs.Parts.{settle, after_i}
-use Rattle.load_state.specs.Laws.{word, word_0, denied, given, still, refuses}
+use Rattle.load_state.specs.Laws.{word, word_0, denied, given, still}
 use Rattle.input_reader.proofs.Input.{lost}
 use Rattle.table_writer.proofs.Added.{row_went}
-use Rattle.load_state.specs.Places.{FORM}
 use Rattle.load_state.specs.Names.{kind_word}
 
 -- ---- variables set
@@ -55,7 +56,7 @@ words_same : {a b d e f a' b' d' e' f' : ℕ} (start n : ℕ) → a ≡ a' → b
 words_same start n p q r t u = λ i. p i ∷ q i ∷ r i ∷ start ∷ n ∷ t i ∷ 1 ∷ u i ∷ []
 
 -- where a state is held
-module _ {input : List ℕ} {room : Room} {c : List ℕ} {no re by : List ℕ} {sy : Symbols} {ob : List ℕ} (h start n : ℕ) (l : h < nodes_of c) (s : State) (H : Holds input room s (lent no re by sy ob) c) where
+module _ {input : List ℕ} {room : Room} {c : Progress} {no re by : List ℕ} {sy : Symbols} {ob : List ℕ} (h start n : ℕ) (l : h < c.nodes) (s : State) (H : Holds input room s (lent no re by sy ob) c) where
   kind_held : get_or no (h * width) 0 ≡ kind (get_or s.nodes h nil)
   kind_held = word_0 H h l ∙ kind_word (get_or s.nodes h nil)
 
@@ -73,23 +74,23 @@ module _ {input : List ℕ} {room : Room} {c : List ℕ} {no re by : List ℕ} {
   set_refused a b (inl (inr k, v, e, q, p, p')) = absurd (b (kind_held ∙ k))
   set_refused a b (inr (x, y, q)) = ap (λ (m : Reader ℕ). m s) q
 
-module _ {input : List ℕ} {room : Room} {limit : ℕ} {c : List ℕ} {no re by : List ℕ} {sy : Symbols} {ob : List ℕ} (h start n : ℕ) (l : h < nodes_of c) where
-  pub variables_set : {no' : List ℕ} → 7 ≤ get_or no (h * width) 0 → get_or no (h * width) 0 ≤ 8 → no' ≡ sets no (h * width) (get_or no (h * width) 0 ∷ get_or no (h * width + START) 0 ∷ get_or no (h * width + LENGTH) 0 ∷ start ∷ n ∷ get_or no (h * width + NAME) 0 ∷ 1 ∷ get_or no (h * width + CLASS) 0 ∷ []) → Meets input room limit (settle h start n) (lent no re by sy ob) c h (lent no' re by sy ob) c
-  variables_set g g' f = given (λ s H. omega arith) (record { goes = λ s H. set_went h start n l s H g g' f (sets_variables h start n (get_or s.nodes h nil)); counts = refl })
+module _ {input : List ℕ} {room : Room} {limit : ℕ} {c : Progress} {no re by : List ℕ} {sy : Symbols} {ob : List ℕ} (h start n : ℕ) (l : h < c.nodes) where
+  pub variables_set : {no' : List ℕ} → 7 ≤ get_or no (h * width) 0 → get_or no (h * width) 0 ≤ 8 → no' ≡ sets no (h * width) (get_or no (h * width) 0 ∷ get_or no (h * width + START) 0 ∷ get_or no (h * width + LENGTH) 0 ∷ start ∷ n ∷ get_or no (h * width + NAME) 0 ∷ 1 ∷ get_or no (h * width + CLASS) 0 ∷ []) → Meets input room limit (settle h start n) (lent no re by sy ob) c (Ok h) (lent no' re by sy ob) c
+  variables_set g g' f = given (record { goes = λ s H. set_went h start n l s H g g' f (sets_variables h start n (get_or s.nodes h nil)); counts = refl })
 
-  pub variables_refused : {T' : Lent} {c' : List ℕ} → (get_or no (h * width) 0 ≡ 7 → ⊥) → (get_or no (h * width) 0 ≡ 8 → ⊥) → Meets input room limit (settle h start n) (lent no re by sy ob) c (coded 10 0) T' c'
-  variables_refused a b = denied NotAnObject (omega arith) (at_variables limit) (record { refuses = λ s H. set_refused h start n l s H a b (sets_variables h start n (get_or s.nodes h nil)) })
+  pub variables_refused : {T' : Lent} {c' : Progress} → (get_or no (h * width) 0 ≡ 7 → ⊥) → (get_or no (h * width) 0 ≡ 8 → ⊥) → Meets input room limit (settle h start n) (lent no re by sy ob) c (Err (stop 10 0)) T' c'
+  variables_refused a b = denied NotAnObject (at_variables limit) (record { refuses = λ s H. set_refused h start n l s H a b (sets_variables h start n (get_or s.nodes h nil)) })
 
 -- ---- what stands directly after `I`
 
-module _ {input : List ℕ} {room : Room} {T : Lent} {c : List ℕ} (inner : Reader ℕ) where
+module _ {input : List ℕ} {room : Room} {T : Lent} {c : Progress} (inner : Reader ℕ) where
   -- a kind that dump writes there
-  pub after_takes : takes_variables (get_or input (at_of c) 0) ≡ true → Goes input room (after_i input inner) T c inner T c
+  pub after_takes : takes_variables (get_or input c.at 0) ≡ true → Goes input room (after_i input inner) T c inner T c
   unfolding look note ◌>>=◌ Rattle.definition.specs.Run.next
   after_takes e = still (λ s H. ap (λ (t : Bool). inner (noted t s)) (ap (λ (x : ℕ). takes_variables (get_or input x 0)) (sym H.counted.count_at) ∙ e))
 
   -- another, or nothing
-  pub after_other : takes_variables (get_or input (at_of c) 0) ≡ false → Goes input room (after_i input inner) T c inner T (set c FORM 1)
+  pub after_other : takes_variables (get_or input c.at 0) ≡ false → Goes input room (after_i input inner) T c inner T (record c { form = false })
   unfolding look note ◌>>=◌ Rattle.definition.specs.Run.next
   after_other e = lost (λ s H. ap (λ (t : Bool). inner (noted t s)) (ap (λ (x : ℕ). takes_variables (get_or input x 0)) (sym H.counted.count_at) ∙ e))
 

@@ -1,76 +1,77 @@
 // What the readers of members and the call need: values with members opened and filled, and the lengths lent.
 //
-// What is lent and the counts `c` hold a state of the definition before a call. Below REFUSED the number answered is the
-// value that the definition's reader gives there, and a state is held again; from REFUSED on it is the reader's refusal.
+// What is lent and how far the load has come, `c`, hold a state of the definition before a call. What is answered is the
+// value that the definition's reader gives there, and a state is held again; or it is the reader's refusal.
 #![tactic(auto)]
 
-ghost use Rattle.std.specs.Prelude.{◌≡◌, true, List, [], ◌∷◌, ℕ, ◌+◌, ◌-◌, ◌*◌, ◌/◌, ◌<◌, ◌≤◌, length, get_or};
+ghost use Rattle.std.specs.Prelude.{◌≡◌, true, List, [], ◌∷◌, ℕ, ◌+◌, ◌-◌, ◌*◌, ◌/◌, ◌<◌, ◌≤◌, IfOk, length, get_or};
 ghost use Rattle.definition.specs.Node.{Row, words, nil, width};
+ghost use Rattle.definition.specs.Run.{pure};
 ghost use Rattle.definition.specs.State.{Room, Reader};
 ghost use Rattle.definition.specs.Load.{add_object_node, counted, fill, takes_variables};
 ghost use Rattle.definition.specs.LoadHashed.{bad_buckets};
 ghost use Rattle.definition.specs.Slice.{greatest_length};
-ghost use Rattle.load_state.specs.Holds.{Symbols, Lent, lent, Held, Somewhere, Goes, Leads, Meets, Plain, Free, nodes_of, references_of, space_of};
+ghost use Rattle.load_state.specs.declared.Progress.{Progress};
+ghost use Rattle.load_state.specs.Holds.{Symbols, Lent, lent, Held, Somewhere, Goes, Leads, Meets, Plain, Numbered, Free};
 ghost use Rattle.loader.specs.Parts.{settle, after_i};
 ghost use Rattle.loader.specs.Lengths.{wrong, Allowed};
-ghost use Rattle.load_state.specs.Places.{COUNTS};
-ghost use Rattle.reader.specs.Answers.{REFUSED};
 
 use arena_check::{first_wrong, too_long, wrong_table};
 use definition::{LIMIT, Node, Slice, ValueKind};
 use input_reader::read_count;
-use load_state::{AT, COUNTS, FORM, REFERENCES};
-use reader::{NO_REFERENCES, NOT_AN_OBJECT, REFUSED};
-use store::{put_node, zero_range};
+use load_state::Progress;
+use reader::Stop;
+use store::{fill_range, put_node};
 use table_writer::add_object_node;
 
 // A nil node for what has members, put on the object list: its number.
-pub fn open_node(nodes: &mut [u32], objects: &mut [u32], c: &mut [usize; COUNTS]) -> u64
-    requires { (length nodes.old ≤ greatest_length) × (space_of c.old * width ≤ length nodes.old) × (length c.old ≡ COUNTS) }
+pub fn open_node(nodes: &mut [u32], objects: &mut [u32], c: &mut Progress) -> Result<usize, Stop>
+    requires { (length nodes.old ≤ greatest_length) × (c.old.room * width ≤ length nodes.old) }
     ensures by_index { (input : List ℕ) (room : Room) (limit : ℕ) (re by : List ℕ) (sy : Symbols) → Meets input room limit (add_object_node room nil) (lent nodes.old re by sy objects.old) c.old result (lent nodes.new re by sy objects.new) c.new }
-    ensures upper_bound { result < REFUSED → (result < nodes_of c.new) × Free nodes.new result }
+    ensures upper_bound { IfOk result (λ h. Numbered c.new h × Free nodes.new h) }
 {
     add_object_node(nodes, objects, c, Node::NIL, 0, 0, 0, 0, 0)
 }
 
 // A count, and so many times `each` reference words more, which are zero: the count.
-pub fn read_words(input: &[u8], references: &mut [u32], c: &mut [usize; COUNTS], each: usize) -> u64
+pub fn read_words(
+    input: &[u8],
+    references: &mut [u32],
+    c: &mut Progress,
+    each: usize,
+) -> Result<usize, Stop>
     requires { (each ≤ 2) × ((no : List ℕ) × (by : List ℕ) × (sy : Symbols) × (ob : List ℕ) × Held input.now (lent no references.old by sy ob) c.old) }
-    ensures leads { (room : Room) (limit : ℕ) (no by : List ℕ) (sy : Symbols) (ob : List ℕ) (k : ℕ → ℕ → Reader ℕ) → Leads input.now room limit (counted input.now room each k) (k (references_of c.new - result * each) result) (lent no references.old by sy ob) c.old result (lent no references.new by sy ob) c.new }
-    ensures upper_bound { result < REFUSED → (result < 2147483648) × (result * each ≤ references_of c.new) }
+    ensures leads { (room : Room) (limit : ℕ) (no by : List ℕ) (sy : Symbols) (ob : List ℕ) (k : ℕ → ℕ → Reader ℕ) → Leads input.now room limit (counted input.now room each k) (λ n. k (c.new.references - n * each) n) (lent no references.old by sy ob) c.old result (lent no references.new by sy ob) c.new }
+    ensures upper_bound { IfOk result (λ n. (n < 2147483648) × (n * each ≤ c.new.references)) }
 {
-    let n = read_count(&input[..], c);
-    if REFUSED <= n {
-        return n;
-    }
-    let at = c[REFERENCES];
-    let k = n as usize * each;
+    let n = read_count(input, c)?;
+    let at = c.references;
+    let k = n * each;
     if references.len() - at < k {
-        return NO_REFERENCES;
+        return Err(Stop::NO_REFERENCES);
     }
-    zero_range(references, at, k);
-    c[REFERENCES] = at + k;
-    n
+    fill_range(references, at, k, 0);
+    c.references = at + k;
+    Ok(n)
 }
 
-// A container's node is filled: h.
+// A container's node h is filled.
 pub fn fill_node(
     nodes: &mut [u32],
-    h: u64,
+    h: usize,
     kind: u32,
     list: u32,
     n: u32,
     name: u32,
     default: u32,
     class: u32,
-) -> u64
-    requires { (h * width + width ≤ length nodes.old) × (h < 4294967296) }
-    ensures by_index { (input : List ℕ) (room : Room) (limit : ℕ) (row : Row) (re by : List ℕ) (sy : Symbols) (ob c : List ℕ) → words row ≡ kind ∷ 0 ∷ 0 ∷ list ∷ n ∷ name ∷ default ∷ class ∷ [] → Plain row → h < nodes_of c → (sy.searched ≡ true → Free nodes.old h) → Meets input room limit (fill h row) (lent nodes.old re by sy ob) c result (lent nodes.new re by sy ob) c }
-    ensures value { result ≡ h }
+)
+    requires { h * width + width ≤ length nodes.old }
+    ensures { (input : List ℕ) (room : Room) (row : Row) (re by : List ℕ) (sy : Symbols) (ob : List ℕ) (c : Progress) → words row ≡ kind ∷ 0 ∷ 0 ∷ list ∷ n ∷ name ∷ default ∷ class ∷ [] → Plain row → h < c.nodes → (sy.searched ≡ true → Free nodes.old h) → Goes input room (fill h row) (lent nodes.old re by sy ob) c (pure h) (lent nodes.new re by sy ob) c }
 {
     put_node(
         nodes,
-        h as usize * Node::WIDTH,
+        h * Node::WIDTH,
         kind,
         0,
         0,
@@ -80,7 +81,6 @@ pub fn fill_node(
         default,
         class,
     );
-    h
 }
 
 // Does a string, a user-defined or a class stand at `at`? Dump writes `I` before nothing else.
@@ -95,36 +95,36 @@ fn takes_next(input: &[u8], at: usize) -> bool
 }
 
 // After `I`: that something else comes directly is noted.
-pub fn note_inner(input: &[u8], c: &mut [usize; COUNTS])
+pub fn note_inner(input: &[u8], c: &mut Progress)
     requires { Somewhere input.now c.old }
     ensures { (room : Room) (T : Lent) (inner : Reader ℕ) → Goes input.now room (after_i input.now inner) T c.old inner T c.new }
 {
-    if takes_next(&input[..], c[AT]) {
+    if takes_next(input, c.at) {
         return;
     }
-    c[FORM] = 1;
+    c.form = false;
 }
 
 // The variable list of node h is this one, if it is a string or user-defined: h.
-pub fn set_variables(nodes: &mut [u32], h: u64, list: u32, n: u32) -> u64
-    requires { (h * width + width ≤ length nodes.old) × (h < 4294967296) }
-    ensures by_index { (input : List ℕ) (room : Room) (limit : ℕ) (re by : List ℕ) (sy : Symbols) (ob c : List ℕ) → h < nodes_of c → Meets input room limit (settle h list n) (lent nodes.old re by sy ob) c result (lent nodes.new re by sy ob) c }
-    ensures value { result < REFUSED → result ≡ h }
+pub fn set_variables(nodes: &mut [u32], h: usize, list: u32, n: u32) -> Result<usize, Stop>
+    requires { h * width + width ≤ length nodes.old }
+    ensures by_index { (input : List ℕ) (room : Room) (limit : ℕ) (re by : List ℕ) (sy : Symbols) (ob : List ℕ) (c : Progress) → h < c.nodes → Meets input room limit (settle h list n) (lent nodes.old re by sy ob) c result (lent nodes.new re by sy ob) c }
+    ensures value { IfOk result (λ v. v ≡ h) }
 {
-    let base = h as usize * Node::WIDTH;
+    let base = h * Node::WIDTH;
     let kind = nodes[base];
     if kind < Node::STRING {
-        return NOT_AN_OBJECT;
+        return Err(Stop::NOT_AN_OBJECT);
     }
     if Node::USER_DEFINED < kind {
-        return NOT_AN_OBJECT;
+        return Err(Stop::NOT_AN_OBJECT);
     }
     let a = nodes[base + Node::START];
     let b = nodes[base + Node::LENGTH];
     let name = nodes[base + Node::NAME];
     let class = nodes[base + Node::CLASS];
     put_node(nodes, base, kind, a, b, list, n, name, 1, class);
-    h
+    Ok(h)
 }
 
 // Has the bucket table too few words for a node table of so many words, or too many?

@@ -3,7 +3,7 @@
 // A slice is a pointer and a length there, and the counts are four numbers. The answer's number is returned, 0 where the call
 // is accepted. Its two details and what else the call answers go into the answer words, doubles into a slice of their own
 // (reply/specs/Reply). Fewer words or doubles than a call writes are refused with 1, and nothing is touched then.
-#![tactic(auto)]
+#![tactic(auto, using(crate::proofs::Laws::replies))]
 
 ghost use Rattle.std.specs.Prelude.{◌≡◌};
 ghost use Rattle.definition.specs.Arena.{counts_of, tables_of};
@@ -62,6 +62,18 @@ const COSTED: usize = 3;
 // The doubles of a weighing.
 const DOUBLES: usize = 3;
 
+// The counts, which are four numbers there.
+fn counts(nodes: usize, references: usize, bytes: usize, root: u32) -> Counts
+    ensures { result ≡ counts_of nodes references bytes root }
+{
+    Counts {
+        nodes,
+        references,
+        bytes,
+        root,
+    }
+}
+
 // ---- load and dump
 
 #[unsafe(no_mangle)]
@@ -80,16 +92,10 @@ pub extern "C" fn ruby_marshal_load(
     if answer.len() < LOADED {
         return BAD_TABLES;
     }
-    let r = load(
-        &input[..],
-        nodes,
-        references,
-        bytes,
-        symbols,
-        objects,
-        limit,
-    );
-    tell_loaded(answer, r)
+    tell_loaded(
+        answer,
+        load(input, nodes, references, bytes, symbols, objects, limit),
+    )
 }
 
 #[unsafe(no_mangle)]
@@ -108,16 +114,10 @@ pub extern "C" fn ruby_marshal_load_measured(
     if answer.len() < MEASURED {
         return BAD_TABLES;
     }
-    let r = load_measured(
-        &input[..],
-        nodes,
-        references,
-        bytes,
-        symbols,
-        objects,
-        limit,
-    );
-    tell_measured(answer, r)
+    tell_measured(
+        answer,
+        load_measured(input, nodes, references, bytes, symbols, objects, limit),
+    )
 }
 
 #[unsafe(no_mangle)]
@@ -137,17 +137,12 @@ pub extern "C" fn ruby_marshal_load_hashed(
     if answer.len() < HASHED {
         return BAD_TABLES;
     }
-    let r = load_hashed(
-        &input[..],
-        nodes,
-        references,
-        bytes,
-        symbols,
-        objects,
-        buckets,
-        limit,
-    );
-    tell_hashed(answer, r)
+    tell_hashed(
+        answer,
+        load_hashed(
+            input, nodes, references, bytes, symbols, objects, buckets, limit,
+        ),
+    )
 }
 
 #[unsafe(no_mangle)]
@@ -169,22 +164,11 @@ pub extern "C" fn ruby_marshal_dump(
     if answer.len() < DUMPED {
         return BAD_TABLES;
     }
-    let c = Counts {
-        nodes: node_count,
-        references: reference_count,
-        bytes: byte_count,
-        root: root,
-    };
-    let r = dump(
-        &nodes[..],
-        &references[..],
-        &bytes[..],
-        c,
-        scratch,
-        output,
-        limit,
-    );
-    tell_dumped(answer, r)
+    let c = counts(node_count, reference_count, byte_count, root);
+    tell_dumped(
+        answer,
+        dump(nodes, references, bytes, c, scratch, output, limit),
+    )
 }
 
 // ---- getters
@@ -205,14 +189,8 @@ pub extern "C" fn ruby_marshal_root(
     if answer.len() < NUMBER {
         return BAD_TABLES;
     }
-    let c = Counts {
-        nodes: node_count,
-        references: reference_count,
-        bytes: byte_count,
-        root: root,
-    };
-    let r = value_arena::root(&nodes[..], &references[..], &bytes[..], c);
-    tell_number(answer, r)
+    let c = counts(node_count, reference_count, byte_count, root);
+    tell_number(answer, value_arena::root(nodes, references, bytes, c))
 }
 
 #[unsafe(no_mangle)]
@@ -232,14 +210,8 @@ pub extern "C" fn ruby_marshal_kind(
     if answer.len() < NUMBER {
         return BAD_TABLES;
     }
-    let c = Counts {
-        nodes: node_count,
-        references: reference_count,
-        bytes: byte_count,
-        root: root,
-    };
-    let r = kind(&nodes[..], &references[..], &bytes[..], c, handle);
-    tell_number(answer, r)
+    let c = counts(node_count, reference_count, byte_count, root);
+    tell_number(answer, kind(nodes, references, bytes, c, handle))
 }
 
 #[unsafe(no_mangle)]
@@ -259,14 +231,8 @@ pub extern "C" fn ruby_marshal_get(
     if answer.len() < WORDS {
         return BAD_TABLES;
     }
-    let c = Counts {
-        nodes: node_count,
-        references: reference_count,
-        bytes: byte_count,
-        root: root,
-    };
-    let r = get(&nodes[..], &references[..], &bytes[..], c, handle);
-    tell_words(answer, r)
+    let c = counts(node_count, reference_count, byte_count, root);
+    tell_words(answer, get(nodes, references, bytes, c, handle))
 }
 
 #[unsafe(no_mangle)]
@@ -286,14 +252,8 @@ pub extern "C" fn ruby_marshal_get_symbol(
     if answer.len() < NAME {
         return BAD_TABLES;
     }
-    let c = Counts {
-        nodes: node_count,
-        references: reference_count,
-        bytes: byte_count,
-        root: root,
-    };
-    let r = get_symbol(&nodes[..], &references[..], &bytes[..], c, handle);
-    tell_name(answer, r)
+    let c = counts(node_count, reference_count, byte_count, root);
+    tell_name(answer, get_symbol(nodes, references, bytes, c, handle))
 }
 
 // ---- numbers and weighings
@@ -319,14 +279,8 @@ pub extern "C" fn ruby_marshal_reading(
     if double.len() < 1 {
         return BAD_TABLES;
     }
-    let c = Counts {
-        nodes: node_count,
-        references: reference_count,
-        bytes: byte_count,
-        root: root,
-    };
-    let r = reading(&nodes[..], &references[..], &bytes[..], c, handle);
-    tell_reading(answer, double, r)
+    let c = counts(node_count, reference_count, byte_count, root);
+    tell_reading(answer, double, reading(nodes, references, bytes, c, handle))
 }
 
 #[unsafe(no_mangle)]
@@ -351,14 +305,12 @@ pub extern "C" fn ruby_marshal_wet_weight(
     if weighing.len() < DOUBLES {
         return BAD_TABLES;
     }
-    let c = Counts {
-        nodes: node_count,
-        references: reference_count,
-        bytes: byte_count,
-        root: root,
-    };
-    let r = wet_weight(&nodes[..], &references[..], &bytes[..], c, dry, moisture);
-    tell_weighed(answer, weighing, r)
+    let c = counts(node_count, reference_count, byte_count, root);
+    tell_weighed(
+        answer,
+        weighing,
+        wet_weight(nodes, references, bytes, c, dry, moisture),
+    )
 }
 
 // ---- costs
@@ -381,14 +333,11 @@ pub extern "C" fn ruby_marshal_batch_cost(
     if answer.len() < COSTED {
         return BAD_TABLES;
     }
-    let c = Counts {
-        nodes: node_count,
-        references: reference_count,
-        bytes: byte_count,
-        root: root,
-    };
-    let r = batch_cost(&nodes[..], &references[..], &bytes[..], c, recipe, prices);
-    tell_costed(answer, r)
+    let c = counts(node_count, reference_count, byte_count, root);
+    tell_costed(
+        answer,
+        batch_cost(nodes, references, bytes, c, recipe, prices),
+    )
 }
 
 // ---- builder
@@ -405,8 +354,7 @@ pub extern "C" fn ruby_marshal_new(
     if answer.len() < BEGUN {
         return BAD_TABLES;
     }
-    let r = new(nodes, references, bytes);
-    tell_begun(answer, r)
+    tell_begun(answer, new(nodes, references, bytes))
 }
 
 #[unsafe(no_mangle)]
@@ -426,14 +374,8 @@ pub extern "C" fn ruby_marshal_replace_root(
     if answer.len() < CREATED {
         return BAD_TABLES;
     }
-    let c = Counts {
-        nodes: node_count,
-        references: reference_count,
-        bytes: byte_count,
-        root: root,
-    };
-    let r = replace_root(&nodes[..], &references[..], &bytes[..], c, handle);
-    tell_created(answer, r)
+    let c = counts(node_count, reference_count, byte_count, root);
+    tell_created(answer, replace_root(nodes, references, bytes, c, handle), c)
 }
 
 #[unsafe(no_mangle)]
@@ -454,14 +396,12 @@ pub extern "C" fn ruby_marshal_replace_class(
     if answer.len() < CREATED {
         return BAD_TABLES;
     }
-    let c = Counts {
-        nodes: node_count,
-        references: reference_count,
-        bytes: byte_count,
-        root: root,
-    };
-    let r = replace_class(nodes, &references[..], &bytes[..], c, handle, class);
-    tell_created(answer, r)
+    let c = counts(node_count, reference_count, byte_count, root);
+    tell_created(
+        answer,
+        replace_class(nodes, references, bytes, c, handle, class),
+        c,
+    )
 }
 
 #[unsafe(no_mangle)]
@@ -480,14 +420,8 @@ pub extern "C" fn ruby_marshal_create_nil(
     if answer.len() < CREATED {
         return BAD_TABLES;
     }
-    let c = Counts {
-        nodes: node_count,
-        references: reference_count,
-        bytes: byte_count,
-        root: root,
-    };
-    let r = create_nil(nodes, &references[..], &bytes[..], c);
-    tell_created(answer, r)
+    let c = counts(node_count, reference_count, byte_count, root);
+    tell_created(answer, create_nil(nodes, references, bytes, c), c)
 }
 
 #[unsafe(no_mangle)]
@@ -507,14 +441,8 @@ pub extern "C" fn ruby_marshal_create_bool(
     if answer.len() < CREATED {
         return BAD_TABLES;
     }
-    let c = Counts {
-        nodes: node_count,
-        references: reference_count,
-        bytes: byte_count,
-        root: root,
-    };
-    let r = create_bool(nodes, &references[..], &bytes[..], c, value);
-    tell_created(answer, r)
+    let c = counts(node_count, reference_count, byte_count, root);
+    tell_created(answer, create_bool(nodes, references, bytes, c, value), c)
 }
 
 #[unsafe(no_mangle)]
@@ -534,14 +462,8 @@ pub extern "C" fn ruby_marshal_create_fixnum(
     if answer.len() < CREATED {
         return BAD_TABLES;
     }
-    let c = Counts {
-        nodes: node_count,
-        references: reference_count,
-        bytes: byte_count,
-        root: root,
-    };
-    let r = create_fixnum(nodes, &references[..], &bytes[..], c, value);
-    tell_created(answer, r)
+    let c = counts(node_count, reference_count, byte_count, root);
+    tell_created(answer, create_fixnum(nodes, references, bytes, c, value), c)
 }
 
 #[unsafe(no_mangle)]
@@ -561,14 +483,12 @@ pub extern "C" fn ruby_marshal_create_new_symbol(
     if answer.len() < CREATED {
         return BAD_TABLES;
     }
-    let c = Counts {
-        nodes: node_count,
-        references: reference_count,
-        bytes: byte_count,
-        root: root,
-    };
-    let r = create_new_symbol(nodes, &references[..], bytes, c, &name[..]);
-    tell_created(answer, r)
+    let c = counts(node_count, reference_count, byte_count, root);
+    tell_created(
+        answer,
+        create_new_symbol(nodes, references, bytes, c, name),
+        c,
+    )
 }
 
 #[unsafe(no_mangle)]
@@ -588,14 +508,8 @@ pub extern "C" fn ruby_marshal_create_symbol(
     if answer.len() < CREATED {
         return BAD_TABLES;
     }
-    let c = Counts {
-        nodes: node_count,
-        references: reference_count,
-        bytes: byte_count,
-        root: root,
-    };
-    let r = create_symbol(nodes, &references[..], bytes, c, &name[..]);
-    tell_created(answer, r)
+    let c = counts(node_count, reference_count, byte_count, root);
+    tell_created(answer, create_symbol(nodes, references, bytes, c, name), c)
 }
 
 #[unsafe(no_mangle)]
@@ -615,14 +529,12 @@ pub extern "C" fn ruby_marshal_create_array(
     if answer.len() < CREATED {
         return BAD_TABLES;
     }
-    let c = Counts {
-        nodes: node_count,
-        references: reference_count,
-        bytes: byte_count,
-        root: root,
-    };
-    let r = create_array(nodes, references, &bytes[..], c, &members[..]);
-    tell_created(answer, r)
+    let c = counts(node_count, reference_count, byte_count, root);
+    tell_created(
+        answer,
+        create_array(nodes, references, bytes, c, members),
+        c,
+    )
 }
 
 #[unsafe(no_mangle)]
@@ -643,14 +555,12 @@ pub extern "C" fn ruby_marshal_create_hash(
     if answer.len() < CREATED {
         return BAD_TABLES;
     }
-    let c = Counts {
-        nodes: node_count,
-        references: reference_count,
-        bytes: byte_count,
-        root: root,
-    };
-    let r = create_hash(nodes, references, &bytes[..], c, &pairs[..], default);
-    tell_created(answer, r)
+    let c = counts(node_count, reference_count, byte_count, root);
+    tell_created(
+        answer,
+        create_hash(nodes, references, bytes, c, pairs, default),
+        c,
+    )
 }
 
 #[unsafe(no_mangle)]
@@ -671,14 +581,12 @@ pub extern "C" fn ruby_marshal_create_object(
     if answer.len() < CREATED {
         return BAD_TABLES;
     }
-    let c = Counts {
-        nodes: node_count,
-        references: reference_count,
-        bytes: byte_count,
-        root: root,
-    };
-    let r = create_object(nodes, references, &bytes[..], c, name, &pairs[..]);
-    tell_created(answer, r)
+    let c = counts(node_count, reference_count, byte_count, root);
+    tell_created(
+        answer,
+        create_object(nodes, references, bytes, c, name, pairs),
+        c,
+    )
 }
 
 #[unsafe(no_mangle)]
@@ -698,14 +606,8 @@ pub extern "C" fn ruby_marshal_create_string(
     if answer.len() < CREATED {
         return BAD_TABLES;
     }
-    let c = Counts {
-        nodes: node_count,
-        references: reference_count,
-        bytes: byte_count,
-        root: root,
-    };
-    let r = create_string(nodes, &references[..], bytes, c, &value[..]);
-    tell_created(answer, r)
+    let c = counts(node_count, reference_count, byte_count, root);
+    tell_created(answer, create_string(nodes, references, bytes, c, value), c)
 }
 
 #[unsafe(no_mangle)]
@@ -726,14 +628,12 @@ pub extern "C" fn ruby_marshal_create_user_defined(
     if answer.len() < CREATED {
         return BAD_TABLES;
     }
-    let c = Counts {
-        nodes: node_count,
-        references: reference_count,
-        bytes: byte_count,
-        root: root,
-    };
-    let r = create_user_defined(nodes, &references[..], bytes, c, name, &value[..]);
-    tell_created(answer, r)
+    let c = counts(node_count, reference_count, byte_count, root);
+    tell_created(
+        answer,
+        create_user_defined(nodes, references, bytes, c, name, value),
+        c,
+    )
 }
 
 #[unsafe(no_mangle)]
@@ -753,14 +653,8 @@ pub extern "C" fn ruby_marshal_create_float(
     if answer.len() < CREATED {
         return BAD_TABLES;
     }
-    let c = Counts {
-        nodes: node_count,
-        references: reference_count,
-        bytes: byte_count,
-        root: root,
-    };
-    let r = create_float(nodes, &references[..], bytes, c, &value[..]);
-    tell_created(answer, r)
+    let c = counts(node_count, reference_count, byte_count, root);
+    tell_created(answer, create_float(nodes, references, bytes, c, value), c)
 }
 
 #[unsafe(no_mangle)]
@@ -782,12 +676,10 @@ pub extern "C" fn ruby_marshal_create_bignum(
     if answer.len() < CREATED {
         return BAD_TABLES;
     }
-    let c = Counts {
-        nodes: node_count,
-        references: reference_count,
-        bytes: byte_count,
-        root: root,
-    };
-    let r = create_bignum(nodes, &references[..], &bytes[..], c, minus, low, high);
-    tell_created(answer, r)
+    let c = counts(node_count, reference_count, byte_count, root);
+    tell_created(
+        answer,
+        create_bignum(nodes, references, bytes, c, minus, low, high),
+        c,
+    )
 }

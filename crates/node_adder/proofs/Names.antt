@@ -9,7 +9,7 @@ use mathlib.Core.Option.{Option, none, some}
 use mathlib.Core.Path.{◌≡◌, refl, sym, ap, ◌∙◌, subst}
 use lib.Dec.{eqb}
 use lib.ListN.{length, get_or, take, drop, drop_of_length-le}
-use lib.Seq.{drop-cons, length-take-le, take-length}
+use lib.Seq.{drop-cons, length-take-le}
 use borrow.Author.Tests.{ne_eqb}
 use Rattle.definition.specs.Run.{ok, pick}
 use Rattle.definition.specs.Node.{Row, nil, symbol, kind, row_of, rows, equal, width, START, LENGTH, LIST, COUNT, NAME, DEFAULT, CLASS, symbol_kind, words}
@@ -50,12 +50,11 @@ module _ (A : Arena) (count : ℕ) (t : List ℕ) (i : ℕ) (name : List ℕ) (e
   other_length s k n =
       sym (same_length name (range A.bytes (at START) (at LENGTH)) (λ q. n (sym (q ∙ length_range A.bytes (at START) (at LENGTH) (s i (at START) (at LENGTH) (symbol_is k)))))) ∙ sym (name_is k)
 
-  pub same_name : (bytes : List ℕ) (stored : ℕ) → A.bytes ≡ take stored bytes → get_or t (i * width) 0 ≡ symbol_kind → at LENGTH ≡ length name → at START + at LENGTH ≤ stored
-      → equal (take (at LENGTH) name) (take (at LENGTH) (drop (at START) bytes)) ≡ named A.bytes name (node A i)
+  pub same_name : (bytes : List ℕ) (stored : ℕ) → A.bytes ≡ take stored bytes → get_or t (i * width) 0 ≡ symbol_kind → at START + at LENGTH ≤ stored
+      → equal name (take (at LENGTH) (drop (at START) bytes)) ≡ named A.bytes name (node A i)
   unfolding range
-  same_name bytes stored f k n l =
-      ap (λ (x : List ℕ). equal x (take (at LENGTH) (drop (at START) bytes))) (ap (λ (m : ℕ). take m name) n ∙ take-length name)
-      ∙ ap (equal name) (sym (range_take bytes stored (at START) (at LENGTH) l) ∙ ap (λ (b : List ℕ). range b (at START) (at LENGTH)) (sym f))
+  same_name bytes stored f k l =
+      ap (equal name) (sym (range_take bytes stored (at START) (at LENGTH) l) ∙ ap (λ (b : List ℕ). range b (at START) (at LENGTH)) (sym f))
       ∙ sym (name_is k)
 
   -- a symbol's bytes are among those stored

@@ -8,25 +8,25 @@ use Rattle.definition.specs.Kind.{INSTANCE_VARIABLES}
 use Rattle.definition.specs.Arena.{Arena}
 use Rattle.definition.specs.Dump.{Writer, ◌>>◌, write, write_level, write_object_or_link}
 use Rattle.definition.specs.declared.Refusal.TheVariants.{TooDeep}
+use Rattle.std.specs.declared.result.Result.TheVariants.{Ok, Err}
+use Rattle.writer.specs.declared.Progress.{Progress}
+use Rattle.writer.specs.declared.Stop.{Stop}
 use Rattle.writer.specs.Held.{Buffers, Goes, Meets}
-use Rattle.writer.specs.Laws.{assoc, unit_left, write_join, then, lead_first, lead_goes, lead_stop}
-use Rattle.object_writer.specs.Values.{Heads, begun, opened}
-use Rattle.object_writer.specs.Laws.{lead_head, head_after}
+use Rattle.writer.specs.Laws.{Passed, assoc, unit_left, write_join, then, goes_first, lead_first}
+use Rattle.object_writer.specs.Values.{Beginning, Heads, begun, opened}
+use Rattle.object_writer.specs.Laws.{head_stop, head_after}
 
 -- a byte and more bytes
 pub byte_then : (room k : ℕ) (bs : List ℕ) (rest : Writer) → write room (k ∷ bs) >> rest ≡ write room (k ∷ []) >> (write room bs >> rest)
 byte_then room k bs rest = ap (λ (w : Writer). w >> rest) (write_join room (k ∷ []) bs) ∙ assoc (write room (k ∷ [])) (write room bs) rest
 
 -- the first call, and one that writes x after it
-module _ {A : Arena} {room limit : ℕ} {B B₁ B₂ : Buffers} {c c₁ c₂ : List ℕ} {r : ℕ} {m x : Writer} (rest : Writer) (first : Goes A room m B c (x >> rest) B₁ c₁) (next : Meets A room limit x B₁ c₁ r B₂ c₂) where
-  pub next_stops : {m' : Writer} → (r ≡ 0 → ⊥) → Heads A room limit m m' B c r B₂ c₂
-  next_stops n = head_after first (lead_head (lead_stop n (lead_first rest next)))
+module _ {A : Arena} {room limit : ℕ} {B B₁ B₂ : Buffers} {c c₁ c₂ : Progress} {m x : Writer} (rest : Writer) (first : Goes A room m B c (x >> rest) B₁ c₁) where
+  pub next_stops : {B₃ : Buffers} {c₃ : Progress} {m' : Writer} {q : Stop} {s : Beginning} → Passed s q → Meets A room limit x B₁ c₁ (Err q) B₂ c₂ → Heads A room limit m m' B c s B₃ c₃
+  next_stops p next = head_after first (head_stop _ p (lead_first rest next).leads)
 
-  pub next_done : r ≡ 0 → Goes A room m B c rest B₂ c₂
-  next_done z = then first (lead_goes z (lead_first rest next))
-
-  pub next_last : Heads A room limit m rest B c r B₂ c₂
-  next_last = head_after first (lead_head (lead_first rest next))
+  pub next_done : {u : Unit {0}} → Meets A room limit x B₁ c₁ (Ok u) B₂ c₂ → Goes A room m B c rest B₂ c₂
+  next_done next = then first (goes_first rest next.leads)
 
 -- ---- `I` and the level
 

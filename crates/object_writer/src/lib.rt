@@ -13,46 +13,53 @@ ghost use Rattle.writer.specs.Held.{buffers, Noded, Lent, Ready};
 ghost use Rattle.object_writer.specs.Values.{IsObject, Opens, begun, opened, classed, texted};
 
 use definition::{Node, ValueKind};
-use writer::{
-    DEEP, DONE, OBJECTS, WHOLE, write_bignum, write_byte, write_class, write_tagged, write_text,
-};
+use writer::{Progress, Stop, write_bignum, write_byte, write_class, write_tagged, write_text};
+
+// How far a value is: more of it comes, or it is whole.
+#[derive(Clone, Copy)]
+pub enum Opened {
+    More,
+    Whole,
+}
 
 // A link where node v has a number; else its number.
-pub fn number_object(scratch: &mut [u32], output: &mut [u8], c: &mut [usize; 3], v: usize) -> u32
+pub fn number_object(
+    scratch: &mut [u32],
+    output: &mut [u8],
+    c: &mut Progress,
+    v: usize,
+) -> Result<Opened, Stop>
     requires { Ready (λ A. IsObject A v) (buffers scratch.old output.old) c.old }
     ensures { (A : Arena) (room limit : ℕ) → IsObject A v → Opens A room limit (write_object_or_link room v) (buffers scratch.old output.old) c.old result (buffers scratch.new output.new) c.new }
 {
     let seen = scratch[v];
     if seen == 0 {
-        let number = c[OBJECTS] + 1;
+        let number = c.objects + 1;
         scratch[v] = number as u32;
-        c[OBJECTS] = number;
-        return DONE;
+        c.objects = number;
+        return Ok(Opened::More);
     }
-    let w = write_tagged(output, c, ValueKind::OBJECT_LINK, seen - 1);
-    if w != DONE {
-        return w;
-    }
-    WHOLE
+    write_tagged(output, c, ValueKind::OBJECT_LINK, seen - 1)?;
+    Ok(Opened::Whole)
 }
 
 // Arrays and hashes without a class: the number, byte k and the count n.
 pub fn open_list(
     scratch: &mut [u32],
     output: &mut [u8],
-    c: &mut [usize; 3],
+    c: &mut Progress,
     v: usize,
     k: u8,
     n: u32,
-) -> u32
+) -> Result<Opened, Stop>
     requires { Ready (λ A. IsObject A v) (buffers scratch.old output.old) c.old }
     ensures { (A : Arena) (room limit : ℕ) → IsObject A v → Opens A room limit (opened room v (k ∷ integer_bytes n)) (buffers scratch.old output.old) c.old result (buffers scratch.new output.new) c.new }
 {
-    let w = number_object(scratch, output, c, v);
-    if w != DONE {
-        return w;
+    if let Opened::Whole = number_object(scratch, output, c, v)? {
+        return Ok(Opened::Whole);
     }
-    write_tagged(output, c, k, n)
+    write_tagged(output, c, k, n)?;
+    Ok(Opened::More)
 }
 
 // Those with a class: the number, the class, byte k and the count n.
@@ -61,53 +68,46 @@ pub fn open_classed(
     bytes: &[u8],
     scratch: &mut [u32],
     output: &mut [u8],
-    c: &mut [usize; 3],
+    c: &mut Progress,
     v: usize,
     k: u8,
     n: u32,
     class: u32,
-) -> u32
+) -> Result<Opened, Stop>
     requires { Ready (λ A. Lent A nodes.now bytes.now × IsObject A v × ClassRight A class) (buffers scratch.old output.old) c.old }
     ensures { (A : Arena) (room limit : ℕ) → Lent A nodes.now bytes.now → IsObject A v → ClassRight A class → Opens A room limit (classed room A v class (k ∷ integer_bytes n)) (buffers scratch.old output.old) c.old result (buffers scratch.new output.new) c.new }
 {
-    let w = number_object(scratch, output, c, v);
-    if w != DONE {
-        return w;
+    if let Opened::Whole = number_object(scratch, output, c, v)? {
+        return Ok(Opened::Whole);
     }
-    let s = write_class(&nodes[..], &bytes[..], scratch, output, c, class);
-    if s != DONE {
-        return s;
-    }
-    write_tagged(output, c, k, n)
+    write_class(&nodes[..], &bytes[..], scratch, output, c, class)?;
+    write_tagged(output, c, k, n)?;
+    Ok(Opened::More)
 }
 
 // Its number, then `I` and a test of the level where the mark f says that there are variables.
 pub fn open_marked(
     scratch: &mut [u32],
     output: &mut [u8],
-    c: &mut [usize; 3],
+    c: &mut Progress,
     v: usize,
     f: u32,
     levels: u32,
-) -> u32
+) -> Result<Opened, Stop>
     requires { Ready (λ A. IsObject A v) (buffers scratch.old output.old) c.old }
     ensures { (A : Arena) (room limit : ℕ) → IsObject A v → Opens A room limit (λ rest. write_object_or_link room v (begun room (write_level limit levels) f rest)) (buffers scratch.old output.old) c.old result (buffers scratch.new output.new) c.new }
 {
-    let w = number_object(scratch, output, c, v);
-    if w != DONE {
-        return w;
+    if let Opened::Whole = number_object(scratch, output, c, v)? {
+        return Ok(Opened::Whole);
     }
     if f == 0 {
-        return DONE;
+        return Ok(Opened::More);
     }
-    let i = write_byte(output, c, ValueKind::INSTANCE_VARIABLES);
-    if i != DONE {
-        return i;
-    }
+    write_byte(output, c, ValueKind::INSTANCE_VARIABLES)?;
     if levels == 0 {
-        return DEEP;
+        return Err(Stop::TooDeep);
     }
-    DONE
+    Ok(Opened::More)
 }
 
 // Likewise, and then the class, byte k and the byte string.
@@ -116,24 +116,20 @@ pub fn open_text(
     bytes: &[u8],
     scratch: &mut [u32],
     output: &mut [u8],
-    c: &mut [usize; 3],
+    c: &mut Progress,
     v: usize,
     k: u8,
     f: u32,
     class: u32,
     levels: u32,
-) -> u32
+) -> Result<Opened, Stop>
     requires { (get_or nodes.now (v * width + START) 0 + get_or nodes.now (v * width + LENGTH) 0 ≤ length bytes.now) × Ready (λ A. Lent A nodes.now bytes.now × IsObject A v × ClassRight A class) (buffers scratch.old output.old) c.old }
     ensures { (A : Arena) (room limit : ℕ) → Lent A nodes.now bytes.now → IsObject A v → ClassRight A class → Opens A room limit (texted room A v (write_level limit levels) f class (k ∷ (integer_bytes (get_or nodes.now (v * width + LENGTH) 0) ++ take (get_or nodes.now (v * width + LENGTH) 0) (drop (get_or nodes.now (v * width + START) 0) bytes.now)))) (buffers scratch.old output.old) c.old result (buffers scratch.new output.new) c.new }
 {
-    let w = open_marked(scratch, output, c, v, f, levels);
-    if w != DONE {
-        return w;
+    if let Opened::Whole = open_marked(scratch, output, c, v, f, levels)? {
+        return Ok(Opened::Whole);
     }
-    let x = write_class(&nodes[..], &bytes[..], scratch, output, c, class);
-    if x != DONE {
-        return x;
-    }
+    write_class(&nodes[..], &bytes[..], scratch, output, c, class)?;
     write_text(
         &bytes[..],
         output,
@@ -141,7 +137,8 @@ pub fn open_text(
         k,
         nodes[v * Node::WIDTH + Node::START],
         nodes[v * Node::WIDTH + Node::LENGTH],
-    )
+    )?;
+    Ok(Opened::More)
 }
 
 // A Bignum: its byte and its number.
@@ -149,33 +146,22 @@ pub fn open_bignum(
     nodes: &[u32],
     scratch: &mut [u32],
     output: &mut [u8],
-    c: &mut [usize; 3],
+    c: &mut Progress,
     v: usize,
-) -> u32
+) -> Result<Opened, Stop>
     requires { Ready (λ A. Noded A nodes.now × IsObject A v) (buffers scratch.old output.old) c.old }
     ensures { (A : Arena) (room limit : ℕ) → IsObject A v → Opens A room limit (opened room v (BIGNUM ∷ bignum_bytes (eqb (get_or nodes.now (v * width + COUNT) 0) 1) (magnitude (get_or nodes.now (v * width + START) 0) (get_or nodes.now (v * width + LENGTH) 0)))) (buffers scratch.old output.old) c.old result (buffers scratch.new output.new) c.new }
 {
-    let w = number_object(scratch, output, c, v);
-    if w != DONE {
-        return w;
+    if let Opened::Whole = number_object(scratch, output, c, v)? {
+        return Ok(Opened::Whole);
     }
-    let b = write_byte(output, c, ValueKind::BIGNUM);
-    if b != DONE {
-        return b;
-    }
+    write_byte(output, c, ValueKind::BIGNUM)?;
     write_bignum(
         output,
         c,
         nodes[v * Node::WIDTH + Node::SIGN] == 1,
         nodes[v * Node::WIDTH + Node::LOW],
         nodes[v * Node::WIDTH + Node::HIGH],
-    )
-}
-
-// What has no members is whole where it is done.
-pub fn whole(w: u32) -> u32
-    ensures value { (w ≡ 0 → result ≡ 1) × ((w ≡ 0 → ⊥) → result ≡ w) }
-    ensures fact { result ≡ 0 → ⊥ }
-{
-    if w == DONE { WHOLE } else { w }
+    )?;
+    Ok(Opened::More)
 }

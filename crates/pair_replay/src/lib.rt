@@ -5,13 +5,10 @@
 // input, the second, the first dump and the second the length and the byte at which it stands.
 #![tactic(auto)]
 
-use console::{BYTES, NODES, NUMBERED, REFERENCES};
-use definition::Dumped;
+use console::{NUMBERED, Tables};
+use definition::Refusal;
 use redumping::redump;
-use replay_cases::{
-    bytes_agree, junk, laid, place, plus, same_answer, set_bytes, set_words, word, words_agree,
-    zeros,
-};
+use replay_cases::{Case, Held};
 
 // Places in a case.
 const SAME: usize = 2;
@@ -23,74 +20,60 @@ const INPUTS: usize = 6;
 const DUMPS: usize = 10;
 
 // The dump is that of which length and place stand from word `at` on.
-fn dumped_agrees(data: &[u8], at: usize, r: Dumped, scratch: &[u32], output: &[u8]) -> bool {
-    let answer = r.answer;
-    let written = r.written;
-    let given = place(&data[..], at);
-    let start = place(&data[..], plus(at, 1));
-    same_answer(&data[..], ANSWER, answer)
-        && written == given
-        && words_agree(&data[..], zeros(), &scratch[..])
-        && bytes_agree(&data[..], laid(start, given), &output[..])
+fn dumped_agrees(
+    case: Case<'_>,
+    at: usize,
+    r: Result<usize, Refusal>,
+    scratch: &[u32],
+    output: &[u8],
+) -> bool {
+    let n = case.place(at);
+    let dumped = Held::Laid {
+        at: case.place(at.saturating_add(1)),
+        n,
+    };
+    case.answers(ANSWER, r)
+        && r.unwrap_or(0) == n
+        && Held::ZEROS.agrees(case, scratch)
+        && dumped.agrees(case, output)
 }
 
 // An input, loaded and dumped into `output`.
-fn input_agrees(data: &[u8], at: usize, input: &[u8], output: &mut [u8]) -> bool {
-    let mut nodes = [0u32; NODES];
-    let mut references = [0u32; REFERENCES];
-    let mut bytes = [0u8; BYTES];
-    let mut symbols = [0u32; NUMBERED];
-    let mut objects = [0u32; NUMBERED];
+fn input_agrees(case: Case<'_>, at: usize, input: &[u8], output: &mut [u8]) -> bool {
+    let mut tables = Tables::new();
     let mut scratch = [0u32; NUMBERED];
-    set_words(&data[..], junk(), &mut nodes);
-    set_words(&data[..], junk(), &mut references);
-    set_bytes(&data[..], junk(), &mut bytes);
-    set_words(&data[..], junk(), &mut symbols);
-    set_words(&data[..], junk(), &mut objects);
-    set_words(&data[..], junk(), &mut scratch);
-    set_bytes(&data[..], junk(), output);
+    Held::Junk.set(case, &mut tables.nodes);
+    Held::Junk.set(case, &mut tables.references);
+    Held::Junk.set(case, &mut tables.bytes);
+    Held::Junk.set(case, &mut tables.symbols);
+    Held::Junk.set(case, &mut tables.objects);
+    Held::Junk.set(case, &mut scratch);
+    Held::Junk.set(case, output);
     let r = redump(
-        &input[..],
-        &mut nodes,
-        &mut references,
-        &mut bytes,
-        &mut symbols,
-        &mut objects,
+        input,
+        &mut tables.nodes,
+        &mut tables.references,
+        &mut tables.bytes,
+        &mut tables.symbols,
+        &mut tables.objects,
         &mut scratch,
         output,
     );
-    dumped_agrees(&data[..], at, r, &scratch, output)
+    dumped_agrees(case, at, r, &scratch, output)
 }
 
 // The input and its dump whose lengths stand k words after the first ones.
-fn part_agrees(data: &[u8], k: usize, output: &mut [u8]) -> bool {
-    let start = place(&data[..], plus(INPUTS + 1, k));
-    let end = plus(start, place(&data[..], plus(INPUTS, k)));
-    if end <= data.len() {
-        if start <= end {
-            return input_agrees(&data[..], plus(DUMPS, k), &data[start..end], output);
-        }
+fn part_agrees(case: Case<'_>, k: usize, output: &mut [u8]) -> bool {
+    match case.part(k.saturating_add(INPUTS), k.saturating_add(INPUTS + 1)) {
+        Some(input) => input_agrees(case, k.saturating_add(DUMPS), input, output),
+        None => false,
     }
-    false
 }
 
-// Whether the two outputs hold the same bytes.
-fn same_output(first: &[u8], second: &[u8]) -> bool {
-    if first.len() != second.len() {
-        return false;
-    }
-    for i in 0..first.len() {
-        if first[i] != second[i] {
-            return false;
-        }
-    }
-    true
-}
-
-pub fn agree(data: &[u8]) -> bool {
+pub fn agree(case: Case<'_>) -> bool {
     let mut first = io::large_buffer();
     let mut second = io::large_buffer();
-    part_agrees(&data[..], 0, &mut first)
-        & part_agrees(&data[..], 2, &mut second)
-        & (same_output(&first, &second) == (word(&data[..], SAME) == 1))
+    part_agrees(case, 0, &mut first)
+        & part_agrees(case, 2, &mut second)
+        & ((first[..] == second[..]) == (case.word(SAME) == 1))
 }

@@ -4,65 +4,57 @@
 // Standard input: for each input its length in two bytes, low byte first, the program's number in two, and the input.
 #![tactic(auto)]
 
-use console::{LONGEST, end_row, flush, put_number, within};
-use programs::put_output;
+use console::{LONGEST, Output};
+use programs::Program;
+use std::fmt;
+use std::fmt::Write;
 
-// The position after an input's output, or that there is no further input.
-#[derive(Clone, Copy)]
-enum Step {
-    Shown(usize),
-    End,
+// The program of a number, from 1 on.
+fn program_of(number: u16) -> Option<Program> {
+    match number {
+        1 => Some(Program::List),
+        2 => Some(Program::ListAll),
+        3 => Some(Program::Redump),
+        4 => Some(Program::Form),
+        5 => Some(Program::Cost),
+        _ => None,
+    }
 }
 
-fn number_of(low: u8, high: u8) -> u32 {
-    low as u32 + high as u32 * 256
+fn write_case(out: &mut Output<'_>, number: u16, input: &[u8]) -> fmt::Result {
+    writeln!(out, "{number:>11}")?;
+    if let Some(program) = program_of(number) {
+        program.write(out, input)?;
+    }
+    writeln!(out)
 }
 
-fn put_case(program: u32, input: &[u8], out: &mut [u8], at: usize) -> usize {
-    let p = put_number(out, at, program as u64);
-    let q = end_row(out, p);
-    let r = put_output(program, &input[..], out, q);
-    end_row(out, r)
-}
-
-// The next bytes of standard input, at most n; how many.
-fn read_bytes(data: &mut [u8], n: usize) -> usize {
-    let most = within(n, data);
-    io::read_full(0, &mut data[..most])
-}
-
-// The next input through its program.
-fn show_next(out: &mut [u8], at: usize) -> Step {
+// The next input through its program; whether there was one.
+fn write_next(out: &mut Output<'_>) -> Result<bool, fmt::Error> {
     let mut head = [0u8; 4];
     let mut data = [0u8; LONGEST + 1];
     if io::read_full(0, &mut head) < 4 {
-        return Step::End;
+        return Ok(false);
     }
-    let length = number_of(head[0], head[1]) as usize;
-    let program = number_of(head[2], head[3]);
-    if read_bytes(&mut data, length) < length {
-        return Step::End;
+    let [a, b, c, d] = head;
+    let length = u16::from_le_bytes([a, b]) as usize;
+    if data.len() < length || io::read_full(0, &mut data[..length]) < length {
+        return Ok(false);
     }
-    let n = within(length, &data);
-    Step::Shown(put_case(program, &data[..n], out, at))
+    write_case(out, u16::from_le_bytes([c, d]), &data[..length])?;
+    Ok(true)
 }
 
-fn show_all(out: &mut [u8]) {
-    let mut at = 0;
-    for i in 0u64..10000 {
-        match show_next(out, at) {
-            Step::Shown(p) => {
-                at = p;
-            }
-            Step::End => {
-                flush(out, at);
-                return;
-            }
+fn write_all(out: &mut Output<'_>) -> fmt::Result {
+    for _ in 0u64..10000 {
+        if !write_next(out)? {
+            break;
         }
     }
+    out.flush()
 }
 
 fn main() {
-    let mut out = io::buffer();
-    show_all(&mut out);
+    let mut buffer = io::buffer();
+    let _ = write_all(&mut Output::new(&mut buffer));
 }

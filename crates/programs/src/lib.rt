@@ -1,118 +1,78 @@
-// What each program does with its input, chosen by a number, and the program over standard input.
+// The programs over standard input, and what each writes for an input.
 #![tactic(auto)]
 
-use console::{
-    BYTES, Input, LONGEST, NODES, NUMBERED, REFERENCES, flush, load_input, put_form, read_input,
-    within,
-};
-use costing::{cost_input, put_cost};
-use listing::{put_listing, put_listings};
-use redumping::put_redump;
+use console::{LONGEST, Output, Tables, read_input, write_refusal};
+use costing::write_cost;
+use listing::{write_listing, write_listings};
+use redumping::write_redump;
+use std::fmt;
+use std::fmt::Write;
 use std::io::{Error, Print, Stderr, Stdin};
 use std::process::ExitCode;
 
-// The programs.
-pub const LIST: u32 = 1;
+#[derive(Clone, Copy)]
+pub enum Program {
+    List,
+    ListAll,
+    Redump,
+    Form,
+    Cost,
+}
 
-pub const LIST_ALL: u32 = 2;
-
-pub const REDUMP: u32 = 3;
-
-pub const FORM: u32 = 4;
-
-pub const COST: u32 = 5;
-
-// What a program writes for an input, put into `out` from `at` on; the position after it.
-pub fn put_output(program: u32, input: &[u8], out: &mut [u8], at: usize) -> usize {
-    let mut nodes = [0u32; NODES];
-    let mut references = [0u32; REFERENCES];
-    let mut bytes = [0u8; BYTES];
-    let mut symbols = [0u32; NUMBERED];
-    let mut objects = [0u32; NUMBERED];
-    match program {
-        LIST => put_listing(
-            out,
-            at,
-            &input[..],
-            &mut nodes,
-            &mut references,
-            &mut bytes,
-            &mut symbols,
-            &mut objects,
-        ),
-        LIST_ALL => put_listings(
-            out,
-            at,
-            &input[..],
-            &mut nodes,
-            &mut references,
-            &mut bytes,
-            &mut symbols,
-            &mut objects,
-        ),
-        REDUMP => put_redump(
-            out,
-            at,
-            &input[..],
-            &mut nodes,
-            &mut references,
-            &mut bytes,
-            &mut symbols,
-            &mut objects,
-        ),
-        FORM => {
-            let r = load_input(
-                &input[..],
-                &mut nodes,
-                &mut references,
-                &mut bytes,
-                &mut symbols,
-                &mut objects,
-            );
-            put_form(out, at, r)
+impl Program {
+    fn name(self) -> &'static str {
+        match self {
+            Program::List => "list",
+            Program::ListAll => "list_all",
+            Program::Redump => "redump",
+            Program::Form => "form",
+            Program::Cost => "cost",
         }
-        COST => {
-            let r = cost_input(
-                &input[..],
-                &mut nodes,
-                &mut references,
-                &mut bytes,
-                &mut symbols,
-                &mut objects,
-            );
-            put_cost(out, at, r)
+    }
+
+    // What the program writes for an input.
+    pub fn write(self, out: &mut Output<'_>, input: &[u8]) -> fmt::Result {
+        match self {
+            Program::List => write_listing(out, input),
+            Program::ListAll => write_listings(out, input),
+            Program::Redump => write_redump(out, input),
+            Program::Form => write_form(out, input),
+            Program::Cost => write_cost(out, input),
         }
-        _ => at,
     }
 }
 
-// A program's output for an input, written; whether it was.
-fn write_output(program: u32, input: &[u8]) -> bool {
-    let mut out = io::buffer();
-    let at = put_output(program, &input[..], &mut out, 0);
-    flush(&out, at) == 0
+// Whether dump writes what load used, or load's refusal: a row.
+fn write_form(out: &mut Output<'_>, input: &[u8]) -> fmt::Result {
+    let mut tables = Tables::new();
+    match tables.load(input) {
+        Ok(loaded) => out.write_str(if loaded.form { "yes\n" } else { "no\n" }),
+        Err(q) => write_refusal(out, q),
+    }
+}
+
+// A program's output for an input, written.
+fn write_output(program: Program, input: &[u8]) -> fmt::Result {
+    let mut buffer = io::buffer();
+    let mut out = Output::new(&mut buffer);
+    program.write(&mut out, input)?;
+    out.flush()
 }
 
 // What failed, and why: a line on standard error.
-fn failed(stderr: Stderr, what: &[u8], why: Error) -> ExitCode {
-    let _ = Print::write_all(&stderr, what);
-    let _ = stderr.print(": ");
-    let _ = stderr.println(why);
+fn failed(stderr: Stderr, program: Program, what: &str, why: Error) -> ExitCode {
+    let _ = stderr.println(format_args!("{}: standard {what}: {why}", program.name()));
     ExitCode::FAILURE
 }
 
-// A program over standard input. `reading` and `writing` name what failed, on standard error.
-pub fn run(stdin: Stdin, stderr: Stderr, program: u32, reading: &[u8], writing: &[u8]) -> ExitCode {
+// A program over standard input.
+pub fn run(stdin: Stdin, stderr: Stderr, program: Program) -> ExitCode {
     let mut input = [0u8; LONGEST + 1];
     match read_input(stdin, &mut input) {
-        Input::Read(n) => {
-            let length = within(n, &input);
-            if write_output(program, &input[..length]) {
-                ExitCode::SUCCESS
-            } else {
-                failed(stderr, &writing[..], Error::other("not written"))
-            }
-        }
-        Input::Failed(e) => failed(stderr, &reading[..], e),
+        Ok(n) => match write_output(program, &input[..n]) {
+            Ok(()) => ExitCode::SUCCESS,
+            Err(_) => failed(stderr, program, "output", Error::other("not written")),
+        },
+        Err(e) => failed(stderr, program, "input", e),
     }
 }

@@ -7,19 +7,18 @@ use mathlib.Core.List.{List}
 use lib.ListN.{length, get_or, take, drop, length-drop}
 use lib.Seq.{length-take-le}
 use borrow.Author.Tests.{lt-ltb, le-ltb, le-leb, lt-leb}
-use Rattle.definition.specs.Run.{Outcome, ok, refused, pure, refuse, pick, next, ◌>>=◌}
-use Rattle.definition.specs.Integer.{low_bytes, wrong_sign}
+use Rattle.definition.specs.Run.{ok, refused, pure, refuse, pick, next, ◌>>=◌}
 use Rattle.definition.specs.Slice.{INPUT}
 use Rattle.definition.specs.Arena.{range, too_long}
-use Rattle.definition.specs.State.{State, Reader, noted}
+use Rattle.definition.specs.State.{Reader, noted}
 use Rattle.definition.specs.Load.{read_byte, read_bytes, read_header, read_integer, read_count, read_byte_string}
 use Rattle.definition.specs.Reader.{starting, read_at, taken, header_taken, spanned}
-use Rattle.definition.specs.declared.Answer.TheVariants.{Accepted}
+use Rattle.definition.specs.Refused.{Accepted}
 use Rattle.definition.specs.declared.Refusal.{Refusal}
 use Rattle.definition.specs.declared.Refusal.TheVariants.{BadTables, ShortInput, NegativeCount}
+use Rattle.lists.specs.Runs.{err_is}
 use Rattle.reader.specs.From.{taken_as, not_taken, no_text, byte_from, header_from, integer_from, text_from}
-use Rattle.reader.specs.Integers.{Whole, size_at, data_at, word_at, dumped_at, sign_checked, integer_read, integer_wrong}
-use Rattle.reader.specs.Answers.{refusal_at, coded, at_wrong_sign}
+use Rattle.reader.specs.Integers.{Whole, size_at, dumped_at, integer_read}
 
 -- at the start all is in dump form
 and_true : (t : Bool) → (t && true) ≡ t
@@ -28,14 +27,16 @@ and_true false = refl
 
 -- ---- the length of the whole input
 
-module _ {A : Type 0} (input : List ℕ) (at : ℕ) (m : Reader A) where
-  pub denied : true ≡ too_long (length input) → ◌≡◌ {A = Outcome State A} (refused (BadTables INPUT)) (read_at input at m)
-  unfolding read_at pick
-  denied e = rw (sym e) refl
+pub read_allowed : {A : Type 0} (input : List ℕ) (at : ℕ) (m : Reader A) → too_long (length input) ≡ false → read_at input at m ≡ m (starting at)
+unfolding read_at pick
+read_allowed input at m e = rw e refl
 
-  pub granted : false ≡ too_long (length input) → m (starting at) ≡ read_at input at m
-  unfolding read_at pick
-  granted e = rw (sym e) refl
+pub read_denied : {A : Type 0} (input : List ℕ) (at : ℕ) (m : Reader A) → too_long (length input) ≡ true → read_at input at m ≡ refused (BadTables INPUT)
+unfolding read_at pick
+read_denied input at m e = rw e refl
+
+-- these, and what `?` hands up
+pub ruleset tested = (read_allowed, read_denied, err_is)
 
 module _ (input : List ℕ) (at : ℕ) where
   -- ---- a byte and the header
@@ -62,23 +63,8 @@ module _ (input : List ℕ) (at : ℕ) where
 
   -- ---- an integer
 
-  -- what check_sign makes of its first byte and its 32 bits
-  pub integer_checked : {w r : ℕ} → at + size_at input at ≤ length input → w ≡ word_at input at → data_at input at ≡ low_bytes (size_at input at - 1) w → w < 4294967296 → r ≡ sign_checked (get_or input at 0) w → get_or input at 0 ≤ 255 → (4294967296 ≤ r → read_integer input (starting at) ≡ refused (refusal_at 0 r)) × (r < 4294967296 → Whole input at r)
-  unfolding sign_checked pick
-  integer_checked {w} {r} h e d u c b = go (wrong_sign (get_or input at 0) w) refl c
-    where
-      go : (t : Bool) → wrong_sign (get_or input at 0) w ≡ t → r ≡ pick t (coded 19 (get_or input at 0)) w → (4294967296 ≤ r → read_integer input (starting at) ≡ refused (refusal_at 0 r)) × (r < 4294967296 → Whole input at r)
-      go true q f =
-          (λ l. integer_wrong input (starting at) h (rw e at q) ∙ ap refused (sym (ap (refusal_at 0) f ∙ at_wrong_sign 0 _ b)), λ l. absurd (omega (arith, f)))
-      go false q f =
-          (λ l. absurd (omega (arith, f)), λ l. record { inside = h; agrees = rw e at q; word = f ∙ e; low = rw f d })
-
   pub integer_whole : {w n : ℕ} {t : Bool} → Whole input at w → n ≡ size_at input at → t ≡ dumped_at input at → read_integer input (starting at) ≡ ok w (noted t (starting (at + n)))
   integer_whole k e q = rw (e, k.word, q) (integer_read input (starting at) k.inside k.agrees)
-
-  pub integer_refused : {q : Refusal} → read_integer input (starting at) ≡ refused q → not_taken q at ≡ integer_from input at
-  unfolding taken
-  integer_refused e = sym (ap (taken at) e)
 
   pub integer_there : (t : Bool) {w p : ℕ} → read_integer input (starting at) ≡ ok w (noted t (starting p)) → taken_as w p t ≡ integer_from input at
   unfolding taken

@@ -1,10 +1,13 @@
--- What a reader's number says: below 2^32 a value, from there on a refusal.
-use Rattle.std.specs.Prelude.{ℕ, ◌+◌, ◌*◌, ◌/◌, ◌%◌, ◌≤◌, ◌<◌, ◌≡◌, eqb}
+-- Which refusal a reader's stop is.
+use Rattle.std.specs.Prelude.{ℕ, ◌+◌, ◌*◌, ◌/◌, ◌%◌, ◌≤◌, ◌<◌, ◌≡◌, eqb, Bool, true, false, Result, Ok, Err}
+use Rattle.reader.specs.declared.Stop.{Stop}
 use native.Mathlib.Omega.{arith}
 use Rattle.std.proofs.Math.Path.{refl, ap}
 use Rattle.std.proofs.Common.{◌∙◌, ne_eqb}
 use Rattle.definition.specs.Run.{ok, refused, pick}
+use Rattle.definition.specs.Arena.{counts_of}
 use Rattle.definition.specs.State.{State, Reader, at_set, noted}
+use Rattle.definition.specs.Load.{counts_left}
 use Rattle.definition.specs.declared.Refusal.{Refusal}
 use Rattle.definition.specs.declared.Refusal.TheVariants.{InvalidVersion, ShortInput, InvalidKind, NegativeCount, MissingSymbol, MissingObject, NotASymbol, NotAnObject, TooDeep, NoSpace, BadSign, TooBig, WrongSign, NotWrappable}
 
@@ -26,17 +29,16 @@ refusal_of limit n d =
     (pick (eqb n 22) (NotWrappable (d % 256))
     (NoSpace d)))))))))))))
 
--- readers answer refusals from here on
-abbrev pub REFUSED : ℕ
-REFUSED = 4294967296
-
--- the refusal that a number from there on says
+-- the refusal that a code says
 unfoldable pub refusal_at : ℕ → ℕ → Refusal
-refusal_at limit r = refusal_of limit (r / REFUSED) (r % REFUSED)
+refusal_at limit r = refusal_of limit (r / 4294967296) (r % 4294967296)
 
--- the number that says it
+-- the code that says it
 abbrev pub coded : ℕ → ℕ → ℕ
-coded n d = n * REFUSED + d
+coded n d = n * 4294967296 + d
+
+abbrev pub stop : ℕ → ℕ → Stop
+stop n d = record { code = coded n d }
 
 pub at_parts : (limit n d : ℕ) {r : ℕ} → r ≡ coded n d → d < 4294967296 → refusal_at limit r ≡ refusal_of limit n d
 unfolding refusal_at
@@ -49,6 +51,13 @@ module _ (limit : ℕ) where
   pub at_short : refusal_at limit (coded 4 0) ≡ ShortInput
   unfolding refusal_of pick
   at_short = at_parts limit 4 0 refl (omega arith)
+
+  pub at_version : (major minor : ℕ) → major ≤ 255 → minor ≤ 255 → refusal_at limit (coded 3 (major * 256 + minor)) ≡ InvalidVersion major minor
+  unfolding refusal_of pick
+  at_version major minor k l =
+      let x : (major * 256 + minor) / 256 % 256 ≡ major = omega arith in
+      let y : (major * 256 + minor) % 256 ≡ minor = omega arith in
+      at_parts limit 3 (major * 256 + minor) refl (omega arith) ∙ λ i. InvalidVersion (x i) (y i)
 
   pub at_kind : (k : ℕ) → k ≤ 255 → refusal_at limit (coded 5 k) ≡ InvalidKind k
   unfolding refusal_of pick
@@ -105,7 +114,18 @@ refusal_last limit r c d e f g h i j k l m o p =
     let n = r / 4294967296 in
     simp (ne_eqb n 3 c, ne_eqb n 4 d, ne_eqb n 5 e, ne_eqb n 6 f, ne_eqb n 7 g, ne_eqb n 8 h, ne_eqb n 9 i, ne_eqb n 10 j, ne_eqb n 11 k, ne_eqb n 15 l, ne_eqb n 16 m, ne_eqb n 19 o, ne_eqb n 22 p)
 
--- a reader m at the offset `at`, whose number is r: below 2^32 it has come to the offset given, and dump writes what it read just where r is 0; from there on it is a refusal
-pub record Reads (m : Reader (Unit {0})) (at r next : ℕ) : Type 0 where
-  pub reads : r < 4294967296 → (s : State) → s.at ≡ at → m s ≡ ok tt (noted (eqb r 0) (at_set next s))
-  pub stops : 4294967296 ≤ r → (limit : ℕ) (s : State) → s.at ≡ at → m s ≡ refused (refusal_at limit r)
+-- a refused load leaves the counts of nil alone, whatever a reader said: a code says all but BAD-TABLES
+picked : (b : Bool) (x y : Refusal) → counts_left x ≡ counts_of 1 0 0 0 → counts_left y ≡ counts_of 1 0 0 0 → counts_left (pick b x y) ≡ counts_of 1 0 0 0
+unfolding pick
+picked true x y e f = e
+picked false x y e f = f
+
+pub nil_left : (limit r : ℕ) → counts_left (refusal_at limit r) ≡ counts_of 1 0 0 0
+unfolding refusal_at refusal_of counts_left
+nil_left limit r =
+    picked _ _ _ refl (picked _ _ _ refl (picked _ _ _ refl (picked _ _ _ refl (picked _ _ _ refl (picked _ _ _ refl (picked _ _ _ refl (picked _ _ _ refl (picked _ _ _ refl (picked _ _ _ refl (picked _ _ _ refl (picked _ _ _ refl (picked _ _ _ refl refl))))))))))))
+
+-- a reader m at the offset `at`, which answered r: it has come to the offset given, and r says whether dump writes what it read; or it is refused
+abbrev pub Reads : Reader (Unit {0}) → ℕ → Result Bool Stop → ℕ → Type 0
+Reads m at (Ok t) next = (s : State) → s.at ≡ at → m s ≡ ok tt (noted t (at_set next s))
+Reads m at (Err q) next = (limit : ℕ) (s : State) → s.at ≡ at → m s ≡ refused (refusal_at limit q.code)

@@ -1,4 +1,4 @@
--- The numbers that readers answer, and integers at an offset.
+-- Which refusal a reader's answer is, and integers at an offset.
 pub mod Answers
 pub mod Integers
 pub mod From

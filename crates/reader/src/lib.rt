@@ -1,117 +1,191 @@
-// What stands in the input at an offset: integers and the header; the numbers that readers answer; and the reader, an input
+// What stands in the input at an offset: integers and the header; the refusals that readers answer; and the reader, an input
 // with an offset.
 #![tactic(auto)]
 
-ghost use Rattle.std.specs.Prelude.{◌≡◌, ◌⊎◌, List, [], ◌∷◌, ℕ, ◌+◌, ◌-◌, ◌*◌, ◌^◌, ◌<◌, ◌≤◌, length, take, drop};
+ghost use Rattle.std.specs.Prelude.{MatchResult, OnOk, true, false, ◌≡◌, ◌⊎◌, List, [], ◌∷◌, ℕ, ◌+◌, ◌-◌, ◌*◌, ◌^◌, ◌<◌, ◌≤◌, length, take, drop};
 ghost use Rattle.definition.specs.Integer.{value, form, low_bytes, integer_bytes, wrong_sign};
 ghost use Rattle.definition.specs.Integer as integer;
 ghost use Rattle.definition.specs.Kind.{PLUS, MINUS};
 ghost use Rattle.definition.specs.Run.{refused};
 ghost use Rattle.definition.specs.Arena.{too_long};
+ghost use Rattle.definition.specs.Slice.{INPUT};
 ghost use Rattle.definition.specs.Load.{read_header, read_integer};
-ghost use Rattle.definition.specs.Reader.{starting, left, next_byte, next_header, next_integer, next_byte_string};
-ghost use Rattle.reader.specs.Answers.{refusal_at, coded, Reads};
-ghost use Rattle.reader.specs.Integers.{size_of, word_of, data_of, as_dumped, size_at, data_at, word_at, least, sign_checked, Whole};
-ghost use Rattle.reader.specs.From.{taken_as, not_taken, no_text, byte_from, header_from, integer_from, text_from};
+ghost use Rattle.definition.specs.Reader.{starting, left, taken_answer, text_answer, next_byte, next_header, next_integer, next_byte_string};
+ghost use Rattle.reader.specs.Answers.{refusal_at, Reads};
+ghost use Rattle.reader.specs.Integers.{size_of, word_of, data_of, as_dumped, size_at, data_at, word_at, least, Whole};
+ghost use Rattle.reader.specs.From.{byte_from, header_from, integer_from, text_from};
 
-use definition::{Answer, Bignum, Refusal, Slice, Taken, Text};
+use definition::{Bignum, Refusal, Slice, Taken, Text};
 
-// A reader answers a number, which comes back in a register: an enum comes back in memory. Below REFUSED it is a value;
-// from there on a refusal, whose number is the quotient and whose detail is the remainder by REFUSED.
-pub const REFUSED: u64 = 4294967296;
+// What a refusal's number is multiplied by, above any detail.
+const ABOVE: u64 = 4294967296;
 
-const INVALID_VERSION: u64 = 3 * REFUSED;
+// A refusal in one word: its number times 2^32 and its detail. So a Result of a number and it comes back in two registers,
+// where one with a Refusal comes back in memory.
+#[derive(Clone, Copy)]
+pub struct Stop {
+    pub code: u64,
+}
 
-pub const SHORT_INPUT: u64 = 4 * REFUSED;
+impl Stop {
+    pub const SHORT_INPUT: Stop = Stop { code: 4 * ABOVE };
 
-pub const INVALID_KIND: u64 = 5 * REFUSED;
+    pub const NOT_AN_OBJECT: Stop = Stop { code: 10 * ABOVE };
 
-pub const NEGATIVE_COUNT: u64 = 6 * REFUSED;
+    pub const TOO_DEEP: Stop = Stop { code: 11 * ABOVE };
 
-pub const MISSING_SYMBOL: u64 = 7 * REFUSED;
+    // no room for one entry more in this table or list
+    pub const NO_NODES: Stop = Stop {
+        code: 12 * ABOVE + Slice::NODES as u64,
+    };
 
-pub const MISSING_OBJECT: u64 = 8 * REFUSED;
+    pub const NO_REFERENCES: Stop = Stop {
+        code: 12 * ABOVE + Slice::REFERENCES as u64,
+    };
 
-const NOT_A_SYMBOL: u64 = 9 * REFUSED;
+    pub const NO_BYTES: Stop = Stop {
+        code: 12 * ABOVE + Slice::BYTES as u64,
+    };
 
-pub const NOT_AN_OBJECT: u64 = 10 * REFUSED;
+    pub const NO_SYMBOLS: Stop = Stop {
+        code: 12 * ABOVE + Slice::SYMBOLS as u64,
+    };
 
-pub const TOO_DEEP: u64 = 11 * REFUSED;
+    pub const NO_OBJECTS: Stop = Stop {
+        code: 12 * ABOVE + Slice::OBJECTS as u64,
+    };
 
-const NO_SPACE: u64 = 12 * REFUSED;
+    // Of a version.
+    #[tactic(auto, using(crate::specs::Answers::at_version))]
+    fn invalid_version(major: u32, minor: u32) -> Stop
+        requires { (major ≤ 255) × (minor ≤ 255) }
+        ensures { (limit : ℕ) → refusal_at limit result.code ≡ Refusal.InvalidVersion major minor }
+    {
+        Stop {
+            code: 3 * ABOVE + (major * 256 + minor) as u64,
+        }
+    }
 
-// no room for one entry more in this table or list
-pub const NO_NODES: u64 = NO_SPACE + Slice::NODES as u64;
+    // Of a kind byte.
+    #[tactic(auto, using(crate::specs::Answers::at_kind))]
+    pub fn invalid_kind(k: u8) -> Stop
+        ensures { (limit : ℕ) → refusal_at limit result.code ≡ Refusal.InvalidKind k }
+    {
+        Stop {
+            code: 5 * ABOVE + k as u64,
+        }
+    }
 
-pub const NO_REFERENCES: u64 = NO_SPACE + Slice::REFERENCES as u64;
+    // Of a count whose 32 bits are w.
+    #[tactic(auto, using(crate::specs::Answers::at_negative))]
+    pub fn negative_count(w: u32) -> Stop
+        ensures { (limit : ℕ) → refusal_at limit result.code ≡ Refusal.NegativeCount w }
+    {
+        Stop {
+            code: 6 * ABOVE + w as u64,
+        }
+    }
 
-pub const NO_BYTES: u64 = NO_SPACE + Slice::BYTES as u64;
+    // Of a link's index.
+    #[tactic(auto, using(crate::specs::Answers::at_symbol))]
+    pub fn missing_symbol(index: u32) -> Stop
+        ensures { (limit : ℕ) → refusal_at limit result.code ≡ Refusal.MissingSymbol index }
+    {
+        Stop {
+            code: 7 * ABOVE + index as u64,
+        }
+    }
 
-pub const NO_SYMBOLS: u64 = NO_SPACE + Slice::SYMBOLS as u64;
+    #[tactic(auto, using(crate::specs::Answers::at_object))]
+    pub fn missing_object(index: u32) -> Stop
+        ensures { (limit : ℕ) → refusal_at limit result.code ≡ Refusal.MissingObject index }
+    {
+        Stop {
+            code: 8 * ABOVE + index as u64,
+        }
+    }
 
-pub const NO_OBJECTS: u64 = NO_SPACE + Slice::OBJECTS as u64;
+    // Of a kind byte where a name is wanted.
+    #[tactic(auto, using(crate::specs::Answers::at_name))]
+    pub fn not_a_symbol(k: u8) -> Stop
+        ensures { (limit : ℕ) → refusal_at limit result.code ≡ Refusal.NotASymbol k }
+    {
+        Stop {
+            code: 9 * ABOVE + k as u64,
+        }
+    }
 
-const BAD_SIGN: u64 = 15 * REFUSED;
+    // Of a byte where a Bignum's sign is wanted.
+    #[tactic(auto, using(crate::specs::Answers::at_sign))]
+    fn bad_sign(b: u8) -> Stop
+        ensures { (limit : ℕ) → refusal_at limit result.code ≡ Refusal.BadSign b }
+    {
+        Stop {
+            code: 15 * ABOVE + b as u64,
+        }
+    }
 
-pub const BIGNUM_TOO_BIG: u64 = 16 * REFUSED;
+    // Of a Bignum of n units.
+    #[tactic(auto, using(crate::specs::Answers::at_big))]
+    pub fn too_big(n: u32) -> Stop
+        ensures { (limit : ℕ) → refusal_at limit result.code ≡ Refusal.TooBig n }
+    {
+        Stop {
+            code: 16 * ABOVE + n as u64,
+        }
+    }
 
-const WRONG_SIGN: u64 = 19 * REFUSED;
+    // Of an integer's first byte.
+    #[tactic(auto, using(crate::specs::Answers::at_wrong_sign))]
+    fn wrong_sign(b: u8) -> Stop
+        ensures { (limit : ℕ) → refusal_at limit result.code ≡ Refusal.WrongSign b }
+    {
+        Stop {
+            code: 19 * ABOVE + b as u64,
+        }
+    }
 
-const NOT_WRAPPABLE: u64 = 22 * REFUSED;
+    // Of a byte after a class's name.
+    #[tactic(auto, using(crate::specs::Answers::at_wrapped))]
+    pub fn not_wrappable(k: u8) -> Stop
+        ensures { (limit : ℕ) → refusal_at limit result.code ≡ Refusal.NotWrappable k }
+    {
+        Stop {
+            code: 22 * ABOVE + k as u64,
+        }
+    }
 
-// The refusal that an answer from REFUSED on is, under this limit.
-pub fn refusal_of(r: u64, limit: u32) -> Refusal
-    requires { 4294967296 ≤ r }
-    ensures { result ≡ refusal_at limit r }
-{
-    let number = r / REFUSED;
-    let detail = (r % REFUSED) as u32;
-    match number {
-        3 => Refusal::InvalidVersion((detail / 256 % 256) as u8, (detail % 256) as u8),
-        4 => Refusal::ShortInput,
-        5 => Refusal::InvalidKind((detail % 256) as u8),
-        6 => Refusal::NegativeCount(detail),
-        7 => Refusal::MissingSymbol(detail),
-        8 => Refusal::MissingObject(detail),
-        9 => Refusal::NotASymbol((detail % 256) as u8),
-        10 => Refusal::NotAnObject,
-        11 => Refusal::TooDeep(limit),
-        15 => Refusal::BadSign((detail % 256) as u8),
-        16 => Refusal::TooBig(detail),
-        19 => Refusal::WrongSign((detail % 256) as u8),
-        22 => Refusal::NotWrappable((detail % 256) as u8),
-        _ => Refusal::NoSpace(detail),
+    // The refusal that it is, under this limit.
+    pub fn refusal(self, limit: u32) -> Refusal
+        ensures { result ≡ refusal_at limit self.code }
+    {
+        let detail = (self.code % ABOVE) as u32;
+        match self.code / ABOVE {
+            3 => Refusal::InvalidVersion((detail / 256 % 256) as u8, (detail % 256) as u8),
+            4 => Refusal::ShortInput,
+            5 => Refusal::InvalidKind((detail % 256) as u8),
+            6 => Refusal::NegativeCount(detail),
+            7 => Refusal::MissingSymbol(detail),
+            8 => Refusal::MissingObject(detail),
+            9 => Refusal::NotASymbol((detail % 256) as u8),
+            10 => Refusal::NotAnObject,
+            11 => Refusal::TooDeep(limit),
+            15 => Refusal::BadSign((detail % 256) as u8),
+            16 => Refusal::TooBig(detail),
+            19 => Refusal::WrongSign((detail % 256) as u8),
+            22 => Refusal::NotWrappable((detail % 256) as u8),
+            _ => Refusal::NoSpace(detail),
+        }
     }
 }
 
-// A word as a wider number.
-pub fn wide(x: u32) -> u64
-    ensures { result ≡ x }
-{
-    x as u64
-}
-
-// The refusal of a kind byte where a name is wanted.
-pub fn not_a_symbol(k: u8) -> u64
-    ensures { (result ≡ coded 9 k) × (k ≤ 255) }
-{
-    NOT_A_SYMBOL + k as u64
-}
-
-// The refusal of a byte after a class's name.
-pub fn not_wrappable(k: u8) -> u64
-    ensures { (result ≡ coded 22 k) × (k ≤ 255) }
-{
-    NOT_WRAPPABLE + k as u64
-}
-
 // A Bignum's sign byte, or the refusal of another.
-pub fn sign_byte(b: u8) -> u64
-    ensures { ((b ≡ PLUS) ⊎ (b ≡ MINUS) → result ≡ b) × (((b ≡ PLUS) ⊎ (b ≡ MINUS) → ⊥) → result ≡ coded 15 b) × (b ≤ 255) }
+pub fn sign_byte(b: u8) -> Result<usize, Stop>
+    ensures { MatchResult result (λ v. ((b ≡ PLUS) ⊎ (b ≡ MINUS)) × (v ≡ b)) (λ s. ((b ≡ PLUS) ⊎ (b ≡ MINUS) → ⊥) × ((limit : ℕ) → refusal_at limit s.code ≡ Refusal.BadSign b)) }
 {
     match b {
-        Bignum::PLUS | Bignum::MINUS => b as u64,
-        _ => BAD_SIGN + b as u64,
+        Bignum::PLUS | Bignum::MINUS => Ok(b as usize),
+        _ => Err(Stop::bad_sign(b)),
     }
 }
 
@@ -183,7 +257,7 @@ pub fn integer_at(input: &[u8], at: usize) -> u32
         if b == 0 {
             return 0;
         }
-        return little(&input[..], at + 1, b as usize);
+        return little(input, at + 1, b as usize);
     }
     if b <= 127 {
         return b - 5;
@@ -195,7 +269,7 @@ pub fn integer_at(input: &[u8], at: usize) -> u32
         return 0;
     }
     let n = 256 - b as usize;
-    ones_above(n) + little(&input[..], at + 1, n)
+    ones_above(n) + little(input, at + 1, n)
 }
 
 // The least number that dump writes with n data bytes.
@@ -252,14 +326,14 @@ fn wrong_sign(b: u8, w: u32) -> bool
     }
 }
 
-// An integer's 32 bits, or the refusal of its first byte b.
-pub fn check_sign(b: u8, w: u32) -> u64
-    ensures { (result ≡ sign_checked b w) × (b ≤ 255) }
+// The refusal of an integer's first byte b, where that is against the sign of the 32 bits w.
+pub fn check_sign(b: u8, w: u32) -> Result<(), Stop>
+    ensures { MatchResult result (λ _. wrong_sign b w ≡ false) (λ s. (wrong_sign b w ≡ true) × ((limit : ℕ) → refusal_at limit s.code ≡ Refusal.WrongSign b)) }
 {
     if wrong_sign(b, w) {
-        return WRONG_SIGN + b as u64;
+        return Err(Stop::wrong_sign(b));
     }
-    w as u64
+    Ok(())
 }
 
 // The number that the one byte b is as an integer in the form that dump writes, where b is at most 127 and the number so at
@@ -283,35 +357,24 @@ pub fn small(b: u8) -> usize
 
 // ---- the header
 
-// The refusal of a version.
-fn invalid_version(major: u32, minor: u32) -> u64
-    requires { (major ≤ 255) × (minor ≤ 255) }
-    ensures { result ≡ 12884901888 + (major * 256 + minor) }
-{
-    INVALID_VERSION + (major * 256 + minor) as u64
-}
-
-// The header at `at`; both bytes are read first. 0 is dump's own, 1 an older version.
-pub fn header_at(input: &[u8], at: usize) -> u64
+// The header at `at`, both bytes of which are read first: is it dump's own, and no older version's?
+pub fn header_at(input: &[u8], at: usize) -> Result<bool, Stop>
     requires { at ≤ length input.now }
     ensures reads { Reads (read_header input.now) at result (at + 2) }
-    ensures at_in_bounds { result < 4294967296 → at + 2 ≤ length input.now }
+    ensures at_in_bounds { OnOk result (at + 2 ≤ length input.now) }
 {
     if input.len() - at < 2 {
-        return SHORT_INPUT;
+        return Err(Stop::SHORT_INPUT);
     }
     let major = byte(input[at]);
     let minor = byte(input[at + 1]);
     if major != 4 {
-        return invalid_version(major, minor);
+        return Err(Stop::invalid_version(major, minor));
     }
     if 8 < minor {
-        return invalid_version(major, minor);
+        return Err(Stop::invalid_version(major, minor));
     }
-    if minor < 8 {
-        return 1;
-    }
-    0
+    Ok(minor == 8)
 }
 
 // ---- what stands at any offset; past the end there is nothing
@@ -326,167 +389,138 @@ pub fn left_at(input: &[u8], at: usize) -> usize
     0
 }
 
-// A refusal; the offset stays.
-fn not_taken(q: Refusal, at: usize) -> Taken
-    ensures { result ≡ not_taken q at }
-{
-    Taken {
-        answer: Answer::Refused(q),
-        value: 0,
-        offset: at,
-        form: false,
-    }
-}
-
-// A value, the offset after it, and whether dump writes its bytes.
-fn took(value: u32, at: usize, form: bool) -> Taken
-    ensures { result ≡ taken_as value at form }
-{
-    Taken {
-        answer: Answer::Accepted,
-        value: value,
-        offset: at,
-        form: form,
-    }
-}
-
 // A byte.
-fn take_byte(input: &[u8], at: usize) -> Taken
-    ensures { result ≡ byte_from input.now at }
+#[tactic(auto, using(crate::proofs::Froms::byte_there, crate::proofs::Froms::byte_none), unfolding(definition::specs::Reader::taken_answer))]
+fn take_byte(input: &[u8], at: usize) -> Result<Taken, Refusal>
+    ensures { taken_answer at result ≡ byte_from input.now at }
 {
     if at < input.len() {
-        return took(byte(input[at]), at + 1, true);
+        return Ok(Taken {
+            value: byte(input[at]),
+            offset: at + 1,
+            form: true,
+        });
     }
-    not_taken(Refusal::ShortInput, at)
+    Err(Refusal::ShortInput)
 }
 
 // The header.
-fn take_header(input: &[u8], at: usize) -> Taken
-    ensures { result ≡ header_from input.now at }
+#[tactic(auto, using(crate::proofs::Froms::header_past), unfolding(definition::specs::Reader::taken_answer))]
+fn take_header(input: &[u8], at: usize) -> Result<Taken, Refusal>
+    ensures { taken_answer at result ≡ header_from input.now at }
 {
     if input.len() < at {
-        return not_taken(Refusal::ShortInput, at);
+        return Err(Refusal::ShortInput);
     }
-    let w = header_at(&input[..], at);
-    if REFUSED <= w {
-        return not_taken(refusal_of(w, 0), at);
+    match header_at(input, at) {
+        Ok(form) => Ok(Taken {
+            value: 0,
+            offset: at + 2,
+            form,
+        }),
+        Err(s) => Err(s.refusal(0)),
     }
-    took(0, at + 2, w == 0)
 }
 
-// The integer at `at`: its 32 bits, or why there is none.
-fn whole_integer(input: &[u8], at: usize) -> u64
-    ensures at_value { 4294967296 ≤ result → read_integer input.now (starting at) ≡ refused (refusal_at 0 result) }
-    ensures whole { result < 4294967296 → Whole input.now at result }
+// The 32 bits of the integer at `at`.
+fn whole_integer(input: &[u8], at: usize) -> Result<u32, Refusal>
+    ensures { MatchResult result (λ w. Whole input.now at w) (λ q. read_integer input.now (starting at) ≡ refused q) }
 {
     if input.len() <= at {
-        return SHORT_INPUT;
+        return Err(Refusal::ShortInput);
     }
     let b = input[at];
     if input.len() - at < integer_size(b) {
-        return SHORT_INPUT;
+        return Err(Refusal::ShortInput);
     }
-    check_sign(b, integer_at(&input[..], at))
+    let w = integer_at(input, at);
+    if wrong_sign(b, w) {
+        return Err(Refusal::WrongSign(b));
+    }
+    Ok(w)
 }
 
 // An integer.
-fn take_integer(input: &[u8], at: usize) -> Taken
-    ensures { result ≡ integer_from input.now at }
+#[tactic(auto, using(lists::specs::Runs::err_is, crate::specs::Integers::size_some), unfolding(definition::specs::Reader::taken, definition::specs::Reader::taken_answer))]
+fn take_integer(input: &[u8], at: usize) -> Result<Taken, Refusal>
+    ensures { taken_answer at result ≡ integer_from input.now at }
 {
-    let r = whole_integer(&input[..], at);
-    if REFUSED <= r {
-        return not_taken(refusal_of(r, 0), at);
-    }
-    let w = r as u32;
-    took(w, at + integer_size(input[at]), in_form(input[at], w))
-}
-
-// A refused byte string.
-fn no_text(q: Refusal, at: usize) -> Text
-    ensures { result ≡ no_text q at }
-{
-    Text {
-        answer: Answer::Refused(q),
-        start: 0,
-        length: 0,
-        offset: at,
-        form: false,
-    }
+    let w = whole_integer(input, at)?;
+    Ok(Taken {
+        value: w,
+        offset: at + integer_size(input[at]),
+        form: in_form(input[at], w),
+    })
 }
 
 // A byte string.
-fn take_byte_string(input: &[u8], at: usize) -> Text
-    ensures { result ≡ text_from input.now at }
+#[tactic(auto, using(lists::specs::Runs::err_is, crate::specs::Integers::size_some, crate::proofs::Froms::text_refused), unfolding(definition::specs::Reader::text_answer))]
+fn take_byte_string(input: &[u8], at: usize) -> Result<Text, Refusal>
+    ensures { text_answer at result ≡ text_from input.now at }
 {
-    let r = whole_integer(&input[..], at);
-    if REFUSED <= r {
-        return no_text(refusal_of(r, 0), at);
-    }
-    let w = r as u32;
+    let w = whole_integer(input, at)?;
     if 2147483648 <= w {
-        return no_text(Refusal::NegativeCount(w), at);
+        return Err(Refusal::NegativeCount(w));
     }
     let start = at + integer_size(input[at]);
-    let k = w as usize;
-    if input.len() - start < k {
-        return no_text(Refusal::ShortInput, at);
+    let length = w as usize;
+    if input.len() - start < length {
+        return Err(Refusal::ShortInput);
     }
-    Text {
-        answer: Answer::Accepted,
-        start: start,
-        length: k,
-        offset: start + k,
+    Ok(Text {
+        start,
+        length,
+        offset: start + length,
         form: in_form(input[at], w),
-    }
+    })
 }
 
 // ---- the same of any input: one that is too long is refused before anything else
 
-// Is the input longer than a slice may be?
-fn too_long(input: &[u8]) -> bool
-    ensures { result ≡ too_long (length input.now) }
+// Is the input no longer than a slice may be?
+fn allowed(input: &[u8]) -> Result<(), Refusal>
+    ensures { MatchResult result (λ _. too_long (length input.now) ≡ false) (λ q. (too_long (length input.now) ≡ true) × (q ≡ Refusal.BadTables INPUT)) }
 {
-    Slice::GREATEST < input.len()
+    if Slice::GREATEST < input.len() {
+        return Err(Refusal::BadTables(Slice::INPUT));
+    }
+    Ok(())
 }
 
 // A byte.
-pub fn byte_from(input: &[u8], at: usize) -> Taken
-    ensures { result ≡ next_byte input.now at }
+#[tactic(auto, using(crate::proofs::Froms::tested), unfolding(definition::specs::Reader::taken, definition::specs::Reader::taken_answer))]
+pub fn byte_from(input: &[u8], at: usize) -> Result<Taken, Refusal>
+    ensures { taken_answer at result ≡ next_byte input.now at }
 {
-    if too_long(&input[..]) {
-        return not_taken(Refusal::BadTables(Slice::INPUT), at);
-    }
-    take_byte(&input[..], at)
+    allowed(input)?;
+    take_byte(input, at)
 }
 
 // The header.
-pub fn header_from(input: &[u8], at: usize) -> Taken
-    ensures { result ≡ next_header input.now at }
+#[tactic(auto, using(crate::proofs::Froms::tested), unfolding(definition::specs::Reader::header_taken, definition::specs::Reader::taken_answer))]
+pub fn header_from(input: &[u8], at: usize) -> Result<Taken, Refusal>
+    ensures { taken_answer at result ≡ next_header input.now at }
 {
-    if too_long(&input[..]) {
-        return not_taken(Refusal::BadTables(Slice::INPUT), at);
-    }
-    take_header(&input[..], at)
+    allowed(input)?;
+    take_header(input, at)
 }
 
 // An integer.
-pub fn integer_from(input: &[u8], at: usize) -> Taken
-    ensures { result ≡ next_integer input.now at }
+#[tactic(auto, using(crate::proofs::Froms::tested), unfolding(definition::specs::Reader::taken, definition::specs::Reader::taken_answer))]
+pub fn integer_from(input: &[u8], at: usize) -> Result<Taken, Refusal>
+    ensures { taken_answer at result ≡ next_integer input.now at }
 {
-    if too_long(&input[..]) {
-        return not_taken(Refusal::BadTables(Slice::INPUT), at);
-    }
-    take_integer(&input[..], at)
+    allowed(input)?;
+    take_integer(input, at)
 }
 
 // A byte string.
-pub fn byte_string_from(input: &[u8], at: usize) -> Text
-    ensures { result ≡ next_byte_string input.now at }
+#[tactic(auto, using(crate::proofs::Froms::tested), unfolding(definition::specs::Reader::spanned, definition::specs::Reader::text_answer))]
+pub fn byte_string_from(input: &[u8], at: usize) -> Result<Text, Refusal>
+    ensures { text_answer at result ≡ next_byte_string input.now at }
 {
-    if too_long(&input[..]) {
-        return no_text(Refusal::BadTables(Slice::INPUT), at);
-    }
-    take_byte_string(&input[..], at)
+    allowed(input)?;
+    take_byte_string(input, at)
 }
 
 // ---- the reader
@@ -537,29 +571,29 @@ pub fn bytes_left<'a>(r: Reader<'a>) -> usize
 }
 
 // Reads a byte.
-pub fn read_byte<'a>(r: Reader<'a>) -> Taken
-    ensures { result ≡ next_byte r.entry.input.now r.entry.offset }
+pub fn read_byte<'a>(r: Reader<'a>) -> Result<Taken, Refusal>
+    ensures { taken_answer r.entry.offset result ≡ next_byte r.entry.input.now r.entry.offset }
 {
     byte_from(r.input, r.offset)
 }
 
 // Reads the header.
-pub fn read_header<'a>(r: Reader<'a>) -> Taken
-    ensures { result ≡ next_header r.entry.input.now r.entry.offset }
+pub fn read_header<'a>(r: Reader<'a>) -> Result<Taken, Refusal>
+    ensures { taken_answer r.entry.offset result ≡ next_header r.entry.input.now r.entry.offset }
 {
     header_from(r.input, r.offset)
 }
 
 // Reads an integer.
-pub fn read_integer<'a>(r: Reader<'a>) -> Taken
-    ensures { result ≡ next_integer r.entry.input.now r.entry.offset }
+pub fn read_integer<'a>(r: Reader<'a>) -> Result<Taken, Refusal>
+    ensures { taken_answer r.entry.offset result ≡ next_integer r.entry.input.now r.entry.offset }
 {
     integer_from(r.input, r.offset)
 }
 
 // Reads a byte string.
-pub fn read_byte_string<'a>(r: Reader<'a>) -> Text
-    ensures { result ≡ next_byte_string r.entry.input.now r.entry.offset }
+pub fn read_byte_string<'a>(r: Reader<'a>) -> Result<Text, Refusal>
+    ensures { text_answer r.entry.offset result ≡ next_byte_string r.entry.input.now r.entry.offset }
 {
     byte_string_from(r.input, r.offset)
 }

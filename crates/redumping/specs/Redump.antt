@@ -3,8 +3,8 @@ use Rattle.std.specs.Prelude.{ℕ, List}
 use Rattle.definition.specs.Arena.{Tables}
 use Rattle.definition.specs.Load.{Lists, LoadCall}
 use Rattle.definition.specs.Dump.{DumpCall, dump_call, dump_call_of}
-use Rattle.definition.specs.declared.Answer.{Answer}
-use Rattle.definition.specs.declared.Answer.TheVariants.{Accepted, Refused}
+use Rattle.definition.specs.Refused.{Answer}
+use Rattle.definition.specs.Refused.{Accepted, Refused}
 use Rattle.definition.specs.declared.Counts.{Counts}
 use Rattle.console.specs.Call.{input_call}
 

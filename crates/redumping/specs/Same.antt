@@ -5,8 +5,8 @@ use Rattle.definition.specs.Run.{pick}
 use Rattle.definition.specs.Load.{Lists, LoadCall, load_call}
 use Rattle.definition.specs.Dump.{DumpCall, dump_call}
 use Rattle.definition.specs.Graph.{SameGraph}
-use Rattle.definition.specs.declared.Answer.{Answer}
-use Rattle.definition.specs.declared.Answer.TheVariants.{Accepted, Refused}
+use Rattle.definition.specs.Refused.{Answer}
+use Rattle.definition.specs.Refused.{Accepted, Refused}
 use Rattle.lists.specs.Lists.{apart}
 use Rattle.round_trip.specs.Statement.{AreBytes, LoadAccepted, filled, tables, counts}
 use Rattle.round_trip.specs.Theorem.{round_trip}

@@ -1,2 +1,3 @@
 -- Laws for the proofs.
 pub mod Signs
+mod Left

@@ -1,17 +1,19 @@
--- 32 bits read as signed, by their sign.
-use Prim.Native.Nat.{ℕ, ◌+◌, ◌-◌, ◌≤◌, ◌<◌}
-use mathlib.Core.Bool.{true, false}
-use mathlib.Core.Path.{◌≡◌, refl}
-use borrow.Author.Tests.{lt-ltb, le-ltb}
+-- 32 bits read as signed.
+use Prim.Native.Nat.{ℕ, suc, ◌-◌}
+use native.Mathlib.Omega.{arith}
+use mathlib.Core.Bool.{Bool, true, false}
+use mathlib.Core.Path.{◌≡◌, refl, ap}
+use lib.Dec.{ltb}
+use lib.IntN.{pos, negsuc}
+use mir.Syntax.{w32}
+use mir.Val.{to_z, sel}
 use Rattle.definition.specs.Run.{pick}
-use Rattle.definition.specs.Refused.{signed, numbers, below, size, told, numbers_told}
-use Rattle.definition.specs.declared.Numbers.{Numbers}
-use Rattle.definition.specs.declared.Refusal.TheVariants.{NegativeCount}
+use Rattle.definition.specs.Refused.{signed}
 
-pub from_zero_up : (w : ℕ) → w < 2147483648 → ◌≡◌ {A = Numbers} (record { number = 6; below = false; first = w; second = 0 }) (numbers_told (NegativeCount w))
-unfolding numbers_told numbers told signed below size pick
-from_zero_up w l = rw (lt-ltb w 2147483648 l) refl
-
-pub below_zero : (w : ℕ) → 2147483648 ≤ w → ◌≡◌ {A = Numbers} (record { number = 6; below = true; first = 4294967295 - w + 1; second = 0 }) (numbers_told (NegativeCount w))
-unfolding numbers_told numbers told signed below size pick
-below_zero w l = rw (le-ltb w 2147483648 l) refl
+pub cast_is : (w : ℕ) → to_z w32 w ≡ signed w
+unfolding signed pick
+cast_is w = by_test (ltb w 2147483648)
+  where
+    by_test : (b : Bool) → sel b (pos w) (negsuc (4294967296 - suc w)) ≡ pick b (pos w) (negsuc (4294967295 - w))
+    by_test true = refl
+    by_test false = ap negsuc (omega arith)

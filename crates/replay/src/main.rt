@@ -7,7 +7,10 @@
 
 mod readers;
 
-use replay_cases::{next, print_case, print_counts, read_case, word};
+use console::Output;
+use replay_cases::{Case, read_case};
+use std::fmt;
+use std::fmt::Write;
 
 // The calls; those over an arena are numbered up to LAST_OF_ARENAS, the reader's from there on.
 const END: u32 = 0;
@@ -22,65 +25,42 @@ const LAST_OF_ARENAS: u32 = 40;
 
 const LONGEST: usize = 4096;
 
-fn case_agrees(data: &[u8]) -> bool {
-    match word(&data[..], 1) {
-        LOAD => load_replay::agree(&data[..]),
-        DUMP => dump_replay::agree(&data[..]),
-        PAIR => pair_replay::agree(&data[..]),
-        4..=LAST_OF_ARENAS => arena_replay::agree(&data[..]),
-        _ => readers::agree(&data[..]),
+fn case_agrees(case: Case<'_>) -> bool {
+    match case.word(1) {
+        LOAD => load_replay::agree(case),
+        DUMP => dump_replay::agree(case),
+        PAIR => pair_replay::agree(case),
+        4..=LAST_OF_ARENAS => arena_replay::agree(case),
+        _ => readers::agree(case),
     }
 }
 
-// The cases of a section so far, how many of them disagree, and whether there is more to read.
-#[derive(Clone, Copy)]
-struct Tally {
-    cases: u64,
-    wrong: u64,
-    more: bool,
-}
-
-fn counted(cases: u64, wrong: u64) -> Tally {
-    Tally {
-        cases: cases,
-        wrong: wrong,
-        more: true,
-    }
-}
-
-// The next case.
-fn replay_next(data: &mut [u8], t: Tally) -> Tally {
-    let cases = t.cases;
-    let wrong = t.wrong;
-    if read_case(data) == 0 {
-        return Tally {
-            cases: cases,
-            wrong: wrong,
-            more: false,
-        };
-    }
-    if word(data, 1) == END {
-        print_counts(cases, wrong);
-        return counted(0, 0);
-    }
-    if case_agrees(data) {
-        return counted(next(cases), wrong);
-    }
-    print_case(cases);
-    counted(next(cases), next(wrong))
-}
-
-fn replay_all(data: &mut [u8]) {
-    let mut t = counted(0, 0);
-    for i in 0u64..100000 {
-        t = replay_next(data, t);
-        if !t.more {
-            return;
+// Each case that disagrees, by its number in its section, and of each section how many cases it has, and how many disagree.
+fn replay_all(out: &mut Output<'_>) -> fmt::Result {
+    let mut data = [0u8; LONGEST];
+    let mut cases: u64 = 0;
+    let mut wrong: u64 = 0;
+    for _ in 0u64..100000 {
+        if !read_case(&mut data) {
+            break;
+        }
+        let case = Case { data: &data };
+        if case.word(1) == END {
+            writeln!(out, "{cases} cases, {wrong} disagree")?;
+            cases = 0;
+            wrong = 0;
+        } else {
+            if !case_agrees(case) {
+                writeln!(out, "case {cases} disagrees")?;
+                wrong = wrong.saturating_add(1);
+            }
+            cases = cases.saturating_add(1);
         }
     }
+    out.flush()
 }
 
 fn main() {
-    let mut data = [0u8; LONGEST];
-    replay_all(&mut data);
+    let mut buffer = io::buffer();
+    let _ = replay_all(&mut Output::new(&mut buffer));
 }

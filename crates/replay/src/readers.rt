@@ -3,9 +3,9 @@
 // A case, from word 2 on: where a reader is started, and the offset to which it is moved; the input's length, and the byte at which it stands; what is expected: the answer's number and
 // two details, the value or a byte string's start, a byte string's length, the offset afterwards, and 1 where dump writes the bytes
 // read and else 0.
-use definition::{Answer, Taken, Text};
+use definition::{Refusal, Taken, Text};
 use reader_calls::{byte_at, byte_string_at, header_at, integer_at, left_at, offset_at};
-use replay_cases::{place, plus, same_answer, word};
+use replay_cases::Case;
 
 // Places in a case.
 const CALL: usize = 1;
@@ -31,45 +31,37 @@ const FORM: usize = 12;
 // What is found at an offset.
 #[derive(Clone, Copy)]
 struct Found {
-    answer: Answer,
     value: usize,
     length: usize,
     offset: usize,
     form: bool,
 }
 
-fn taken(t: Taken) -> Found {
-    let answer = t.answer;
-    let value = t.value;
-    let offset = t.offset;
-    let form = t.form;
-    Found {
-        answer: answer,
-        value: value as usize,
-        length: 0,
-        offset: offset,
-        form: form,
+impl From<Taken> for Found {
+    fn from(t: Taken) -> Found {
+        Found {
+            value: t.value as usize,
+            length: 0,
+            offset: t.offset,
+            form: t.form,
+        }
     }
 }
 
-fn text(t: Text) -> Found {
-    let answer = t.answer;
-    let start = t.start;
-    let length = t.length;
-    let offset = t.offset;
-    let form = t.form;
-    Found {
-        answer: answer,
-        value: start,
-        length: length,
-        offset: offset,
-        form: form,
+impl From<Text> for Found {
+    fn from(t: Text) -> Found {
+        Found {
+            value: t.start,
+            length: t.length,
+            offset: t.offset,
+            form: t.form,
+        }
     }
 }
 
+// A number that is no reading.
 fn number(n: usize, at: usize) -> Found {
     Found {
-        answer: Answer::Accepted,
         value: n,
         length: 0,
         offset: at,
@@ -77,40 +69,32 @@ fn number(n: usize, at: usize) -> Found {
     }
 }
 
-fn find(call: u32, input: &[u8], from: usize, at: usize) -> Found {
+fn find(call: u32, input: &[u8], from: usize, at: usize) -> Result<Found, Refusal> {
     match call {
-        41 => taken(byte_at(&input[..], from, at)),
-        42 => taken(header_at(&input[..], from, at)),
-        43 => taken(integer_at(&input[..], from, at)),
-        44 => text(byte_string_at(&input[..], from, at)),
-        45 => number(left_at(&input[..], from, at), at),
-        _ => number(offset_at(&input[..], from, at), at),
+        41 => byte_at(input, from, at).map(Found::from),
+        42 => header_at(input, from, at).map(Found::from),
+        43 => integer_at(input, from, at).map(Found::from),
+        44 => byte_string_at(input, from, at).map(Found::from),
+        45 => Ok(number(left_at(input, from, at), at)),
+        _ => Ok(number(offset_at(input, from, at), at)),
     }
 }
 
-fn found_agrees(data: &[u8], f: Found) -> bool {
-    let answer = f.answer;
-    let value = f.value;
-    let length = f.length;
-    let offset = f.offset;
-    let form = f.form;
-    same_answer(&data[..], ANSWER, answer)
-        && place(&data[..], VALUE) == value
-        && place(&data[..], LENGTH) == length
-        && place(&data[..], AFTER) == offset
-        && (word(&data[..], FORM) == 1) == form
+// Where the call is refused the offset is the one given, and the rest 0.
+fn found_agrees(case: Case<'_>, at: usize, r: Result<Found, Refusal>) -> bool {
+    let found = r.unwrap_or(number(0, at));
+    case.answers(ANSWER, r)
+        && case.place(VALUE) == found.value
+        && case.place(LENGTH) == found.length
+        && case.place(AFTER) == found.offset
+        && (case.word(FORM) == 1) == found.form
 }
 
-pub fn agree(data: &[u8]) -> bool {
-    let from = place(&data[..], FROM);
-    let at = place(&data[..], OFFSET);
-    let call = word(&data[..], CALL);
-    let start = place(&data[..], INPUT_AT);
-    let end = plus(start, place(&data[..], INPUT));
-    if end <= data.len() {
-        if start <= end {
-            return found_agrees(&data[..], find(call, &data[start..end], from, at));
-        }
+pub fn agree(case: Case<'_>) -> bool {
+    let from = case.place(FROM);
+    let at = case.place(OFFSET);
+    match case.part(INPUT, INPUT_AT) {
+        Some(input) => found_agrees(case, at, find(case.word(CALL), input, from, at)),
+        None => false,
     }
-    false
 }

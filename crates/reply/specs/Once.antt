@@ -1,5 +1,5 @@
 -- What the answer words say is all of it: no two details are told by one word.
-use Rattle.std.specs.Prelude.{ℕ, ◌-◌, ◌<◌, ◌≡◌, refl, ℤ, pos, negsuc}
+use Rattle.std.specs.Prelude.{◌<◌, ◌≡◌, ℤ, pos, negsuc}
 use Rattle.std.proofs.Common.{arith, ap}
 use Rattle.reply.specs.Reply.{word}
 

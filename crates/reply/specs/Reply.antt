@@ -2,31 +2,24 @@
 use Rattle.std.specs.Prelude.{ℕ, ◌-◌, Bool, true, false, List, [], ◌∷◌, ◌++◌, leb, ℤ, pos, negsuc, length, get_or, Float}
 use Rattle.std.proofs.lemmas.List.Edits.{sets}
 use Rattle.definition.specs.Run.{pick}
-use Rattle.definition.specs.Refused.{answer_numbers}
+use Rattle.definition.specs.Refused.{answer_numbers, Answer}
 use Rattle.definition.specs.Arena.{Tables}
-use Rattle.definition.specs.Load.{Lists, LoadCall}
-use Rattle.definition.specs.LoadMeasured.{MeasuredCall}
-use Rattle.definition.specs.LoadHashed.{HashedCall}
-use Rattle.definition.specs.Dump.{DumpCall}
-use Rattle.definition.specs.Build.{BuildCall, NewCall}
-use Rattle.definition.specs.Weight.{positive_zero}
-use Rattle.definition.specs.declared.Answer.{Answer}
-use Rattle.definition.specs.declared.Begun.{Begun}
-use Rattle.definition.specs.declared.Costed.{Costed}
+use Rattle.definition.specs.Load.{Lists, LoadCall, LoadAnswer}
+use Rattle.definition.specs.LoadMeasured.{MeasuredCall, MeasuredAnswer}
+use Rattle.definition.specs.LoadHashed.{HashedCall, HashedAnswer}
+use Rattle.definition.specs.Dump.{DumpCall, DumpAnswer}
+use Rattle.definition.specs.Build.{BuildCall, NewCall, NewAnswer, BuildAnswer, NameAnswer, NumberAnswer, WordsAnswer}
+use Rattle.definition.specs.Weight.{positive_zero, ReadingAnswer, WeighedAnswer}
+use Rattle.definition.specs.Cost.{CostAnswer}
 use Rattle.definition.specs.declared.Counts.{Counts}
-use Rattle.definition.specs.declared.Created.{Created}
-use Rattle.definition.specs.declared.Dumped.{Dumped}
-use Rattle.definition.specs.declared.Hashed.{Hashed}
 use Rattle.definition.specs.declared.Loaded.{Loaded}
-use Rattle.definition.specs.declared.Measured.{Measured}
-use Rattle.definition.specs.declared.Name.{Name}
-use Rattle.definition.specs.declared.Number.{Number}
-use Rattle.definition.specs.declared.Read.{Read}
 use Rattle.definition.specs.declared.Reading.{Reading}
 use Rattle.definition.specs.declared.Reading.TheVariants.{Whole, Double, NotANumber}
-use Rattle.definition.specs.declared.Weighed.{Weighed}
 use Rattle.definition.specs.declared.Weighing.{Weighing}
-use Rattle.definition.specs.declared.Words.{Words}
+
+-- what load answers and its answer put together
+abbrev pub load_of : Answer → Loaded → LoadAnswer
+load_of a l = record { answer = a; counts = l.counts; used = l.used; form = l.form }
 
 -- ---- the answer words: 0 and 1 the details, then what else the call answers, counts first
 
@@ -49,39 +42,39 @@ flag true = 1
 flag false = 0
 
 -- load: then the bytes used, and whether dump writes just these
-unfoldable pub loaded_words : Loaded → List ℕ
+unfoldable pub loaded_words : LoadAnswer → List ℕ
 loaded_words r = details r.answer ++ count_words r.counts ++ (r.used ∷ flag r.form ∷ [])
 
 -- load_measured: load's words, then the bytes copied and the bytes compared
-unfoldable pub measured_words : Measured → List ℕ
+unfoldable pub measured_words : MeasuredAnswer → List ℕ
 measured_words r = loaded_words r.load ++ (r.copied ∷ r.compared ∷ [])
 
 -- load_hashed: load's words, then the words of the bucket table looked at
-unfoldable pub hashed_words : Hashed → List ℕ
+unfoldable pub hashed_words : HashedAnswer → List ℕ
 hashed_words r = loaded_words r.load ++ (r.looked ∷ [])
 
 -- dump: the bytes written
-unfoldable pub dumped_words : Dumped → List ℕ
+unfoldable pub dumped_words : DumpAnswer → List ℕ
 dumped_words r = details r.answer ++ (r.written ∷ [])
 
 -- new: the counts
-unfoldable pub begun_words : Begun → List ℕ
+unfoldable pub begun_words : NewAnswer → List ℕ
 begun_words r = details r.answer ++ count_words r.counts
 
 -- root and kind: the number
-unfoldable pub number_words : Number → List ℕ
+unfoldable pub number_words : NumberAnswer → List ℕ
 number_words r = details r.answer ++ (r.value ∷ [])
 
 -- get: the node's words
-unfoldable pub node_words : Words → List ℕ
+unfoldable pub node_words : WordsAnswer → List ℕ
 node_words r = details r.answer ++ (get_or r.words 0 0 ∷ get_or r.words 1 0 ∷ get_or r.words 2 0 ∷ get_or r.words 3 0 ∷ get_or r.words 4 0 ∷ get_or r.words 5 0 ∷ get_or r.words 6 0 ∷ get_or r.words 7 0 ∷ [])
 
 -- get_symbol: byte start and length
-unfoldable pub name_words : Name → List ℕ
+unfoldable pub name_words : NameAnswer → List ℕ
 name_words r = details r.answer ++ (r.start ∷ r.length ∷ [])
 
 -- create_*, replace_root and replace_class: the counts, then the new node, the old root or the old class word
-unfoldable pub created_words : Created → List ℕ
+unfoldable pub created_words : BuildAnswer → List ℕ
 created_words r = details r.answer ++ count_words r.counts ++ (r.handle ∷ [])
 
 -- what a node reads as, by a number
@@ -97,15 +90,15 @@ reading_whole (Whole n) = word n
 reading_whole (Double x) = 0
 
 -- reading: the reading's kind, and the whole number
-unfoldable pub reading_words : Read → List ℕ
+unfoldable pub reading_words : ReadingAnswer → List ℕ
 reading_words r = details r.answer ++ (reading_kind r.reading ∷ reading_whole r.reading ∷ [])
 
 -- wet_weight: nothing else
-unfoldable pub weighed_words : Weighed → List ℕ
+unfoldable pub weighed_words : WeighedAnswer → List ℕ
 weighed_words r = details r.answer
 
 -- batch_cost: the cents
-unfoldable pub costed_words : Costed → List ℕ
+unfoldable pub costed_words : CostAnswer → List ℕ
 costed_words r = details r.answer ++ (r.cents ∷ [])
 
 -- ---- doubles, which stand in a slice of their own
@@ -160,24 +153,24 @@ unfoldable pub tell_build : BuildCall → Tables → List ℕ → Reply Tables
 tell_build k T words = tell k.answer.answer (created_words k.answer) words T k.tables
 
 -- a getter's, which changes nothing else
-unfoldable pub tell_number : Number → List ℕ → Reply (Unit {0})
+unfoldable pub tell_number : NumberAnswer → List ℕ → Reply (Unit {0})
 tell_number r words = tell r.answer (number_words r) words tt tt
 
-unfoldable pub tell_words : Words → List ℕ → Reply (Unit {0})
+unfoldable pub tell_words : WordsAnswer → List ℕ → Reply (Unit {0})
 tell_words r words = tell r.answer (node_words r) words tt tt
 
-unfoldable pub tell_name : Name → List ℕ → Reply (Unit {0})
+unfoldable pub tell_name : NameAnswer → List ℕ → Reply (Unit {0})
 tell_name r words = tell r.answer (name_words r) words tt tt
 
-unfoldable pub tell_costed : Costed → List ℕ → Reply (Unit {0})
+unfoldable pub tell_costed : CostAnswer → List ℕ → Reply (Unit {0})
 tell_costed r words = tell r.answer (costed_words r) words tt tt
 
 -- a call's that answers doubles: ds stand first among those lent, and the rest stay as they were. Where fewer are lent than ds has, 1 is returned too, and nothing is touched
 unfoldable pub tell_doubles : Answer → List ℕ → List Float → List Float → List ℕ → Reply (List Float)
 tell_doubles a ws ds doubles words = pick (leb (length ds) (length doubles)) (tell a ws words doubles (sets doubles 0 ds)) (reply 1 words doubles)
 
-unfoldable pub tell_reading : Read → List Float → List ℕ → Reply (List Float)
+unfoldable pub tell_reading : ReadingAnswer → List Float → List ℕ → Reply (List Float)
 tell_reading r doubles words = tell_doubles r.answer (reading_words r) (reading_double r.reading ∷ []) doubles words
 
-unfoldable pub tell_weighed : Weighed → List Float → List ℕ → Reply (List Float)
+unfoldable pub tell_weighed : WeighedAnswer → List Float → List ℕ → Reply (List Float)
 tell_weighed r doubles words = tell_doubles r.answer (weighed_words r) (weighing_doubles r.weighing) doubles words

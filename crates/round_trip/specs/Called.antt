@@ -5,10 +5,10 @@ use Rattle.definition.specs.Arena.{Tables, Arena, arena}
 use Rattle.definition.specs.Load.{Lists, LoadCall, load_call}
 use Rattle.definition.specs.Dump.{DumpCall, dump_call}
 use Rattle.definition.specs.Graph.{SameGraph}
-use Rattle.definition.specs.declared.Answer.TheVariants.{Accepted}
+use Rattle.definition.specs.Refused.{Accepted}
 use Rattle.definition.specs.declared.Counts.{Counts}
-use Rattle.definition.specs.declared.Loaded.{Loaded}
-use Rattle.definition.specs.declared.Dumped.{Dumped}
+use Rattle.definition.specs.Load.{LoadAnswer}
+use Rattle.definition.specs.Dump.{DumpAnswer}
 use Rattle.round_trip.specs.Statement.{AreBytes, LoadAllowed, NoSmaller, DumpAllowed, Again, filled, tables, counts, written}
 use Rattle.round_trip.specs.Theorem.{round_trip}
 use Rattle.round_trip.specs.FormTheorem.{yes_exactly_when}
@@ -17,13 +17,13 @@ use Rattle.round_trip.specs.FormTheorem.{yes_exactly_when}
 
 -- load was called: its answer, the tables and lists as they then stand, and what the function ensures of them
 pub record LoadDone (input : List ℕ) (T : Lists) (limit : ℕ) : Type 0 where
-  pub answer : Loaded
+  pub answer : LoadAnswer
   pub lent : Lists
   pub ensures : record { answer = answer; lent = lent } ≡ load_call input T limit
 
 -- dump likewise
 pub record DumpDone (T : Tables) (c : Counts) (scratch output : List ℕ) (limit : ℕ) : Type 0 where
-  pub answer : Dumped
+  pub answer : DumpAnswer
   pub scratch_after : List ℕ
   pub output_after : List ℕ
   pub ensures : record { answer = answer; scratch = scratch_after; output = output_after } ≡ dump_call T c scratch output limit

@@ -2,7 +2,7 @@
 use Rattle.std.specs.Prelude.{ℕ, ◌≤◌, ◌≡◌, true, false, ◌↔◌, List, length, take}
 use Rattle.definition.specs.Load.{Lists, load_call}
 use Rattle.definition.specs.Graph.{SameGraph}
-use Rattle.definition.specs.declared.Answer.TheVariants.{Refused}
+use Rattle.definition.specs.Refused.{Refused}
 use Rattle.definition.specs.declared.Refusal.{Refusal}
 use Rattle.round_trip.specs.Statement.{AreBytes, LoadAllowed, NoSmaller, LoadAccepted, used, tables, counts, filled, DumpAllowed, DumpAccepted, written}
 

@@ -11,9 +11,9 @@ use Rattle.definition.specs.Load.{Lists, room_of, begin, load, load_wrong, load_
 use Rattle.definition.specs.Dump.{dump_wrong}
 use Rattle.definition.specs.Node.{width}
 use Rattle.definition.specs.Slice.{greatest_length, greatest_limit}
-use Rattle.definition.specs.declared.Answer.TheVariants.{Refused}
-use Rattle.definition.specs.declared.Dumped.{Dumped}
-use Rattle.definition.specs.declared.Loaded.{Loaded}
+use Rattle.definition.specs.Refused.{Refused}
+use Rattle.definition.specs.Dump.{DumpAnswer}
+use Rattle.definition.specs.Load.{LoadAnswer}
 use Rattle.lists.specs.Lists.{apart}
 use Rattle.lists.specs.Slices.{lowest_none, short}
 use Rattle.graph.specs.Forest.{Node, fresh}
@@ -35,10 +35,10 @@ use Rattle.round_trip.specs.Theorem.{back, trip, same_load, up_refl, dumps_text,
 
 module _ (X : List ℕ) (T : Lists) (limit : ℕ) (a : AcceptedLoad X T limit) where
   form_is : (load_call X T limit).answer.form ≡ a.state.notes.form
-  form_is = ap (λ (r : Loaded). r.form) a.answered
+  form_is = ap (λ (r : LoadAnswer). r.form) a.answered
 
   used_is : used X T limit ≡ a.state.at
-  used_is = ap (λ (r : Loaded). r.used) a.answered
+  used_is = ap (λ (r : LoadAnswer). r.used) a.answered
 
 -- ---- from yes to the bytes
 
@@ -186,4 +186,4 @@ form_is_dumped X Y T U limit_x limit-y by lx ly y g scratch output al en =
     let (d, w) = yes_writes Y U limit-y by ly y _ _ enough in
     let (p, q) = dump_sees_graph (tables X T limit_x) (tables Y U limit-y) (counts X T limit_x) (counts Y U limit-y) (call_well_formed X T limit_x a) (call_well_formed Y U limit-y b) g scratch _ output other limit-y al enough.0 (psym k) in
     let e : written (tables X T limit_x) (counts X T limit_x) scratch output limit-y ≡ written (tables Y U limit-y) (counts Y U limit-y) (some_scratch Y U limit-y b) other limit-y = λ i. take (p i).written (q i) in
-    (ap (λ (r : Dumped). r.answer) p ∙ d, e ∙ w)
+    (ap (λ (r : DumpAnswer). r.answer) p ∙ d, e ∙ w)

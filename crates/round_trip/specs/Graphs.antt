@@ -6,9 +6,9 @@ use Rattle.definition.specs.Run.{Outcome, pure, next, ◌>>=◌}
 use Rattle.definition.specs.Arena.{Tables, arena, allowed, sound, fault, padded, zeroed}
 use Rattle.definition.specs.Graph.{SameGraph}
 use Rattle.definition.specs.Dump.{Written, dump, dump_done, dump_checked, dump_call}
-use Rattle.definition.specs.declared.Answer.TheVariants.{Accepted}
+use Rattle.definition.specs.Refused.{Accepted}
 use Rattle.definition.specs.declared.Counts.{Counts}
-use Rattle.definition.specs.declared.Dumped.{Dumped}
+use Rattle.definition.specs.Dump.{DumpAnswer}
 use Rattle.well_formed.specs.Right.{fault_right}
 use Rattle.dump_forest.specs.Answers.{Answered, with_bytes, with_refusal, dump_answered}
 use Rattle.round_trip.specs.Statement.{DumpAllowed}
@@ -37,7 +37,7 @@ done_alike : (scratch scratch' output output' : List ℕ) → length output ≡ 
 unfolding dump_done
 done_alike scratch scratch' output output' e (with_bytes {s = s} {t = t} b) = (answers s.bytes t.bytes b, padded_same output output' s.bytes t.bytes e b)
   where
-    answers : (l m : List ℕ) → l ≡ m → ◌≡◌ {A = Dumped} (record { answer = Accepted; written = length l }) (record { answer = Accepted; written = length m })
+    answers : (l m : List ℕ) → l ≡ m → ◌≡◌ {A = DumpAnswer} (record { answer = Accepted; written = length l }) (record { answer = Accepted; written = length m })
     answers l m q = rw q
 done_alike scratch scratch' output output' e with_refusal = (refl, zeroed_same output output' e)
 

@@ -6,7 +6,7 @@ use Rattle.definition.specs.Arena.{Tables, Arena, arena}
 use Rattle.definition.specs.Load.{Lists, load_wrong, load_call}
 use Rattle.definition.specs.Dump.{dump_wrong, dump_call}
 use Rattle.definition.specs.Graph.{SameGraph}
-use Rattle.definition.specs.declared.Answer.TheVariants.{Accepted}
+use Rattle.definition.specs.Refused.{Accepted}
 use Rattle.definition.specs.declared.Counts.{Counts}
 
 -- every entry is a byte: the type of the input slice

@@ -11,7 +11,7 @@ use Rattle.definition.specs.Dump.{Written, dump, dump_wrong, DumpCall}
 use Rattle.definition.specs.Graph.{SameGraph}
 use Rattle.definition.specs.Slice.{greatest_length}
 use Rattle.definition.specs.declared.Counts.{Counts}
-use Rattle.definition.specs.declared.Loaded.{Loaded}
+use Rattle.definition.specs.Load.{LoadAnswer}
 use Rattle.lists.specs.Slices.{lowest_none, short, tables_right}
 use Rattle.graph.specs.Forest.{F, Num, fresh, Text, values}
 use Rattle.graph.specs.Describe.{E, Says}
@@ -200,8 +200,8 @@ fills input T limit h s w e =
     let a = accepted_load input T limit h s w e in
     let (p, q) = same_load _ a.root h a.state s a.loads e in
     record {
-      accepted = ap (λ (r : Loaded). r.answer) a.answered;
-      uses = ap (λ (r : Loaded). r.used) a.answered ∙ ap (λ (r : State). r.at) q;
+      accepted = ap (λ (r : LoadAnswer). r.answer) a.answered;
+      uses = ap (λ (r : LoadAnswer). r.used) a.answered ∙ ap (λ (r : State). r.at) q;
       arena_is = call_arena input T limit a ∙ as_arena a.state s a.root h p q;
       no_fault = call_well_formed input T limit a;
     }

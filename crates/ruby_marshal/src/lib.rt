@@ -4,9 +4,8 @@
 
 pub use batch_cost::batch_cost;
 pub use definition::{
-    Answer, Begun, Bignum, Costed, Counts, Created, Decimal, Dumped, Fault, Hashed, LIMIT, Loaded,
-    Measured, Name, Node, Number, Numbers, Read, Reading, Recipe, Refusal, Slice, Taken, Text,
-    ValueKind, Weighed, Weighing, Words,
+    Bignum, Counts, Created, Decimal, Fault, Hashed, LIMIT, Loaded, Measured, Name, Node, Numbers,
+    Reading, Recipe, Refusal, Slice, Taken, Text, ValueKind, Weighing,
 };
 pub use dump::dump;
 pub use load::{load, load_at, load_hashed, load_measured, load_next};
@@ -14,7 +13,7 @@ pub use reader::{
     Reader, byte_from, byte_string_from, bytes_left, header_from, integer_from, left_at, moved,
     offset, read_byte, read_byte_string, read_header, read_integer, start, start_at,
 };
-pub use refusal::{answer_numbers, numbers_of};
+pub use refusal::{answer_numbers, counts_left, numbers_of};
 pub use value_arena::{
     create_array, create_bignum, create_bool, create_fixnum, create_float, create_hash,
     create_new_symbol, create_nil, create_object, create_string, create_symbol,

@@ -1,13 +1,12 @@
 -- The words of a list, and what a run of integers and symbol links takes of them.
+use Rattle.load_state.specs.declared.Progress.{Progress}
 use Rattle.std.specs.Prelude.{ℕ, zero, suc, ◌+◌, ◌%◌, ◌≤◌, ◌<◌, ◌≡◌, true, List, [], ◌∷◌, ◌⊎◌, eqb, length, get_or}
 use Rattle.definition.specs.Run.{pure, pick, ◌>>=◌}
 use Rattle.definition.specs.Integer.{form, value, integer_bytes}
 use Rattle.definition.specs.Kind.{FIXNUM, SYMBOL_LINK}
-use Rattle.definition.specs.Node.{kind}
 use Rattle.definition.specs.State.{Reader}
 use Rattle.definition.specs.Load.{put_reference}
 use Rattle.reader.specs.Integers.{dumped_at}
-use Rattle.load_state.specs.Holds.{at_of, nodes_of, symbols_of, space_of}
 
 -- ---- the words of a list: values, or names and values in turn
 
@@ -40,10 +39,10 @@ abbrev pub Next : List ℕ → ℕ → ℕ → Type 0
 Next input at levels = (levels ≡ 0 → ⊥) × (at < length input) × ((get_or input at 0 ≡ FIXNUM) ⊎ (get_or input at 0 ≡ SYMBOL_LINK))
 
 -- a link of one byte to a known symbol, or an integer in dump form for word `to` where no name is wanted and a node has room
-abbrev pub Either : List ℕ → List ℕ → ℕ → ℕ → Type 0
-Either input c names to = ((get_or input (at_of c) 0 ≡ SYMBOL_LINK) × ((n : ℕ) × Link (get_or input (at_of c + 1) 0) (symbols_of c) n)) ⊎ ((get_or input (at_of c) 0 ≡ FIXNUM) × (dumped_at input (at_of c + 1) ≡ true) × (to % 2 ≡ names → ⊥) × (nodes_of c < space_of c))
+abbrev pub Either : List ℕ → Progress → ℕ → ℕ → Type 0
+Either input c names to = ((get_or input c.at 0 ≡ SYMBOL_LINK) × ((n : ℕ) × Link (get_or input (c.at + 1) 0) c.symbols n)) ⊎ ((get_or input c.at 0 ≡ FIXNUM) × (dumped_at input (c.at + 1) ≡ true) × (to % 2 ≡ names → ⊥) × (c.nodes < c.room))
 
 -- one of them comes next, and six bytes are there
-pub record Coming (input c : List ℕ) (names to : ℕ) : Type 0 where
-  pub six : at_of c + 6 ≤ length input
+pub record Coming (input : List ℕ) (c : Progress) (names to : ℕ) : Type 0 where
+  pub six : c.at + 6 ≤ length input
   pub kind : Either input c names to

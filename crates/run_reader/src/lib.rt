@@ -9,12 +9,11 @@ ghost use Rattle.definition.specs.Node.{width};
 ghost use Rattle.definition.specs.State.{Room};
 ghost use Rattle.definition.specs.Load.{read_symbol_like, read_value};
 ghost use Rattle.reader.specs.Integers.{size_at, word_at, dumped_at};
-ghost use Rattle.load_state.specs.Holds.{lent, by_buckets, Held, Goes, references_of};
+ghost use Rattle.load_state.specs.Holds.{lent, by_buckets, Held, Goes};
 ghost use Rattle.run_reader.specs.Run.{Link, Next, Coming, slots};
-ghost use Rattle.load_state.specs.Places.{AT};
 
 use definition::{Node, ValueKind};
-use load_state::{AT, COUNTS, NODES, ROOM, SYMBOLS};
+use load_state::Progress;
 use reader::{in_form, integer_at, integer_size, small};
 use store::put_node;
 
@@ -54,7 +53,7 @@ fn put_integer(input: &[u8], nodes: &mut [u32], at: usize, node: usize) -> usize
     ensures at_bound { word_at input.now at < 4294967296 }
 {
     let b = input[at];
-    let w = integer_at(&input[..], at);
+    let w = integer_at(input, at);
     if !in_form(b, w) {
         return 0;
     }
@@ -80,37 +79,38 @@ fn small_next(input: &[u8], at: usize, levels: u32) -> bool
 }
 
 // The offset is what the run has come to: `to`.
-fn end_run(c: &mut [usize; COUNTS], at: usize, to: usize) -> usize
-    ensures { (result ≡ to) × (c.new ≡ set c.old AT at) }
+fn end_run(c: &mut Progress, at: usize, to: usize) -> usize
+    ensures { (result ≡ to) × (c.new ≡ record c.old { at = at }) }
 {
-    c[AT] = at;
+    c.at = at;
     to
 }
 
 // Integers, and symbol links of one byte, as far as they come one after the other in dump form with six bytes there, for
 // the reference words from `start` to `end`, of which those of parity `names` want a name: the first word that is left. It
-// refuses and notes nothing: what it does not take is left to be read. The offset is in a local meanwhile.
+// refuses and notes nothing: what it does not take is left to be read. The offset is in a local meanwhile, which is faster,
+// and so is the loop over `to` than one over the range.
 pub fn read_run(
     input: &[u8],
     nodes: &mut [u32],
     references: &mut [u32],
     symbols: &[u32],
-    c: &mut [usize; COUNTS],
+    c: &mut Progress,
     start: usize,
     end: usize,
     names: usize,
     levels: u32,
 ) -> usize
-    requires { (start ≤ end) × (end ≤ references_of c.old) × ((by : List ℕ) × (ob : List ℕ) × (bu : List ℕ) × Held input.now (lent nodes.old references.old by (by_buckets symbols.now bu) ob) c.old) }
+    requires { (start ≤ end) × (end ≤ c.old.references) × ((by : List ℕ) × (ob : List ℕ) × (bu : List ℕ) × Held input.now (lent nodes.old references.old by (by_buckets symbols.now bu) ob) c.old) }
     ensures lower_bound { (start ≤ result) × (result ≤ end) }
     ensures goes { (room : Room) (limit : ℕ) (by ob bu : List ℕ) → Goes input.now room (slots (read_symbol_like input.now room) (read_value input.now room limit levels) names (end - start) start) (lent nodes.old references.old by (by_buckets symbols.now bu) ob) c.old (slots (read_symbol_like input.now room) (read_value input.now room limit levels) names (end - result) result) (lent nodes.new references.new by (by_buckets symbols.now bu) ob) c.new }
     ensures fact { (levels ≡ 0 → ⊥) → result < end → Coming input.now c.new names result → ⊥ }
 {
-    if !small_next(&input[..], c[AT], levels) {
+    if !small_next(input, c.at, levels) {
         return start;
     }
-    let known = c[SYMBOLS];
-    let mut at = c[AT];
+    let known = c.symbols;
+    let mut at = c.at;
     let mut to = start;
     while to < end {
         if input.len() - at < 6 {
@@ -123,22 +123,22 @@ pub fn read_run(
                 return end_run(c, at, to);
             }
             references[to] = symbols[i];
-            at = at + 2;
-            to = to + 1;
+            at += 2;
+            to += 1;
             continue;
         }
-        let node = c[NODES];
-        if !takes_integer(k, to, names, node, c[ROOM]) {
+        let node = c.nodes;
+        if !takes_integer(k, to, names, node, c.room) {
             return end_run(c, at, to);
         }
-        let n = put_integer(&input[..], nodes, at + 1, node);
+        let n = put_integer(input, nodes, at + 1, node);
         if n == 0 {
             return end_run(c, at, to);
         }
         at = at + 1 + n;
-        c[NODES] = node + 1;
+        c.nodes = node + 1;
         references[to] = node as u32;
-        to = to + 1;
+        to += 1;
     }
     end_run(c, at, to)
 }

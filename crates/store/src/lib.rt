@@ -1,10 +1,9 @@
 // Stores into lent tables: a node, copies, zeros; and runs of bytes compared.
 #![tactic(auto)]
 
-ghost use Rattle.std.specs.Prelude.{◌≡◌, List, [], ◌∷◌, ℕ, ◌+◌, ◌≤◌, length, take, drop, replicate};
+ghost use Rattle.std.specs.Prelude.{◌≡◌, ◌↔◌, List, [], ◌∷◌, ℕ, ◌+◌, ◌-◌, ◌≤◌, length, take, drop, replicate, IsTrue};
 ghost use Rattle.std.proofs.lemmas.List.Edits.{sets};
-ghost use Rattle.definition.specs.Node.{width, equal};
-ghost use Rattle.store.specs.Laws.{cleared};
+ghost use Rattle.definition.specs.Node.{width};
 
 use definition::Node;
 
@@ -34,75 +33,39 @@ pub fn put_node(
     nodes[base + Node::CLASS] = class;
 }
 
-// n bytes of `source` from `from` on, to `to` on.
-pub fn copy_bytes(source: &[u8], from: usize, bytes: &mut [u8], to: usize, n: usize)
-    requires { (from + n ≤ length source.now) × (to + n ≤ length bytes.old) }
-    ensures { bytes.new ≡ sets bytes.old to (take n (drop from source.now)) }
+// All of `source`, to `to` on. With `copy_from_slice` load takes a fifth longer where names are searched for: 1,334 µs for 1,108.
+pub fn copy_to<T: Copy>(source: &[T], list: &mut [T], to: usize)
+    requires { to + length source.now ≤ length list.old }
+    ensures { list.new ≡ sets list.old to source.now }
 {
-    let mut i = 0;
-    while i < n {
-        bytes[to + i] = source[from + i];
-        i = i + 1;
+    for (i, x) in source.iter().enumerate() {
+        list[to + i] = *x;
     }
 }
 
-// Are the n bytes of `input` from `from` on those of `bytes` from `to` on? The last are looked at first: names mostly differ there.
-pub fn same_bytes(input: &[u8], from: usize, bytes: &[u8], to: usize, n: usize) -> bool
-    requires { (from + n ≤ length input.now) × (to + n ≤ length bytes.now) }
-    ensures { result ≡ equal (take n (drop from input.now)) (take n (drop to bytes.now)) }
+// Are the bytes the same? The last are looked at first: names mostly differ there.
+pub fn same_bytes(a: &[u8], b: &[u8]) -> bool
+    requires { length a.now ≡ length b.now }
+    ensures { IsTrue result ↔ (a.now ≡ b.now) }
 {
-    let mut i = n;
-    while 0 < i {
-        i = i - 1;
-        if input[from + i] != bytes[to + i] {
-            return false;
-        }
-    }
-    true
+    a.iter().rev().zip(b.iter().rev()).all(|(x, y)| *x == *y)
 }
 
-// All words of `source`, to `to` on.
-pub fn copy_words(source: &[u32], words: &mut [u32], to: usize)
-    requires { to + length source.now ≤ length words.old }
-    ensures { words.new ≡ sets words.old to source.now }
+// n times `value` from `from` on, the others as they were. `fill` asks that a clone is its value, which `Copy` does not say.
+pub fn fill_range<T: Copy>(list: &mut [T], from: usize, n: usize, value: T)
+    requires { from + n ≤ length list.old }
+    ensures { list.new ≡ sets list.old from (replicate n value) }
 {
-    let mut i = 0;
-    while i < source.len() {
-        words[to + i] = source[i];
-        i = i + 1;
+    for x in &mut list[from..from + n] {
+        *x = value;
     }
 }
 
-// The n words from `from` on are zero, the others as they were.
-pub fn zero_range(words: &mut [u32], from: usize, n: usize)
-    requires { from + n ≤ length words.old }
-    ensures { words.new ≡ sets words.old from (replicate n 0) }
+// `value` from `from` on, those before it as they were.
+pub fn fill_from<T: Copy>(list: &mut [T], from: usize, value: T)
+    requires { from ≤ length list.old }
+    ensures { list.new ≡ sets list.old from (replicate (length list.old - from) value) }
 {
-    let mut i = 0;
-    while i < n {
-        words[from + i] = 0;
-        i = i + 1;
-    }
-}
-
-// The words from `from` on are zero, those before it as they were.
-pub fn zero_words(words: &mut [u32], from: usize)
-    requires { from ≤ length words.old }
-    ensures { words.new ≡ cleared from words.old }
-{
-    let n = words.len() - from;
-    zero_range(words, from, n);
-}
-
-// The bytes from `from` on are zero, those before it as they were.
-pub fn zero_bytes(bytes: &mut [u8], from: usize)
-    requires { from ≤ length bytes.old }
-    ensures { bytes.new ≡ cleared from bytes.old }
-{
-    let n = bytes.len() - from;
-    let mut i = 0;
-    while i < n {
-        bytes[from + i] = 0;
-        i = i + 1;
-    }
+    let n = list.len() - from;
+    fill_range(list, from, n, value);
 }

@@ -5,9 +5,9 @@ use Rattle.definition.specs.Run.{Outcome, ok, refused}
 use Rattle.definition.specs.Slice.{greatest_length}
 use Rattle.definition.specs.State.{State}
 use Rattle.definition.specs.Load.{Lists, LoadCall, room_of, load, load_wrong, load_done, load_if, load_call}
-use Rattle.definition.specs.declared.Answer.{Answer}
-use Rattle.definition.specs.declared.Answer.TheVariants.{Refused}
-use Rattle.definition.specs.declared.Loaded.{Loaded}
+use Rattle.definition.specs.Refused.{Answer}
+use Rattle.definition.specs.Refused.{Refused}
+use Rattle.definition.specs.Load.{LoadAnswer}
 use Rattle.definition.specs.declared.Refusal.{Refusal}
 use Rattle.definition.specs.declared.Refusal.TheVariants.{ShortInput}
 use Rattle.lists.specs.Lists.{apart}
@@ -95,7 +95,7 @@ pub used_alone : (input : List ℕ) (T : Lists) (limit : ℕ) → LoadAccepted i
 used_alone input T limit l =
     let a = load_accepted input T limit l in
     let u = used input T limit in
-    let e : u ≡ a.state.at = ap (λ (r : Loaded). r.used) a.answered in
+    let e : u ≡ a.state.at = ap (λ (r : LoadAnswer). r.used) a.answered in
     let n : length (take u input) ≡ u = length-take-le u input (call_used input T limit a) in
     let o = ended_within a.root a.state (omega arith) a.loads (first_alike input T limit a u) in
     call_done (take u input) T limit (first_allowed input T limit a u) ∙ ap (load_done T) (o ∙ sym a.loads) ∙ sym (call_done input T limit a.none_wrong)
@@ -105,7 +105,7 @@ pub cut_short : (input : List ℕ) (k : ℕ) (T : Lists) (limit : ℕ) → LoadA
 unfolding load_done
 cut_short input k T limit l h =
     let a = load_accepted input T limit l in
-    let e : used input T limit ≡ a.state.at = ap (λ (r : Loaded). r.used) a.answered in
+    let e : used input T limit ≡ a.state.at = ap (λ (r : LoadAnswer). r.used) a.answered in
     let o = ended_past a.root a.state (omega (arith, length-take k input)) a.loads (load_used (take k input) (room_of T) limit) (first_alike input T limit a k) in
     ap (λ (c : LoadCall). c.answer.answer) (call_done (take k input) T limit (first_allowed input T limit a k) ∙ ap (load_done T) o)
 

@@ -6,7 +6,7 @@ use Rattle.definition.specs.Arena.{Arena, arena, tables_of}
 use Rattle.definition.specs.Load.{Lists, LoadCall, load_call}
 use Rattle.definition.specs.Reader.{load_next, offset_after}
 use Rattle.definition.specs.Graph.{SameGraph}
-use Rattle.definition.specs.declared.Answer.TheVariants.{Accepted, Refused}
+use Rattle.definition.specs.Refused.{Accepted, Refused}
 use Rattle.definition.specs.declared.Refusal.{Refusal}
 use Rattle.lists.specs.Offsets.{next_allowed, next_denied}
 use Rattle.load_text.specs.Input.{Ahead, ahead_past}

@@ -1,4 +1,6 @@
 -- A name by its hash: what the search of the bucket table found is its symbol, and the table with the symbol put there.
+use Rattle.std.specs.Prelude as code
+use Rattle.std.specs.Prelude.{Some, None, IfSome, MatchOption, is_some, Result, Ok, Err}
 use Prim.Native.Nat.{ℕ, zero, suc, ◌+◌, ◌-◌, ◌%◌, ◌≤◌, ◌<◌}
 use native.Mathlib.Omega.{arith}
 use native.Mathlib.Nat.{mod-add-mod}
@@ -23,21 +25,18 @@ use Rattle.lists.specs.Joined.{and_right}
 use Rattle.lists.specs.Words.{equal_true, equal_self}
 use Rattle.lists.specs.Ranges.{range_last}
 use Rattle.lists.specs.Buckets.{Reaches, search_new, searches_snoc}
-use Rattle.load_state.specs.Holds.{Lent, lent, by_list, by_buckets, Holds, Meets, Symbolic, AllSymbolic, AllFit, Hashing, find_listed, Held, Goes, span, span_of, name_at, hashes, at_of, nodes_of, symbols_of, looked_of, compared_from_one}
-use Rattle.symbol_search.specs.Search.{Found, Probe, NOT_FOUND}
+use Rattle.load_state.specs.declared.Progress.{Progress}
+use Rattle.load_state.specs.Holds.{Lent, lent, by_list, by_buckets, Holds, Meets, Symbolic, AllSymbolic, AllFit, Hashing, find_listed, Held, Goes, span, name_at, hashes}
+use Rattle.reader.specs.declared.Stop.{Stop}
+use Rattle.symbol_search.specs.Search.{Found, Probe}
 use Rattle.symbol_reader.specs.Parts.{add_name, read_name}
-use Rattle.load_state.specs.Counts.{Only, is, counting, still_idle}
 use Rattle.load_state.specs.Stores.{at_held}
-use Rattle.load_state.specs.Laws.{held_goes, lead_after}
-use Rattle.load_state.specs.Changed.{fixed_kept, counted_kept, noted_kept}
+use Rattle.load_state.specs.Laws.{held_goes, lead_after, given}
 use Rattle.load_state.specs.Needs.{entry_symbolic}
-use Rattle.symbol_search.proofs.Looked.{is_there}
-use Rattle.symbol_reader.proofs.Names.{searched_plainly}
+use Rattle.symbol_reader.proofs.Names.{searched_plainly, known_there}
 use Rattle.load_state.specs.Names.{untrue, symbolic_kind, symbolic_below, name_more, fit_any}
 use Rattle.load_state.specs.Hashing.{hashing_kept}
-use Rattle.symbol_search.proofs.Probing.{word_at, word_round, filled, word_listed, word_symbolic, reached}
-use Rattle.load_state.specs.Counts as K
-use Rattle.load_state.specs.Places.{COUNTS, AT, COMPARED_FROM_ONE, LOOKED}
+use Rattle.symbol_search.proofs.Probing.{word_at, word_round, word_listed, word_symbolic, reached}
 
 -- a name's symbol has that name
 named_name : (b name : List ℕ) (r : Row) → named b name r ≡ true → name ≡ name_of b r
@@ -102,14 +101,13 @@ module _ (l : List ℕ) (r : ℕ) where
 
 -- ---- a name's symbol put on the list
 
--- what it leaves of a state: below 2^32 the symbol was known
-pub record Named (name : List ℕ) (v : ℕ) (s : State) (r : ℕ) (s' : State) : Type 0 where
+-- what it leaves of a state, by what the search for it answered
+pub record Named (name : List ℕ) (v : code.Option ℕ) (s : State) (r : ℕ) (s' : State) : Type 0 where
   pub symbols : s'.symbols ≡ s.symbols ++ (r ∷ [])
   pub rows : length s.nodes ≤ length s'.nodes
   pub kept : (i : ℕ) → i < length s.symbols → name_at s'.bytes s'.nodes (get_or s.symbols i 0) ≡ name_at s.bytes s.nodes (get_or s.symbols i 0)
   pub name_is : name_at s'.bytes s'.nodes r ≡ name
-  pub known : v < NOT_FOUND → r ≡ v
-  pub new : NOT_FOUND ≤ v → r ≡ length s.nodes
+  pub found : MatchOption v (r ≡ length s.nodes) (λ h. r ≡ h)
 
 -- a step that gave a result gave it because its test held
 given_by : (t : Bool) (h r : ℕ) (u s' : State) (q : Refusal) → pick t (ok h u) (refused q) ≡ ok r s' → (r ≡ h) × (s' ≡ u)
@@ -141,39 +139,39 @@ module _ (room : Room) (name : List ℕ) (s : State) (r : ℕ) (s' : State) wher
       (g ∙ z, k ∙ λ j. symbols_set ((w j).symbols ++ (z j ∷ [])) (w j))))
 
   -- a name after its search
-  pub named_after : (v : ℕ) → AllFit (length s.bytes) s.nodes → AllSymbolic s.nodes s.symbols → (v < NOT_FOUND → named s.bytes name (get_or s.nodes v nil) ≡ true) → add_name room name v s ≡ ok r s' → Named name v s r s'
+  pub named_after : (v : code.Option ℕ) → AllFit (length s.bytes) s.nodes → AllSymbolic s.nodes s.symbols → IfSome v (λ h. named s.bytes name (get_or s.nodes h nil) ≡ true) → add_name room name v s ≡ ok r s' → Named name v s r s'
   unfolding pick name_of kind words
-  named_after v f y n e = go (ltb v NOT_FOUND) refl e
-    where
-      row : Row
-      row = symbol (length s.bytes) (length name)
-
-      go : (t : Bool) → ltb v NOT_FOUND ≡ t → (intern_as room name (pick t (some v) none) >>= add_symbol room) s ≡ ok r s' → Named name v s r s'
-      go true q e =
-          let l = ltb-true v NOT_FOUND q in
-          let (a, b) = old_given v e in
-          subst (λ (t : State). Named name v s r t) (sym b)
-          (record { symbols = ap (λ (h : ℕ). s.symbols ++ (h ∷ [])) (sym a); rows = omega arith; kept = λ i u. refl; name_is = ap (name_at s.bytes s.nodes) a ∙ sym (named_name s.bytes name _ (n l)); known = λ _. a; new = λ g. absurd (omega (arith, l, g)) })
-      go false q e =
-          let l = ltb-false v NOT_FOUND q in
-          let (a, b) = new_given e in
-          subst (λ (t : State). Named name v s r t) (sym b)
-          (record {
-            symbols = ap (λ (h : ℕ). s.symbols ++ (h ∷ [])) (sym a);
-            rows = simp length-append (omega arith);
-            kept = λ i u. let h = get_or s.symbols i 0 in ap (name_of (s.bytes ++ name)) (get_or-append s.nodes (row ∷ []) nil h (symbolic_below s.nodes h (y i u))) ∙ name_more s.bytes name (get_or s.nodes h nil) (fit_any (length s.bytes) s.nodes h f);
-            name_is = ap (λ (h : ℕ). name_at (s.bytes ++ name) (s.nodes ++ (row ∷ [])) h) a ∙ ap (name_of (s.bytes ++ name)) (get_or-append_seam s.nodes row [] nil) ∙ range_last s.bytes name;
-            known = λ g. absurd (omega (arith, l, g));
-            new = λ _. a;
-          })
+  named_after (Some h) f y n e =
+      let (a, b) = old_given h e in
+      subst (λ (t : State). Named name (Some h) s r t) (sym b)
+      (record { symbols = ap (λ (h : ℕ). s.symbols ++ (h ∷ [])) (sym a); rows = omega arith; kept = λ i u. refl; name_is = ap (name_at s.bytes s.nodes) a ∙ sym (named_name s.bytes name _ n); found = a })
+  named_after None f y n e =
+      let row = symbol (length s.bytes) (length name) in
+      let (a, b) = new_given e in
+      subst (λ (t : State). Named name None s r t) (sym b)
+      (record {
+        symbols = ap (λ (h : ℕ). s.symbols ++ (h ∷ [])) (sym a);
+        rows = simp length-append (omega arith);
+        kept = λ i u. let h = get_or s.symbols i 0 in ap (name_of (s.bytes ++ name)) (get_or-append s.nodes (row ∷ []) nil h (symbolic_below s.nodes h (y i u))) ∙ name_more s.bytes name (get_or s.nodes h nil) (fit_any (length s.bytes) s.nodes h f);
+        name_is = ap (λ (h : ℕ). name_at (s.bytes ++ name) (s.nodes ++ (row ∷ [])) h) a ∙ ap (name_of (s.bytes ++ name)) (get_or-append_seam s.nodes row [] nil) ∙ range_last s.bytes name;
+        found = a;
+      })
 
 -- ---- what a search finds
 
-module _ {input : List ℕ} {room : Room} {s : State} {T : Lent} {c : List ℕ} (H : Holds input room s T c) (asked : T.symbols.searched ≡ true) (b : T.symbols.buckets ≡ [] → ⊥) where
+-- by the word where it ended: zero, or a symbol's number
+by_word : {A : Type 0} (w : ℕ) → (w ≡ 0 → A) → ((w ≡ 0 → ⊥) → A) → A
+by_word {A} w x y = go (eqb w 0) refl
+  where
+    go : (t : Bool) → eqb w 0 ≡ t → A
+    go true e = x (eqb-true w 0 e)
+    go false e = y (eqb-false w 0 e)
+
+module _ {input : List ℕ} {room : Room} {s : State} {T : Lent} {c : Progress} (H : Holds input room s T c) (asked : T.symbols.searched ≡ true) (b : T.symbols.buckets ≡ [] → ⊥) where
   abbrev B : List ℕ
   B = T.symbols.buckets
 
-  abbrev Z : Hashing room.nodes s.bytes s.nodes s.symbols B c
+  abbrev Z : Hashing room.nodes s.bytes s.nodes s.symbols B c.looked (is_some c.compared)
   Z = (H.known.names asked).hashed b
 
   module _ (name : List ℕ) (p : ℕ) (P : Probe s name B (fnv_1a name % length B) p) where
@@ -211,82 +209,63 @@ module _ {input : List ℕ} {room : Room} {s : State} {T : Lent} {c : List ℕ} 
                 other.0 (sym k ∙ Z.unique i j v u d)
         go false false a d = let z : p ≡ R.at = omega (arith, ltb-false R.at p a, ltb-false p R.at d) in ap at z ∙ here
 
-    -- where a word stands for the number v, from 2^32 on it is zero
-    module _ (v : ℕ) (f : at p ≡ 0 → v ≡ NOT_FOUND) (g : (at p ≡ 0 → ⊥) → v ≡ at p) where
-      some_word : v < NOT_FOUND → at p ≡ 0 → ⊥
-      some_word l z = omega (arith, f z, l)
-
-      no_word : NOT_FOUND ≤ v → at p ≡ 0
-      no_word l = go (eqb (at p) 0) refl
+    -- what a search answered by that word
+    module _ (v : code.Option ℕ) (f : at p ≡ 0 → v ≡ None) (g : (at p ≡ 0 → ⊥) → v ≡ Some (at p)) where
+      word_named : (at p ≡ 0 → ⊥) → named s.bytes name (get_or s.nodes (at p) nil) ≡ true
+      word_named d = go P.ends
         where
-          go : (t : Bool) → eqb (at p) 0 ≡ t → at p ≡ 0
-          go true q = eqb-true _ _ q
-          go false q =
-              let d = eqb-false (at p) 0 q in
-              absurd (omega (arith, g d, l, symbolic_below s.nodes _ (word_symbolic H asked b (fnv_1a name % length B + p) d), H.counted.room_nodes, H.fixed.small.nodes))
-
-      pub is_named : v < NOT_FOUND → named s.bytes name (get_or s.nodes v nil) ≡ true
-      is_named l = go P.ends
-        where
-          d : at p ≡ 0 → ⊥
-          d = some_word l
-
-          go : (at p ≡ 0) ⊎ (named s.bytes name (get_or s.nodes (at p) nil) ≡ true) → named s.bytes name (get_or s.nodes v nil) ≡ true
+          go : (at p ≡ 0) ⊎ (named s.bytes name (get_or s.nodes (at p) nil) ≡ true) → named s.bytes name (get_or s.nodes (at p) nil) ≡ true
           go (inl q) = absurd (d q)
-          go (inr q) = ap (λ (h : ℕ). named s.bytes name (get_or s.nodes h nil)) (g d) ∙ q
+          go (inr q) = q
 
-      -- by that number
+      pub is_named : IfSome v (λ h. named s.bytes name (get_or s.nodes h nil) ≡ true)
+      is_named = by_word (at p) (λ z. rw (f z) tt) (λ d. rw (g d) (word_named d))
+
       pub found_by : Found s name v
-      found_by = record {
-        there = λ l.
-            let d = some_word l in
-            let (j, u, k) = word_listed H asked b (fnv_1a name % length B + p) d in
-            let y = ap (λ (x : ℕ). named s.bytes name (get_or s.nodes x nil)) (k ∙ sym (g d)) ∙ is_named l in
-            (H.known.names asked).interned.names name ∙ listed_one s.bytes name s.nodes (at p) s.symbols j u y (λ i w x. sym (stands i w x)) ∙ ap some (sym (g d));
-        symbol = λ l. subst (λ (h : ℕ). Symbolic (get_or s.nodes h nil)) (sym (g (some_word l))) (word_symbolic H asked b (fnv_1a name % length B + p) (some_word l));
-        none = λ l. (H.known.names asked).interned.names name ∙ listed_nowhere s.bytes name s.nodes s.symbols (λ i u y. Z.nonzero i u (sym (stands i u y) ∙ no_word l));
-      }
+      found_by =
+          by_word (at p)
+          (λ z. subst (Found s name) (sym (f z)) (record { same = (H.known.names asked).interned.names name ∙ listed_nowhere s.bytes name s.nodes s.symbols (λ i u y. Z.nonzero i u (sym (stands i u y) ∙ z)); symbol = tt }))
+          (λ d.
+          let (j, u, k) = word_listed H asked b (fnv_1a name % length B + p) d in
+          let y = ap (λ (x : ℕ). named s.bytes name (get_or s.nodes x nil)) k ∙ word_named d in
+          subst (Found s name) (sym (g d)) (record { same = (H.known.names asked).interned.names name ∙ listed_one s.bytes name s.nodes (at p) s.symbols j u y (λ i w x. sym (stands i w x)); symbol = word_symbolic H asked b (fnv_1a name % length B + p) d }))
 
       -- ---- its symbol r is put on the list, and where the search ended
 
       module _ (r : ℕ) (s' : State) (N : Named name v s r s') where
-        by_number : {A : Type 0} → (v < NOT_FOUND → r ≡ at p → A) → (NOT_FOUND ≤ v → at p ≡ 0 → r ≡ length s.nodes → A) → A
-        by_number {A} x y = go (ltb v NOT_FOUND) refl
-          where
-            go : (t : Bool) → ltb v NOT_FOUND ≡ t → A
-            go true q = let l = ltb-true _ _ q in x l (N.known l ∙ g (some_word l))
-            go false q = let l = ltb-false _ _ q in y l (no_word l) (N.new l)
+        by_number : {A : Type 0} → ((at p ≡ 0 → ⊥) → r ≡ at p → A) → (at p ≡ 0 → r ≡ length s.nodes → A) → A
+        by_number x y = by_word (at p) (λ z. y z (rw (f z) at N.found)) (λ d. x d (rw (g d) at N.found))
 
         not_zero : r ≡ 0 → ⊥
-        not_zero e = by_number (λ l q. some_word l (sym q ∙ e)) (λ l z q. omega (arith, q, e, Z.one))
+        not_zero e = by_number (λ d q. d (sym q ∙ e)) (λ z q. omega (arith, q, e, Z.one))
 
         -- an entry with its name is r
         only : (i : ℕ) → i < length s.symbols → name_at s.bytes s.nodes (get_or s.symbols i 0) ≡ name → get_or s.symbols i 0 ≡ r
         only i u e =
             let y = named_of s.bytes name (get_or s.nodes (get_or s.symbols i 0) nil) ((H.known.names asked).interned.symbolic i u) (sym e) in
-            by_number (λ l q. sym (stands i u y) ∙ sym q) (λ l z q. absurd (Z.nonzero i u (sym (stands i u y) ∙ z)))
+            by_number (λ d q. sym (stands i u y) ∙ sym q) (λ z q. absurd (Z.nonzero i u (sym (stands i u y) ∙ z)))
 
         -- the words before are others
         clear : (q : ℕ) → q < p → (bucket B (fnv_1a name + q) ≡ r → ⊥) × (bucket B (fnv_1a name + q) ≡ 0 → ⊥)
         clear q l =
             let e = word_round B (fnv_1a name) q in
             let (d, n) = P.before q l in (
-              λ k. by_number (λ u x. untrue (sym n ∙ ap (λ (h : ℕ). named s.bytes name (get_or s.nodes h nil)) (e ∙ k ∙ x ∙ sym (g (some_word u))) ∙ is_named u)) (λ u z x. omega (arith, e ∙ k ∙ x, symbolic_below s.nodes _ (word_symbolic H asked b (fnv_1a name % length B + q) d))),
+              λ k. by_number (λ u x. untrue (sym n ∙ ap (λ (h : ℕ). named s.bytes name (get_or s.nodes h nil)) (e ∙ k ∙ x) ∙ word_named u)) (λ z x. omega (arith, e ∙ k ∙ x, symbolic_below s.nodes _ (word_symbolic H asked b (fnv_1a name % length B + q) d))),
               λ k. d (e ∙ k),
             )
 
         ends_there : (bucket B (fnv_1a name + p) ≡ r) ⊎ (bucket B (fnv_1a name + p) ≡ 0)
-        ends_there = let e = word_round B (fnv_1a name) p in by_number (λ l q. inl (sym e ∙ sym q)) (λ l z q. inr (sym e ∙ z))
+        ends_there = let e = word_round B (fnv_1a name) p in by_number (λ d q. inl (sym e ∙ sym q)) (λ z q. inr (sym e ∙ z))
 
-        pub hashing_named : {c' : List ℕ} → looked_of c' ≡ looked_of c + (p + 1) → compared_from_one c' ≡ 0 → Hashing room.nodes s'.bytes s'.nodes s'.symbols (set B ((fnv_1a name % length B + p) % length B) r) c'
-        hashing_named {c'} x y =
+        pub hashing_named : {t : Bool} → t ≡ false → Hashing room.nodes s'.bytes s'.nodes s'.symbols (set B ((fnv_1a name % length B + p) % length B) r) (c.looked + (p + 1)) t
+        hashing_named {t} y =
             let K = hashes s'.bytes s'.nodes in
-            let Z' : Hashing room.nodes s'.bytes s'.nodes s.symbols B c = hashing_kept N.rows N.kept Z in
+            let Z' : Hashing room.nodes s'.bytes s'.nodes s.symbols B c.looked (is_some c.compared) = hashing_kept N.rows N.kept Z in
             let i = (fnv_1a name % length B + p) % length B in
             let m : length (set B i r) ≡ length B = length-set B i r in
             let e : (fnv_1a name + p) % length B ≡ i = sym (mod-add-mod (fnv_1a name) (length B) p) in
-            let l : looked_of c + suc p ≡ looked_of c' = omega (arith, x) in
-            subst (λ (t : List ℕ). Hashing room.nodes s'.bytes s'.nodes t (set B i r) c') (sym N.symbols)
+            let l : c.looked + suc p ≡ c.looked + (p + 1) = omega arith in
+            subst (λ (z : List ℕ). Hashing room.nodes s'.bytes s'.nodes z (set B i r) (c.looked + (p + 1)) t) (sym N.symbols)
             (record {
               enough = omega (arith, m, Z.enough);
               short = omega (arith, m, Z.short);
@@ -294,7 +273,7 @@ module _ {input : List ℕ} {room : Room} {s : State} {T : Lent} {c : List ℕ} 
                   ap (λ (n : ℕ). searches K (s.symbols ++ (r ∷ [])) (empty n)) m
                   ∙ searches_snoc K s.symbols r (empty (length B))
                   ∙ (λ j. search (fnv_1a (N.name_is j)) r (Z'.filled j))
-                  ∙ search_new (record { words = B; looked = looked_of c }) (fnv_1a name) r p P.inside clear ends_there
+                  ∙ search_new (record { words = B; looked = c.looked }) (fnv_1a name) r p P.inside clear ends_there
                   ∙ λ j. record { words = set B (e j) r; looked = l j };
               unique = unique_snoc s.symbols r (name_at s'.bytes s'.nodes) Z'.unique (λ i u q. only i u (sym (N.kept i u) ∙ q ∙ N.name_is));
               nonzero = nonzero_snoc s.symbols r Z.nonzero not_zero;
@@ -304,7 +283,7 @@ module _ {input : List ℕ} {room : Room} {s : State} {T : Lent} {c : List ℕ} 
 
 -- ---- held without the bucket table, and with it again
 
-forget : {input : List ℕ} {room : Room} {s : State} {no re by sy B ob c : List ℕ} → Holds input room s (lent no re by (by_buckets sy B) ob) c → Holds input room s (lent no re by (by_list sy) ob) c
+forget : {input : List ℕ} {room : Room} {s : State} {no re by sy B ob : List ℕ} {c : Progress} → Holds input room s (lent no re by (by_buckets sy B) ob) c → Holds input room s (lent no re by (by_list sy) ob) c
 forget H = (let L = H.laid in let N = H.known in record {
   fixed = H.fixed;
   laid = record { nodes = L.nodes; references = L.references; bytes = L.bytes; symbols = L.symbols; objects = L.objects };
@@ -313,116 +292,114 @@ forget H = (let L = H.laid in let N = H.known in record {
   known = record { below = N.below; entries = N.entries; fit = N.fit; names = λ _. record { interned = (N.names refl).interned; hashed = λ b. absurd (b refl) } };
 })
 
-attach : {input : List ℕ} {room : Room} {s : State} {no re by sy ob c c' : List ℕ} (B : List ℕ) → Holds input room s (lent no re by (by_list sy) ob) c → Only LOOKED c c' → Hashing room.nodes s.bytes s.nodes s.symbols B c' → Holds input room s (lent no re by (by_buckets sy B) ob) c'
-attach B H o Z = (let L = H.laid in let N = H.known in record {
-  fixed = fixed_kept o (omega arith) H.fixed;
+attach : {input : List ℕ} {room : Room} {s : State} {no re by sy ob : List ℕ} {c : Progress} (B : List ℕ) (x : ℕ) → Holds input room s (lent no re by (by_list sy) ob) c → Hashing room.nodes s.bytes s.nodes s.symbols B x (is_some c.compared) → Holds input room s (lent no re by (by_buckets sy B) ob) (record c { looked = x })
+attach B x H Z = (let L = H.laid in let C = H.counted in let N = H.known in record {
+  fixed = H.fixed;
   laid = record { nodes = L.nodes; references = L.references; bytes = L.bytes; symbols = L.symbols; objects = L.objects };
-  counted = counted_kept o (omega arith) H.counted;
-  noted = noted_kept o (omega arith) (omega arith) H.noted;
+  counted = record { count_at = C.count_at; inside = C.inside; count_nodes = C.count_nodes; room_nodes = C.room_nodes; count_references = C.count_references; count_bytes = C.count_bytes; count_symbols = C.count_symbols; count_objects = C.count_objects };
+  noted = H.noted;
   known = record { below = N.below; entries = N.entries; fit = N.fit; names = λ _. record { interned = (N.names refl).interned; hashed = λ b. Z } };
 })
 
 -- a name is put on the list as without the bucket table, and then where its search ended
-module _ {input : List ℕ} {room : Room} {limit : ℕ} {no re by sy ob B c : List ℕ} (b : B ≡ [] → ⊥) (name : List ℕ) (v p : ℕ) (P : (s : State) → Holds input room s (lent no re by (by_buckets sy B) ob) c → Probe s name B (fnv_1a name % length B) p) (f : bucket B (fnv_1a name % length B + p) ≡ 0 → v ≡ NOT_FOUND) (g : (bucket B (fnv_1a name % length B + p) ≡ 0 → ⊥) → v ≡ bucket B (fnv_1a name % length B + p)) where
-  pub named_by_hash : {no' by' sy' B' c' : List ℕ} {r : ℕ} (x : ℕ) → x ≡ looked_of c + (p + 1) → B' ≡ set B ((fnv_1a name % length B + p) % length B) r → Meets input room limit (add_name room name v) (lent no re by (by_list sy) ob) c r (lent no' re by' (by_list sy') ob) c' → Meets input room limit (add_name room name v) (lent no re by (by_buckets sy B) ob) c r (lent no' re by' (by_buckets sy' B') ob) (set c' LOOKED x)
+module _ {input : List ℕ} {room : Room} {limit : ℕ} {no re by sy ob B : List ℕ} {c : Progress} (b : B ≡ [] → ⊥) (name : List ℕ) (v : code.Option ℕ) (p : ℕ) (P : (s : State) → Holds input room s (lent no re by (by_buckets sy B) ob) c → Probe s name B (fnv_1a name % length B) p) (f : bucket B (fnv_1a name % length B + p) ≡ 0 → v ≡ None) (g : (bucket B (fnv_1a name % length B + p) ≡ 0 → ⊥) → v ≡ Some (bucket B (fnv_1a name % length B + p))) where
+  pub named_by_hash : {no' by' sy' B' : List ℕ} {c' : Progress} {r : ℕ} → B' ≡ set B ((fnv_1a name % length B + p) % length B) r → Meets input room limit (add_name room name v) (lent no re by (by_list sy) ob) c (Ok r) (lent no' re by' (by_list sy') ob) c' → Meets input room limit (add_name room name v) (lent no re by (by_buckets sy B) ob) c (Ok r) (lent no' re by' (by_buckets sy' B') ob) (record c' { looked = c.looked + (p + 1) })
   unfolding pure
-  named_by_hash {B' = B'} {c'} {r} x e d M = record {
-    goes = λ l. record {
-      goes = λ s H.
-          let w = (M.goes l).goes s (forget H) in
-          let N = named_after room name s r w.state v H.known.fit (H.known.names refl).interned.symbolic (is_named H refl b name p (P s H) v f g) w.same in
-          let o = K.put LOOKED x c' in
-          let y = is LOOKED x c' w.holds.fixed.ten (omega arith) in
-          let z = o.others COMPARED_FROM_ONE (omega arith) ∙ still_idle c c' (M.goes l).counts ((H.known.names refl).hashed b).uncounted in
-          let Z = hashing_named H refl b name p (P s H) v f g r w.state N (y ∙ e) z in
-          record { state = w.state; holds = attach B' w.holds o (subst (λ (t : List ℕ). Hashing room.nodes w.state.bytes w.state.nodes w.state.symbols t (set c' LOOKED x)) (sym d) Z); same = w.same; grown = w.grown; behind = λ x. untrue (sym x) };
-      counts = counting (K.put LOOKED x c') (omega arith) ∙ (M.goes l).counts;
-    };
-    stops = λ l. record { refuses = λ s H. (M.stops l).refuses s (forget H) };
-  }
+  named_by_hash {B' = B'} {c'} {r} d M = given (record {
+    goes = λ s H.
+        let w = M.led.goes s (forget H) in
+        let N = named_after room name s r w.state v H.known.fit (H.known.names refl).interned.symbolic (is_named H refl b name p (P s H) v f g) w.same in
+        let z = M.led.counts ∙ ((H.known.names refl).hashed b).uncounted in
+        let Z = hashing_named H refl b name p (P s H) v f g r w.state N z in
+        record { state = w.state; holds = attach B' (c.looked + (p + 1)) w.holds (subst (λ (t : List ℕ). Hashing room.nodes w.state.bytes w.state.nodes w.state.symbols t (c.looked + (p + 1)) (is_some c'.compared)) (sym d) Z); same = w.same; grown = w.grown; behind = λ x. untrue (sym x) };
+    counts = M.led.counts;
+  })
 
--- ---- a name by its hash k: its search passes p words, and the word i where it ends stands for the number v
+-- a refusal without the bucket table is one with it
+refused_by_hash : {input : List ℕ} {room : Room} {limit : ℕ} {m : Reader ℕ} {no re by sy ob B : List ℕ} {T' T'' : Lent} {c c' c'' : Progress} {q : Stop} → Meets input room limit m (lent no re by (by_list sy) ob) c (Err q) T' c' → Meets input room limit m (lent no re by (by_buckets sy B) ob) c (Err q) T'' c''
+refused_by_hash M = record { led = record { refuses = λ s H. M.led.refuses s (forget H) } }
 
-pub forget_held : {input no re by sy B ob c : List ℕ} → Held input (lent no re by (by_buckets sy B) ob) c → Held input (lent no re by (by_list sy) ob) c
+-- ---- a name by its hash k: its search passes p words, and v is answered by the word i where it ends
+
+pub forget_held : {input no re by sy B ob : List ℕ} {c : Progress} → Held input (lent no re by (by_buckets sy B) ob) c → Held input (lent no re by (by_list sy) ob) c
 forget_held H = record { room = H.room; state = H.state; holds = forget H.holds }
 
-pub record Sought (input no by sy B c : List ℕ) (n k p i v : ℕ) : Type 0 where
-  pub inside : at_of c + n ≤ length input
+pub record Sought (input no by sy B : List ℕ) (c : Progress) (n k p i : ℕ) (v : code.Option ℕ) : Type 0 where
+  pub inside : c.at + n ≤ length input
   pub words : length B ≡ 0 → ⊥
-  pub hash : k ≡ fnv_1a (take n (drop (at_of c) input))
-  pub probe : (room : Room) (s : State) (re ob m : List ℕ) → Holds input room s (lent no re by (by_buckets sy B) ob) m → Probe s (span input (at_of c + n) n) B (k % length B) p
+  pub hash : k ≡ fnv_1a (take n (drop c.at input))
+  pub probe : (room : Room) (s : State) (re ob : List ℕ) (m : Progress) → Holds input room s (lent no re by (by_buckets sy B) ob) m → Probe s (span input (c.at + n) n) B (k % length B) p
   pub place : i ≡ (k % length B + p) % length B
-  pub zero : get_or B i 0 ≡ 0 → v ≡ NOT_FOUND
-  pub other : (get_or B i 0 ≡ 0 → ⊥) → v ≡ get_or B i 0
+  pub zero : get_or B i 0 ≡ 0 → v ≡ None
+  pub other : (get_or B i 0 ≡ 0 → ⊥) → v ≡ Some (get_or B i 0)
+
+-- nothing is counted
+uncounted_none : (o : code.Option ℕ) → is_some o ≡ false → o ≡ None
+uncounted_none None e = refl
+uncounted_none (Some k) e = untrue (sym e)
 
 -- no words are no bucket table
-pub without_words : {input : List ℕ} {room : Room} {limit r : ℕ} {m : Reader ℕ} {no re by sy ob c no' re' by' sy' ob' c' : List ℕ} (B : List ℕ) → length B ≡ 0 → Meets input room limit m (lent no re by (by_list sy) ob) c r (lent no' re' by' (by_list sy') ob') c' → Meets input room limit m (lent no re by (by_buckets sy B) ob) c r (lent no' re' by' (by_buckets sy' B) ob') c'
+pub without_words : {input : List ℕ} {room : Room} {limit : ℕ} {r : Result ℕ Stop} {m : Reader ℕ} {no re by sy ob no' re' by' sy' ob' : List ℕ} {c c' : Progress} (B : List ℕ) → length B ≡ 0 → Meets input room limit m (lent no re by (by_list sy) ob) c r (lent no' re' by' (by_list sy') ob') c' → Meets input room limit m (lent no re by (by_buckets sy B) ob) c r (lent no' re' by' (by_buckets sy' B) ob') c'
 without_words [] e M = M
 without_words (x ∷ B) e M = absurd (omega arith)
 
-module _ {input no by sy B c : List ℕ} {n k p i v : ℕ} (S : Sought input no by sy B c n k p i v) where
+module _ {input no by sy B : List ℕ} {c : Progress} {n k p i : ℕ} {v : code.Option ℕ} (S : Sought input no by sy B c n k p i v) where
   abbrev name : List ℕ
-  name = span input (at_of c + n) n
+  name = span input (c.at + n) n
 
-  abbrev c₁ : List ℕ
-  c₁ = set c AT (at_of c + n)
+  abbrev c₁ : Progress
+  c₁ = record c { at = c.at + n }
+
+  -- the word where the search ended
+  abbrev w : ℕ
+  w = bucket B (fnv_1a name % length B + p)
 
   b : B ≡ [] → ⊥
   b z = S.words (ap length z)
 
   is_hash : k ≡ fnv_1a name
-  is_hash = let a : at_of c ≡ at_of c + n - n = omega arith in S.hash ∙ ap (λ (j : ℕ). fnv_1a (take n (drop j input))) a
+  is_hash = let a : c.at ≡ c.at + n - n = omega arith in S.hash ∙ ap (λ (j : ℕ). fnv_1a (take n (drop j input))) a
 
-  probed_at : (room : Room) (s : State) (re ob m : List ℕ) → Holds input room s (lent no re by (by_buckets sy B) ob) m → Probe s name B (fnv_1a name % length B) p
+  probed_at : (room : Room) (s : State) (re ob : List ℕ) (m : Progress) → Holds input room s (lent no re by (by_buckets sy B) ob) m → Probe s name B (fnv_1a name % length B) p
   probed_at room s re ob m H = subst (λ (j : ℕ). Probe s name B (j % length B) p) is_hash (S.probe room s re ob m H)
 
-  -- the word
-  is_word : get_or B i 0 ≡ bucket B (fnv_1a name % length B + p)
+  is_word : get_or B i 0 ≡ w
   is_word = word_at B (k % length B + p) i S.place ∙ ap (λ (j : ℕ). bucket B (j % length B + p)) is_hash
 
-  if_zero : bucket B (fnv_1a name % length B + p) ≡ 0 → v ≡ NOT_FOUND
+  if_zero : w ≡ 0 → v ≡ None
   if_zero z = S.zero (is_word ∙ z)
 
-  if_not : (bucket B (fnv_1a name % length B + p) ≡ 0 → ⊥) → v ≡ bucket B (fnv_1a name % length B + p)
-  if_not z = S.other (λ u. z (sym is_word ∙ u)) ∙ is_word
+  if_not : (w ≡ 0 → ⊥) → v ≡ Some w
+  if_not z = S.other (λ u. z (sym is_word ∙ u)) ∙ ap (λ (h : ℕ). Some h) is_word
 
   module _ {re ob : List ℕ} (H : Held input (lent no re by (by_buckets sy B) ob) c) where
     -- the symbol is on the list
-    pub on_list : v < NOT_FOUND → (j : ℕ) × (j < symbols_of c) × (get_or sy j 0 ≡ v)
-    on_list l =
+    on_list : (w ≡ 0 → ⊥) → (j : ℕ) × (j < c.symbols) × (get_or sy j 0 ≡ w)
+    on_list d =
         let G = H.holds in
-        let d : bucket B (fnv_1a name % length B + p) ≡ 0 → ⊥ = λ z. omega (arith, if_zero z, l) in
         let (j, u, x) = word_listed G refl b (fnv_1a name % length B + p) d in
-        (j, omega (arith, u, G.counted.count_symbols), at_held j G.laid.symbols u ∙ x ∙ sym (if_not d))
+        (j, omega (arith, u, G.counted.count_symbols), at_held j G.laid.symbols u ∙ x)
 
-    pub list_symbolic : (l : v < NOT_FOUND) {room : Room} {re' ob' m : List ℕ} {s : State} → symbols_of m ≡ symbols_of c → Holds input room s (lent no re' by (by_list sy) ob') m → Symbolic (get_or s.nodes v nil)
-    list_symbolic l {s = s} z G = let (j, u, x) = on_list l in subst (λ (a : ℕ). Symbolic (get_or s.nodes a nil)) x (entry_symbolic j refl G (omega (arith, u, z)))
+    word_there : (w ≡ 0 → ⊥) → {room : Room} {re' ob' : List ℕ} {m : Progress} {s : State} → m.symbols ≡ c.symbols → Holds input room s (lent no re' by (by_list sy) ob') m → Symbolic (get_or s.nodes w nil)
+    word_there d {s = s} z G = let (j, u, x) = on_list d in subst (λ (a : ℕ). Symbolic (get_or s.nodes a nil)) x (entry_symbolic j refl G (omega (arith, u, z)))
 
-    pub known_below : v < NOT_FOUND → v < nodes_of c
-    known_below l = is_there (forget H.holds) v (list_symbolic l refl (forget H.holds))
+    pub list_symbolic : {room : Room} {re' ob' : List ℕ} {m : Progress} {s : State} → m.symbols ≡ c.symbols → Holds input room s (lent no re' by (by_list sy) ob') m → IfSome v (λ h. Symbolic (get_or s.nodes h nil))
+    list_symbolic z G = by_word w (λ e. rw (if_zero e) tt) (λ d. rw (if_not d) (word_there d z G))
 
-    is_ten : length c ≡ COUNTS
-    is_ten = H.holds.fixed.ten
+    pub known_below : IfSome v (λ h. h < c.nodes)
+    known_below = known_there v (list_symbolic refl (forget H.holds)) (forget H.holds)
 
-    pub at_after : at_of c₁ ≡ at_of c + n
-    at_after = is AT (at_of c + n) c is_ten (omega arith)
-
-    same_name : span_of input c₁ n ≡ name
-    same_name = ap (λ (a : ℕ). span input a n) at_after
-
-    hashed_goes : (room : Room) (re' ob' : List ℕ) → Goes input room (read_name input room n) (lent no re' by (by_buckets sy B) ob') c (add_name room (span_of input c₁ n) v) (lent no re' by (by_buckets sy B) ob') c₁
-    hashed_goes room re' ob' = searched_plainly n v S.inside (λ s G. found_by G refl b name p (probed_at room s re' ob' c G) v if_zero if_not) is_ten ((H.holds.known.names refl).hashed b).uncounted
+    hashed_goes : (room : Room) (re' ob' : List ℕ) → Goes input room (read_name input room n) (lent no re' by (by_buckets sy B) ob') c (add_name room name v) (lent no re' by (by_buckets sy B) ob') c₁
+    hashed_goes room re' ob' = searched_plainly n v S.inside (λ s G. found_by G refl b name p (probed_at room s re' ob' c G) v if_zero if_not) (uncounted_none _ ((H.holds.known.names refl).hashed b).uncounted)
 
     -- the state before it is put on the list
     pub held_after : Held input (lent no re by (by_list sy) ob) c₁
-    held_after = forget_held (held_goes {m = λ room. read_name input room n} {m' = λ room. add_name room (span_of input c₁ n) v} H (λ room. hashed_goes room re ob))
+    held_after = forget_held (held_goes {m = λ room. read_name input room n} {m' = λ room. add_name room name v} H (λ room. hashed_goes room re ob))
 
-    pub hashed_meets : {room : Room} {limit : ℕ} {re' ob' no' by' sy' c' : List ℕ} {r : ℕ} → Meets input room limit (add_name room (span_of input c₁ n) v) (lent no re' by (by_list sy) ob') c₁ r (lent no' re' by' (by_list sy') ob') c' → Meets input room limit (read_name input room n) (lent no re' by (by_buckets sy B) ob') c r (lent no' re' by' (by_buckets sy' (set B i r)) ob') (set c' LOOKED (looked_of c + (p + 1)))
-    hashed_meets {room} {limit} {re'} {ob'} {no'} {by'} {sy'} {c'} {r} M =
-        let o = K.put AT (at_of c + n) c in
-        let x : looked_of c + (p + 1) ≡ looked_of c₁ + (p + 1) = ap (λ (a : ℕ). a + (p + 1)) (sym (o.others LOOKED (omega arith))) in
+    pub hashed_meets : {room : Room} {limit : ℕ} {re' ob' no' by' sy' : List ℕ} {c' : Progress} {r : ℕ} → Meets input room limit (add_name room name v) (lent no re' by (by_list sy) ob') c₁ (Ok r) (lent no' re' by' (by_list sy') ob') c' → Meets input room limit (read_name input room n) (lent no re' by (by_buckets sy B) ob') c (Ok r) (lent no' re' by' (by_buckets sy' (set B i r)) ob') (record c' { looked = c.looked + (p + 1) })
+    hashed_meets {room} {re' = re'} {ob'} {r = r} M =
         let y : set B i r ≡ set B ((fnv_1a name % length B + p) % length B) r = ap (λ (a : ℕ). set B a r) (S.place ∙ ap (λ (j : ℕ). (j % length B + p) % length B) is_hash) in
-        lead_after (hashed_goes room re' ob')
-        (subst (λ (l : List ℕ). Meets input room limit (add_name room l v) (lent no re' by (by_buckets sy B) ob') c₁ r (lent no' re' by' (by_buckets sy' (set B i r)) ob') (set c' LOOKED (looked_of c + (p + 1)))) (sym same_name)
-        (named_by_hash b name v p (λ s G. probed_at room s re' ob' c₁ G) if_zero if_not (looked_of c + (p + 1)) x y
-        (subst (λ (l : List ℕ). Meets input room limit (add_name room l v) (lent no re' by (by_list sy) ob') c₁ r (lent no' re' by' (by_list sy') ob') c') same_name M)))
+        lead_after (hashed_goes room re' ob') (named_by_hash b name v p (λ s G. probed_at room s re' ob' c₁ G) if_zero if_not y M)
+
+    pub hashed_stop : {room : Room} {limit : ℕ} {re' ob' : List ℕ} {T' T'' : Lent} {c' c'' : Progress} {q : Stop} → Meets input room limit (add_name room name v) (lent no re' by (by_list sy) ob') c₁ (Err q) T' c' → Meets input room limit (read_name input room n) (lent no re' by (by_buckets sy B) ob') c (Err q) T'' c''
+    hashed_stop {room} {re' = re'} {ob'} M = lead_after (hashed_goes room re' ob') (refused_by_hash M)

@@ -10,7 +10,8 @@ use Rattle.definition.specs.Run.{pick}
 use Rattle.definition.specs.Node.{Row, nil, equal, width, START, LENGTH}
 use Rattle.definition.specs.Arena.{range, name_of, named, bytes_compared, compared_with}
 use Rattle.definition.specs.State.{Room, State}
-use Rattle.load_state.specs.Holds.{Symbols, lent, Holds, Symbolic, span, nodes_of, find_listed}
+use Rattle.load_state.specs.declared.Progress.{Progress}
+use Rattle.load_state.specs.Holds.{Symbols, lent, Holds, Symbolic, span, find_listed}
 use Rattle.load_state.specs.Stores.{split}
 use Rattle.load_state.specs.Names.{symbolic_kind, symbolic_below, symbol_name}
 use Rattle.lists.specs.Ranges.{range_more}
@@ -22,8 +23,8 @@ use lib.Seq.{drop-cons, get_or-take, get_or-drop}
 
 -- ---- a symbol looked at
 
-module _ {input : List ℕ} {room : Room} {s : State} {c : List ℕ} {no re by : List ℕ} {sy : Symbols} {ob : List ℕ} (H : Holds input room s (lent no re by sy ob) c) (i : ℕ) (y : Symbolic (get_or s.nodes i nil)) where
-  pub is_there : i < nodes_of c
+module _ {input : List ℕ} {room : Room} {s : State} {c : Progress} {no re by : List ℕ} {sy : Symbols} {ob : List ℕ} (H : Holds input room s (lent no re by sy ob) c) (i : ℕ) (y : Symbolic (get_or s.nodes i nil)) where
+  pub is_there : i < c.nodes
   is_there = omega (arith, symbolic_below s.nodes i y, H.counted.count_nodes)
 
   pub node_inside : i * width + width ≤ length no

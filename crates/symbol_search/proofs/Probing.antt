@@ -1,4 +1,5 @@
 -- The words of the bucket table that a search passes.
+use Rattle.std.specs.Prelude.{is_some}
 use Prim.Native.Nat.{ℕ, suc, ◌+◌, ◌%◌, ◌≤◌, ◌<◌}
 use native.Mathlib.Omega.{arith}
 use native.Mathlib.Nat.{mod-add-mod, mod-lt, mul-le-mul}
@@ -14,7 +15,8 @@ use Rattle.definition.specs.Buckets.{Buckets, bucket, searches, empty}
 use Rattle.definition.specs.State.{Room, State}
 use Rattle.definition.specs.Slice.{greatest_length}
 use Rattle.lists.specs.Buckets.{Probed, Reaches, probed, round_up, round_on, looked_most}
-use Rattle.load_state.specs.Holds.{Lent, Holds, Symbolic, Hashing, hashes, looked_of}
+use Rattle.load_state.specs.declared.Progress.{Progress}
+use Rattle.load_state.specs.Holds.{Lent, Holds, Symbolic, Hashing, hashes}
 use Rattle.symbol_search.specs.Search.{Passing}
 
 -- ---- the words that a search passes
@@ -55,11 +57,11 @@ pub word_round : (B : List ℕ) (k q : ℕ) → bucket B (k % length B + q) ≡ 
 unfolding bucket
 word_round B k q = ap (λ (i : ℕ). get_or B i 0) (mod-add-mod k (length B) q)
 
-module _ {input : List ℕ} {room : Room} {s : State} {T : Lent} {c : List ℕ} (H : Holds input room s T c) (asked : T.symbols.searched ≡ true) (b : T.symbols.buckets ≡ [] → ⊥) where
+module _ {input : List ℕ} {room : Room} {s : State} {T : Lent} {c : Progress} (H : Holds input room s T c) (asked : T.symbols.searched ≡ true) (b : T.symbols.buckets ≡ [] → ⊥) where
   abbrev B : List ℕ
   B = T.symbols.buckets
 
-  abbrev Z : Hashing room.nodes s.bytes s.nodes s.symbols B c
+  abbrev Z : Hashing room.nodes s.bytes s.nodes s.symbols B c.looked (is_some c.compared)
   Z = (H.known.names asked).hashed b
 
   entry_below : (i : ℕ) → i < length s.symbols → get_or s.symbols i 0 < length s.nodes
@@ -92,7 +94,7 @@ module _ {input : List ℕ} {room : Room} {s : State} {T : Lent} {c : List ℕ} 
   reached j u = subst (λ (ws : List ℕ). Reaches ws (hashes s.bytes s.nodes (get_or s.symbols j 0)) (get_or s.symbols j 0)) same_words (filled.reaches j u)
 
   -- the words looked at fit 64 bits, with another search
-  pub looked_fits : (p : ℕ) → p < length B → looked_of c + (p + 1) < 18446744073709551616
+  pub looked_fits : (p : ℕ) → p < length B → c.looked + (p + 1) < 18446744073709551616
   looked_fits p l =
       let a = looked_most (hashes s.bytes s.nodes) room.nodes (length B) s.symbols Z.enough some_room below_room Z.nonzero in
       let y : length s.symbols ≤ greatest_length = omega (arith, H.laid.symbols.fits, H.fixed.small.symbols) in

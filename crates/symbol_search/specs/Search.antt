@@ -1,25 +1,22 @@
 -- What the searches for a name answer.
-use Rattle.std.specs.Prelude.{ℕ, ◌+◌, ◌-◌, ◌*◌, ◌≤◌, ◌<◌, ◌≡◌, true, false, List, ◌⊎◌, length, get_or}
-use Rattle.std.proofs.Math.Option.{none, some}
-use Rattle.definition.specs.Node.{Row, nil, symbol, equal, width, START, LENGTH}
+use Rattle.std.specs.Prelude as code
+use Rattle.std.specs.Prelude.{ℕ, ◌+◌, ◌-◌, ◌*◌, ◌≤◌, ◌<◌, ◌≡◌, true, false, List, ◌⊎◌, length, get_or, Some, None, IfSome, MatchResult}
+use Rattle.std.proofs.Math.Option.{Option, none, some}
+use Rattle.definition.specs.Node.{Row, nil, equal, width, START, LENGTH}
 use Rattle.definition.specs.Arena.{named, find_symbol, bytes_compared, compared_with}
 use Rattle.definition.specs.Buckets.{bucket}
 use Rattle.definition.specs.State.{State}
 use Rattle.load_state.specs.Holds.{Symbolic}
 
--- a search answers this where no symbol has the name: no node's number is so great
-abbrev pub NOT_FOUND : ℕ
-NOT_FOUND = 4294967296
+-- what a search answers, as the definition says it
+abbrev pub answered : code.Option ℕ → Option ℕ
+answered None = none
+answered (Some h) = some h
 
--- a comparison answers this and the bytes compared where the names differ
-abbrev pub DIFFERENT : ℕ
-DIFFERENT = 4294967296
-
--- the name's symbol by the number r: below NOT-FOUND the lowest, else there is none
-pub record Found (s : State) (name : List ℕ) (r : ℕ) : Type 0 where
-  pub there : r < NOT_FOUND → find_symbol s.bytes name s.nodes 0 ≡ some r
-  pub symbol : r < NOT_FOUND → Symbolic (get_or s.nodes r nil)
-  pub none : NOT_FOUND ≤ r → find_symbol s.bytes name s.nodes 0 ≡ none
+-- the lowest symbol with the name, or that there is none
+pub record Found (s : State) (name : List ℕ) (r : code.Option ℕ) : Type 0 where
+  pub same : find_symbol s.bytes name s.nodes 0 ≡ answered r
+  pub symbol : IfSome r (λ h. Symbolic (get_or s.nodes h nil))
 
 -- a name of n bytes, of which, if it has any, `last` is the last
 abbrev pub Ends : List ℕ → ℕ → ℕ → Type 0
@@ -35,10 +32,9 @@ pub record Alike (xs ys : List ℕ) (n r : ℕ) : Type 0 where
   pub whole : r ≡ n → (equal xs ys ≡ true) × (bytes_compared xs ys ≡ n)
   pub part : (r ≡ n → ⊥) → (equal xs ys ≡ false) × (bytes_compared xs ys ≡ r + 1)
 
--- a name against a symbol's, by the number r: below DIFFERENT it is its name, from there on DIFFERENT and the bytes compared
-pub record Compared (s : State) (name : List ℕ) (row : Row) (r : ℕ) : Type 0 where
-  pub same : r < DIFFERENT → (named s.bytes name row ≡ true) × (compared_with s.bytes name row ≡ r)
-  pub other : DIFFERENT ≤ r → (named s.bytes name row ≡ false) × (DIFFERENT + compared_with s.bytes name row ≡ r)
+-- a name against a symbol's, by an answer with the bytes compared: Ok where it is its name, else an error
+abbrev pub Compared : State → List ℕ → Row → code.Result ℕ ℕ → Type 0
+Compared s name row r = MatchResult r (λ k. (named s.bytes name row ≡ true) × (compared_with s.bytes name row ≡ k)) (λ k. (named s.bytes name row ≡ false) × (compared_with s.bytes name row ≡ k))
 
 -- r words of the bucket table from word k on that are not zero and name others
 abbrev pub Passing : State → List ℕ → List ℕ → ℕ → ℕ → Type 0

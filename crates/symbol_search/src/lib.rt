@@ -1,27 +1,19 @@
 // The searches for a name: over the symbol list, over it with the bytes compared counted, and in the bucket table.
 //
-// What is lent and the counts hold a state of the definition.
+// What is lent and how far the load has come hold a state of the definition.
 #![tactic(auto)]
 
-ghost use Rattle.std.specs.Prelude.{◌≡◌, List, ℕ, suc, ◌+◌, ◌-◌, ◌*◌, ◌%◌, ◌<◌, ◌≤◌, true, false, length, get_or, set, take, drop};
+ghost use Rattle.std.specs.Prelude.{◌≡◌, List, ℕ, suc, ◌+◌, ◌-◌, ◌*◌, ◌%◌, ◌<◌, ◌≤◌, true, false, Some, MatchResult, length, get_or, set, take, drop};
 ghost use Rattle.definition.specs.Node.{nil, width, LENGTH};
 ghost use Rattle.definition.specs.Arena.{named, compared_among};
 ghost use Rattle.definition.specs.State.{Room, State};
 ghost use Rattle.definition.specs.Slice.{greatest_length};
-ghost use Rattle.load_state.specs.Holds.{Symbols, lent, by_list, by_buckets, Held, Holds, Symbolic, find_listed, span, symbols_of, compared_from_one};
-ghost use Rattle.symbol_search.specs.Search.{Found, Like, Alike, Compared, Probe, Ends, DIFFERENT};
-ghost use Rattle.load_state.specs.Places.{COMPARED_FROM_ONE};
+ghost use Rattle.load_state.specs.Holds.{Symbols, lent, by_list, by_buckets, Held, Holds, Symbolic, find_listed, span};
+ghost use Rattle.load_state.specs.declared.Progress.{Progress};
+ghost use Rattle.symbol_search.specs.Search.{Found, Like, Alike, Compared, Probe, Ends};
 
 use definition::Node;
-use load_state::{COMPARED_FROM_ONE, COUNTS, SYMBOLS};
-use reader::wide;
 use store::same_bytes;
-
-// What a search answers where no symbol has the name: no node's number is so great.
-pub const NOT_FOUND: u64 = 4294967296;
-
-// What a comparison answers, with the bytes compared added, where the names differ: no name is so long.
-const DIFFERENT: u64 = 4294967296;
 
 // The last of the n bytes before `at`, or 0 where there are none.
 fn last_byte(input: &[u8], at: usize, n: u32) -> u8
@@ -36,9 +28,9 @@ fn last_byte(input: &[u8], at: usize, n: u32) -> u8
 
 // Has the symbol h a name of n bytes, of which `last` is the last? Names of one length mostly differ there.
 fn is_like(nodes: &[u32], bytes: &[u8], h: u32, n: u32, last: u8) -> bool
-    requires { (room : Room) × (s : State) × (input : List ℕ) × (re : List ℕ) × (sy : Symbols) × (ob : List ℕ) × (c : List ℕ) × Symbolic (get_or s.nodes h nil) × Holds input room s (lent nodes.now re bytes.now sy ob) c }
+    requires { (room : Room) × (s : State) × (input : List ℕ) × (re : List ℕ) × (sy : Symbols) × (ob : List ℕ) × (c : Progress) × Symbolic (get_or s.nodes h nil) × Holds input room s (lent nodes.now re bytes.now sy ob) c }
     ensures like { result ≡ true → Like nodes.now bytes.now h n last }
-    ensures false_value { (room : Room) (s : State) (input re : List ℕ) (sy : Symbols) (ob c name : List ℕ) → result ≡ false → Symbolic (get_or s.nodes h nil) → Holds input room s (lent nodes.now re bytes.now sy ob) c → Ends name n last → false ≡ named s.bytes name (get_or s.nodes h nil) }
+    ensures false_value { (room : Room) (s : State) (input re : List ℕ) (sy : Symbols) (ob : List ℕ) (c : Progress) (name : List ℕ) → result ≡ false → Symbolic (get_or s.nodes h nil) → Holds input room s (lent nodes.now re bytes.now sy ob) c → Ends name n last → false ≡ named s.bytes name (get_or s.nodes h nil) }
 {
     let base = (h as usize) * Node::WIDTH;
     if nodes[base + Node::LENGTH] != n {
@@ -65,31 +57,29 @@ fn next_like(
     n: u32,
     last: u8,
 ) -> usize
-    requires { (from ≤ count) × ((room : Room) × (s : State) × (input : List ℕ) × (re : List ℕ) × (ob : List ℕ) × (c : List ℕ) × (symbols_of c ≡ count) × Holds input room s (lent nodes.now re bytes.now (by_list symbols.now) ob) c) }
+    requires { (from ≤ count) × ((room : Room) × (s : State) × (input : List ℕ) × (re : List ℕ) × (ob : List ℕ) × (c : Progress) × (c.symbols ≡ count) × Holds input room s (lent nodes.now re bytes.now (by_list symbols.now) ob) c) }
     ensures lower_bound { (from ≤ result) × (result ≤ count) × (result < count → Like nodes.now bytes.now (get_or symbols.now result 0) n last) }
-    ensures symbols_value { (room : Room) (s : State) (input re ob c name : List ℕ) → symbols_of c ≡ count → Holds input room s (lent nodes.now re bytes.now (by_list symbols.now) ob) c → Ends name n last → find_listed s.bytes name s.nodes (drop from s.symbols) ≡ find_listed s.bytes name s.nodes (drop result s.symbols) }
+    ensures symbols_value { (room : Room) (s : State) (input re ob : List ℕ) (c : Progress) (name : List ℕ) → c.symbols ≡ count → Holds input room s (lent nodes.now re bytes.now (by_list symbols.now) ob) c → Ends name n last → find_listed s.bytes name s.nodes (drop from s.symbols) ≡ find_listed s.bytes name s.nodes (drop result s.symbols) }
 {
-    let mut i = from;
-    while i < count {
-        if is_like(&nodes[..], &bytes[..], symbols[i], n, last) {
+    for i in from..count {
+        if is_like(nodes, bytes, symbols[i], n, last) {
             return i;
         }
-        i = i + 1;
     }
     count
 }
 
 // Do the n bytes before `at` name the symbol h, whose name has so many?
 fn is_named(input: &[u8], nodes: &[u32], bytes: &[u8], at: usize, h: u32, n: u32) -> bool
-    requires { (n ≤ at) × (at ≤ length input.now) × (get_or nodes.now (h * width + LENGTH) 0 ≡ n) × ((room : Room) × (s : State) × (re : List ℕ) × (sy : Symbols) × (ob : List ℕ) × (c : List ℕ) × Symbolic (get_or s.nodes h nil) × Holds input.now room s (lent nodes.now re bytes.now sy ob) c) }
-    ensures { (room : Room) (s : State) (re : List ℕ) (sy : Symbols) (ob c : List ℕ) → Symbolic (get_or s.nodes h nil) → Holds input.now room s (lent nodes.now re bytes.now sy ob) c → result ≡ named s.bytes (span input.now at n) (get_or s.nodes h nil) }
+    requires { (n ≤ at) × (at ≤ length input.now) × (get_or nodes.now (h * width + LENGTH) 0 ≡ n) × ((room : Room) × (s : State) × (re : List ℕ) × (sy : Symbols) × (ob : List ℕ) × (c : Progress) × Symbolic (get_or s.nodes h nil) × Holds input.now room s (lent nodes.now re bytes.now sy ob) c) }
+    ensures { (room : Room) (s : State) (re : List ℕ) (sy : Symbols) (ob : List ℕ) (c : Progress) → Symbolic (get_or s.nodes h nil) → Holds input.now room s (lent nodes.now re bytes.now sy ob) c → result ≡ named s.bytes (span input.now at n) (get_or s.nodes h nil) }
 {
     let k = n as usize;
     let to = nodes[(h as usize) * Node::WIDTH + Node::START] as usize;
-    same_bytes(&input[..], at - k, &bytes[..], to, k)
+    same_bytes(&input[at - k..at], &bytes[to..to + k])
 }
 
-// The first of the `count` symbols on the symbol list that the n bytes before `at` name, else NOT_FOUND.
+// The first of the `count` symbols on the symbol list that the n bytes before `at` name.
 pub fn find_symbol(
     input: &[u8],
     nodes: &[u32],
@@ -98,24 +88,24 @@ pub fn find_symbol(
     at: usize,
     count: usize,
     n: u32,
-) -> u64
-    requires { (n ≤ at) × (at ≤ length input.now) × ((room : Room) × (s : State) × (re : List ℕ) × (ob : List ℕ) × (c : List ℕ) × (symbols_of c ≡ count) × Holds input.now room s (lent nodes.now re bytes.now (by_list symbols.now) ob) c) }
-    ensures { (room : Room) (s : State) (re ob c : List ℕ) → symbols_of c ≡ count → Holds input.now room s (lent nodes.now re bytes.now (by_list symbols.now) ob) c → Found s (span input.now at n) result }
+) -> Option<u32>
+    requires { (n ≤ at) × (at ≤ length input.now) × ((room : Room) × (s : State) × (re : List ℕ) × (ob : List ℕ) × (c : Progress) × (c.symbols ≡ count) × Holds input.now room s (lent nodes.now re bytes.now (by_list symbols.now) ob) c) }
+    ensures { (room : Room) (s : State) (re ob : List ℕ) (c : Progress) → c.symbols ≡ count → Holds input.now room s (lent nodes.now re bytes.now (by_list symbols.now) ob) c → Found s (span input.now at n) result }
 {
-    let last = last_byte(&input[..], at, n);
+    let last = last_byte(input, at, n);
     let mut i: usize = 0;
     while i < count {
-        let j = next_like(&nodes[..], &bytes[..], &symbols[..], i, count, n, last);
+        let j = next_like(nodes, bytes, symbols, i, count, n, last);
         if count <= j {
-            return NOT_FOUND;
+            return None;
         }
         let h = symbols[j];
-        if is_named(&input[..], &nodes[..], &bytes[..], at, h, n) {
-            return wide(h);
+        if is_named(input, nodes, bytes, at, h, n) {
+            return Some(h);
         }
         i = j + 1;
     }
-    NOT_FOUND
+    None
 }
 
 // How many of the n bytes from `from` on are those from `to` on, before the first that differs.
@@ -123,77 +113,82 @@ fn alike(input: &[u8], from: usize, bytes: &[u8], to: usize, n: usize) -> usize
     requires { (from + n ≤ length input.now) × (to + n ≤ length bytes.now) }
     ensures { Alike (take n (drop from input.now)) (take n (drop to bytes.now)) n result }
 {
-    let mut i: usize = 0;
-    while i < n {
+    for i in 0..n {
         if input[from + i] != bytes[to + i] {
             return i;
         }
-        i = i + 1;
     }
     n
 }
 
-// What compare_name answers for names of n bytes of which the first `alike` are the same: n where that is all of them, else
-// DIFFERENT and one more, the first that differs.
-fn compared(alike: usize, n: u32) -> u64
+// What compare_name answers for names of n bytes of which the first `alike` are the same: Ok(n) where that is all of them,
+// else an error with one more, the first that differs.
+fn compared(alike: usize, n: u32) -> Result<usize, usize>
     requires { alike ≤ n }
-    ensures { (alike ≡ n → result ≡ n) × ((alike ≡ n → ⊥) → result ≡ DIFFERENT + (alike + 1)) }
+    ensures { MatchResult result (λ k. (k ≡ n) × (alike ≡ n)) (λ k. (k ≡ alike + 1) × (alike < n)) }
 {
-    if alike < n as usize {
-        return DIFFERENT + (alike as u64 + 1);
+    let k = n as usize;
+    if alike < k {
+        return Err(alike + 1);
     }
-    n as u64
+    Ok(k)
 }
 
-// The n bytes before `at` are compared with the name of the symbol h, if that has so many: n where they name it, else DIFFERENT
-// and how many were compared, the first that differs included.
-fn compare_name(input: &[u8], nodes: &[u32], bytes: &[u8], at: usize, h: u32, n: u32) -> u64
-    requires { (n ≤ at) × (at ≤ length input.now) × ((room : Room) × (s : State) × (re : List ℕ) × (sy : Symbols) × (ob : List ℕ) × (c : List ℕ) × Symbolic (get_or s.nodes h nil) × Holds input.now room s (lent nodes.now re bytes.now sy ob) c) }
-    ensures { (room : Room) (s : State) (re : List ℕ) (sy : Symbols) (ob c : List ℕ) → Symbolic (get_or s.nodes h nil) → Holds input.now room s (lent nodes.now re bytes.now sy ob) c → Compared s (span input.now at n) (get_or s.nodes h nil) result }
+// The n bytes before `at` are compared with the name of the symbol h, if that has so many: Ok where they name it, else an
+// error; with how many were compared, the first that differs included.
+fn compare_name(
+    input: &[u8],
+    nodes: &[u32],
+    bytes: &[u8],
+    at: usize,
+    h: u32,
+    n: u32,
+) -> Result<usize, usize>
+    requires { (n ≤ at) × (at ≤ length input.now) × ((room : Room) × (s : State) × (re : List ℕ) × (sy : Symbols) × (ob : List ℕ) × (c : Progress) × Symbolic (get_or s.nodes h nil) × Holds input.now room s (lent nodes.now re bytes.now sy ob) c) }
+    ensures { (room : Room) (s : State) (re : List ℕ) (sy : Symbols) (ob : List ℕ) (c : Progress) → Symbolic (get_or s.nodes h nil) → Holds input.now room s (lent nodes.now re bytes.now sy ob) c → Compared s (span input.now at n) (get_or s.nodes h nil) result }
 {
     let base = (h as usize) * Node::WIDTH;
     if nodes[base + Node::LENGTH] != n {
-        return DIFFERENT;
+        return Err(0);
     }
     let k = n as usize;
     let to = nodes[base + Node::START] as usize;
-    compared(alike(&input[..], at - k, &bytes[..], to, k), n)
+    compared(alike(input, at - k, bytes, to, k), n)
 }
 
-// find_symbol, comparing from the first byte on, and the bytes compared are counted. Symbols come on the list in the order of
-// their numbers, and again: an entry below `next` was met already.
+// find_symbol, comparing from the first byte on, and the bytes compared are added to `total`. Symbols come on the list in the
+// order of their numbers, and again: an entry below `next` was met already.
 pub fn measure_symbol(
     input: &[u8],
     nodes: &[u32],
     bytes: &[u8],
     symbols: &[u32],
-    c: &mut [usize; COUNTS],
+    total: &mut usize,
     at: usize,
+    count: usize,
     n: u32,
-) -> u64
-    requires { (n ≤ at) × (at ≤ length input.now) × (compared_from_one c.old ≡ 0 → ⊥) × ((re : List ℕ) × (ob : List ℕ) × Held input.now (lent nodes.now re bytes.now (by_list symbols.now) ob) c.old) }
-    ensures { (room : Room) (s : State) (re ob k : List ℕ) → symbols_of k ≡ symbols_of c.old → Holds input.now room s (lent nodes.now re bytes.now (by_list symbols.now) ob) k → Found s (span input.now at n) result × (c.new ≡ set c.old COMPARED_FROM_ONE (compared_from_one c.old + compared_among s.bytes (span input.now at n) s.nodes)) }
+) -> Option<u32>
+    requires { (n ≤ at) × (at ≤ length input.now) × ((room : Room) × (s : State) × (re : List ℕ) × (ob : List ℕ) × (c : Progress) × (c.symbols ≡ count) × (c.compared ≡ Some total.old) × Holds input.now room s (lent nodes.now re bytes.now (by_list symbols.now) ob) c) }
+    ensures { (room : Room) (s : State) (re ob : List ℕ) (c : Progress) → c.symbols ≡ count → Holds input.now room s (lent nodes.now re bytes.now (by_list symbols.now) ob) c → Found s (span input.now at n) result × (total.new ≡ total.old + compared_among s.bytes (span input.now at n) s.nodes) }
 {
-    let count = c[SYMBOLS];
-    let mut total = c[COMPARED_FROM_ONE];
+    let mut sum = *total;
     let mut next: u32 = 0;
-    let mut i: usize = 0;
-    while i < count {
+    for i in 0..count {
         let h = symbols[i];
-        i = i + 1;
         if h < next {
             continue;
         }
-        let k = compare_name(&input[..], &nodes[..], &bytes[..], at, h, n);
-        if k < DIFFERENT {
-            c[COMPARED_FROM_ONE] = total + k as usize;
-            return wide(h);
+        match compare_name(input, nodes, bytes, at, h, n) {
+            Ok(k) => {
+                *total = sum + k;
+                return Some(h);
+            }
+            Err(k) => sum += k,
         }
-        total = total + (k - DIFFERENT) as usize;
         next = h + 1;
     }
-    c[COMPARED_FROM_ONE] = total;
-    NOT_FOUND
+    *total = sum;
+    None
 }
 
 // The word where a search goes on after the last.
@@ -223,13 +218,13 @@ pub fn word_on(i: usize, p: usize, m: usize) -> usize
 
 // Do the n bytes before `at`, of which `last` is the last, name the symbol h?
 fn has_name(input: &[u8], nodes: &[u32], bytes: &[u8], at: usize, h: u32, n: u32, last: u8) -> bool
-    requires { (n ≤ at) × (at ≤ length input.now) × Ends (span input.now at n) n last × ((room : Room) × (s : State) × (re : List ℕ) × (sy : Symbols) × (ob : List ℕ) × (c : List ℕ) × Symbolic (get_or s.nodes h nil) × Holds input.now room s (lent nodes.now re bytes.now sy ob) c) }
-    ensures { (room : Room) (s : State) (re : List ℕ) (sy : Symbols) (ob c : List ℕ) → Symbolic (get_or s.nodes h nil) → Holds input.now room s (lent nodes.now re bytes.now sy ob) c → result ≡ named s.bytes (span input.now at n) (get_or s.nodes h nil) }
+    requires { (n ≤ at) × (at ≤ length input.now) × Ends (span input.now at n) n last × ((room : Room) × (s : State) × (re : List ℕ) × (sy : Symbols) × (ob : List ℕ) × (c : Progress) × Symbolic (get_or s.nodes h nil) × Holds input.now room s (lent nodes.now re bytes.now sy ob) c) }
+    ensures { (room : Room) (s : State) (re : List ℕ) (sy : Symbols) (ob : List ℕ) (c : Progress) → Symbolic (get_or s.nodes h nil) → Holds input.now room s (lent nodes.now re bytes.now sy ob) c → result ≡ named s.bytes (span input.now at n) (get_or s.nodes h nil) }
 {
-    if !is_like(&nodes[..], &bytes[..], h, n, last) {
+    if !is_like(nodes, bytes, h, n, last) {
         return false;
     }
-    is_named(&input[..], &nodes[..], &bytes[..], at, h, n)
+    is_named(input, nodes, bytes, at, h, n)
 }
 
 // How many words of the bucket table, from word `start` on and wrapping, hold symbols with other names than the n bytes before
@@ -243,24 +238,22 @@ pub fn probe(
     at: usize,
     n: u32,
 ) -> usize
-    requires { (n ≤ at) × (at ≤ length input.now) × (start < length buckets.now) × ((room : Room) × (s : State) × (re : List ℕ) × (sy : List ℕ) × (ob : List ℕ) × (c : List ℕ) × Holds input.now room s (lent nodes.now re bytes.now (by_buckets sy buckets.now) ob) c) }
+    requires { (n ≤ at) × (at ≤ length input.now) × (start < length buckets.now) × ((room : Room) × (s : State) × (re : List ℕ) × (sy : List ℕ) × (ob : List ℕ) × (c : Progress) × Holds input.now room s (lent nodes.now re bytes.now (by_buckets sy buckets.now) ob) c) }
     ensures upper_bound { result < length buckets.now }
-    ensures probe { (room : Room) (s : State) (re sy ob c : List ℕ) → Holds input.now room s (lent nodes.now re bytes.now (by_buckets sy buckets.now) ob) c → Probe s (span input.now at n) buckets.now start result }
+    ensures probe { (room : Room) (s : State) (re sy ob : List ℕ) (c : Progress) → Holds input.now room s (lent nodes.now re bytes.now (by_buckets sy buckets.now) ob) c → Probe s (span input.now at n) buckets.now start result }
 {
-    let last = last_byte(&input[..], at, n);
+    let last = last_byte(input, at, n);
     let m = buckets.len();
-    let mut p: usize = 0;
     let mut i = start;
-    while p < m {
+    for p in 0..m {
         let h = buckets[i];
         if h == 0 {
             return p;
         }
-        if has_name(&input[..], &nodes[..], &bytes[..], at, h, n, last) {
+        if has_name(input, nodes, bytes, at, h, n, last) {
             return p;
         }
-        p = p + 1;
         i = next_word(i, m);
     }
-    p
+    m
 }

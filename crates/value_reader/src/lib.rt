@@ -4,22 +4,21 @@
 // others for the members. They fall from a value to its members.
 #![tactic(auto)]
 
-ghost use Rattle.std.specs.Prelude.{◌≡◌, ℕ, ◌-◌, ◌<◌, ◌≤◌, eqb};
+ghost use Rattle.std.specs.Prelude.{◌≡◌, ℕ, ◌-◌, ◌<◌, ◌≤◌, IfOk, eqb};
 ghost use Rattle.definition.specs.Kind.{HASH_DEFAULT};
 ghost use Rattle.definition.specs.State.{Room};
 ghost use Rattle.definition.specs.Load.{read_array, read_hash, read_object, read_variables, read_value, read_symbol_like};
-ghost use Rattle.load_state.specs.Holds.{lent, by_buckets, Held, Meets, nodes_of, references_of};
+ghost use Rattle.load_state.specs.Holds.{lent, by_buckets, Held, Meets, Numbered};
 ghost use Rattle.loader.specs.Parts.{after_i};
 ghost use Rattle.run_reader.specs.Run.{members};
 ghost use Rattle.value_reader.specs.Root.{whole};
-ghost use Rattle.reader.specs.Answers.{REFUSED};
 
 use definition::{Node, ValueKind};
 use input_reader::read_header;
 use leaf_reader::{read_class, read_leaf};
-use load_state::{AT, COUNTS, REFERENCES};
+use load_state::Progress;
 use loader::{fill_node, note_inner, open_node, read_words, set_variables};
-use reader::{REFUSED, SHORT_INPUT, TOO_DEEP};
+use reader::Stop;
 use run_reader::read_run;
 use symbol_reader::read_symbol_like;
 
@@ -39,64 +38,40 @@ fn read_members(
     symbols: &mut [u32],
     objects: &mut [u32],
     buckets: &mut [u32],
-    c: &mut [usize; COUNTS],
+    c: &mut Progress,
     start: usize,
     end: usize,
     more: usize,
     names: usize,
     levels: u32,
-) -> u64
-    requires { (start ≤ end) × (end ≤ references_of c.old) × (more ≤ 1) × (more ≡ 1 → names ≡ 2) × Held input.now (lent nodes.old references.old bytes.old (by_buckets symbols.old buckets.old) objects.old) c.old }
+) -> Result<usize, Stop>
+    requires { (start ≤ end) × (end ≤ c.old.references) × (more ≤ 1) × (more ≡ 1 → names ≡ 2) × Held input.now (lent nodes.old references.old bytes.old (by_buckets symbols.old buckets.old) objects.old) c.old }
     ensures meets { (room : Room) (limit : ℕ) → Meets input.now room limit (members (read_symbol_like input.now room) (read_value input.now room limit levels) names more (end - start) start) (lent nodes.old references.old bytes.old (by_buckets symbols.old buckets.old) objects.old) c.old result (lent nodes.new references.new bytes.new (by_buckets symbols.new buckets.new) objects.new) c.new }
-    ensures value { result < REFUSED → (more ≡ 0 → result ≡ 0) × (more ≡ 1 → result < nodes_of c.new) }
+    ensures value { IfOk result (λ v. (more ≡ 0 → v ≡ 0) × (more ≡ 1 → Numbered c.new v)) }
 {
     let mut to = start;
     while to < end + more {
-        let next = read_run(
-            &input[..],
-            nodes,
-            references,
-            symbols,
-            c,
-            to,
-            end,
-            names,
-            levels,
-        );
+        let next = read_run(input, nodes, references, symbols, c, to, end, names, levels);
         if to < next {
             to = next;
             continue;
         }
         if to % 2 == names {
-            let name = read_symbol_like(&input[..], nodes, bytes, symbols, buckets, c);
-            if REFUSED <= name {
-                return name;
-            }
+            let name = read_symbol_like(input, nodes, bytes, symbols, buckets, c)?;
             references[to] = name as u32;
-            to = to + 1;
+            to += 1;
             continue;
         }
         let v = read_value(
-            &input[..],
-            nodes,
-            references,
-            bytes,
-            symbols,
-            objects,
-            buckets,
-            c,
-            levels,
-        );
-        if REFUSED <= v {
-            return v;
-        }
+            input, nodes, references, bytes, symbols, objects, buckets, c, levels,
+        )?;
         if to == end {
-            return v;
+            return Ok(v);
         }
         references[to] = v as u32;
-        to = to + 1;
+        to += 1;
     }
-    0
+    Ok(0)
 }
 
 #[cycle(readers)]
@@ -108,43 +83,23 @@ fn read_array(
     symbols: &mut [u32],
     objects: &mut [u32],
     buckets: &mut [u32],
-    c: &mut [usize; COUNTS],
+    c: &mut Progress,
     levels: u32,
     class: u32,
-) -> u64
+) -> Result<usize, Stop>
     requires { Held input.now (lent nodes.old references.old bytes.old (by_buckets symbols.old buckets.old) objects.old) c.old }
     ensures meets { (room : Room) (limit : ℕ) → Meets input.now room limit (read_array input.now room (read_value input.now room limit levels) class) (lent nodes.old references.old bytes.old (by_buckets symbols.old buckets.old) objects.old) c.old result (lent nodes.new references.new bytes.new (by_buckets symbols.new buckets.new) objects.new) c.new }
-    ensures upper_bound { result < REFUSED → result < nodes_of c.new }
+    ensures upper_bound { IfOk result (Numbered c.new) }
 {
-    let h = open_node(nodes, objects, c);
-    if REFUSED <= h {
-        return h;
-    }
-    let n = read_words(&input[..], references, c, 1);
-    if REFUSED <= n {
-        return n;
-    }
-    let end = c[REFERENCES];
-    let start = end - n as usize;
-    let w = read_members(
-        &input[..],
-        nodes,
-        references,
-        bytes,
-        symbols,
-        objects,
-        buckets,
-        c,
-        start,
-        end,
-        0,
-        NONE,
-        levels,
-    );
-    if REFUSED <= w {
-        return w;
-    }
-    fill_node(nodes, h, Node::ARRAY, start as u32, n as u32, 0, 0, class)
+    let h = open_node(nodes, objects, c)?;
+    let n = read_words(input, references, c, 1)?;
+    let end = c.references;
+    let start = end - n;
+    read_members(
+        input, nodes, references, bytes, symbols, objects, buckets, c, start, end, 0, NONE, levels,
+    )?;
+    fill_node(nodes, h, Node::ARRAY, start as u32, n as u32, 0, 0, class);
+    Ok(h)
 }
 
 // How many defaults come after the members, by the kind byte: one after `}`.
@@ -164,43 +119,23 @@ fn read_hash(
     symbols: &mut [u32],
     objects: &mut [u32],
     buckets: &mut [u32],
-    c: &mut [usize; COUNTS],
+    c: &mut Progress,
     more: usize,
     levels: u32,
     class: u32,
-) -> u64
+) -> Result<usize, Stop>
     requires { (more ≤ 1) × Held input.now (lent nodes.old references.old bytes.old (by_buckets symbols.old buckets.old) objects.old) c.old }
     ensures meets { (room : Room) (limit : ℕ) → Meets input.now room limit (read_hash (eqb more 1) input.now room (read_value input.now room limit levels) class) (lent nodes.old references.old bytes.old (by_buckets symbols.old buckets.old) objects.old) c.old result (lent nodes.new references.new bytes.new (by_buckets symbols.new buckets.new) objects.new) c.new }
-    ensures upper_bound { result < REFUSED → result < nodes_of c.new }
+    ensures upper_bound { IfOk result (Numbered c.new) }
 {
-    let h = open_node(nodes, objects, c);
-    if REFUSED <= h {
-        return h;
-    }
-    let n = read_words(&input[..], references, c, 2);
-    if REFUSED <= n {
-        return n;
-    }
-    let end = c[REFERENCES];
-    let start = end - n as usize * 2;
+    let h = open_node(nodes, objects, c)?;
+    let n = read_words(input, references, c, 2)?;
+    let end = c.references;
+    let start = end - n * 2;
     let d = read_members(
-        &input[..],
-        nodes,
-        references,
-        bytes,
-        symbols,
-        objects,
-        buckets,
-        c,
-        start,
-        end,
-        more,
-        NONE,
+        input, nodes, references, bytes, symbols, objects, buckets, c, start, end, more, NONE,
         levels,
-    );
-    if REFUSED <= d {
-        return d;
-    }
+    )?;
     fill_node(
         nodes,
         h,
@@ -210,7 +145,8 @@ fn read_hash(
         0,
         d as u32 + more as u32,
         class,
-    )
+    );
+    Ok(h)
 }
 
 #[cycle(readers)]
@@ -222,29 +158,20 @@ fn read_object(
     symbols: &mut [u32],
     objects: &mut [u32],
     buckets: &mut [u32],
-    c: &mut [usize; COUNTS],
+    c: &mut Progress,
     levels: u32,
-) -> u64
+) -> Result<usize, Stop>
     requires { Held input.now (lent nodes.old references.old bytes.old (by_buckets symbols.old buckets.old) objects.old) c.old }
     ensures meets { (room : Room) (limit : ℕ) → Meets input.now room limit (read_object input.now room (read_value input.now room limit levels)) (lent nodes.old references.old bytes.old (by_buckets symbols.old buckets.old) objects.old) c.old result (lent nodes.new references.new bytes.new (by_buckets symbols.new buckets.new) objects.new) c.new }
-    ensures upper_bound { result < REFUSED → result < nodes_of c.new }
+    ensures upper_bound { IfOk result (Numbered c.new) }
 {
-    let h = open_node(nodes, objects, c);
-    if REFUSED <= h {
-        return h;
-    }
-    let name = read_symbol_like(&input[..], nodes, bytes, symbols, buckets, c);
-    if REFUSED <= name {
-        return name;
-    }
-    let n = read_words(&input[..], references, c, 2);
-    if REFUSED <= n {
-        return n;
-    }
-    let end = c[REFERENCES];
-    let start = end - n as usize * 2;
-    let w = read_members(
-        &input[..],
+    let h = open_node(nodes, objects, c)?;
+    let name = read_symbol_like(input, nodes, bytes, symbols, buckets, c)?;
+    let n = read_words(input, references, c, 2)?;
+    let end = c.references;
+    let start = end - n * 2;
+    read_members(
+        input,
         nodes,
         references,
         bytes,
@@ -257,10 +184,7 @@ fn read_object(
         0,
         end % 2,
         levels,
-    );
-    if REFUSED <= w {
-        return w;
-    }
+    )?;
     fill_node(
         nodes,
         h,
@@ -270,7 +194,8 @@ fn read_object(
         name as u32,
         0,
         0,
-    )
+    );
+    Ok(h)
 }
 
 // The value after `I`, which is noted where dump writes no `I` before it; a string, which is the most frequent, with no call
@@ -284,20 +209,20 @@ fn read_inner(
     symbols: &mut [u32],
     objects: &mut [u32],
     buckets: &mut [u32],
-    c: &mut [usize; COUNTS],
+    c: &mut Progress,
     levels: u32,
-) -> u64
+) -> Result<usize, Stop>
     requires { Held input.now (lent nodes.old references.old bytes.old (by_buckets symbols.old buckets.old) objects.old) c.old }
     ensures meets { (room : Room) (limit : ℕ) → Meets input.now room limit (after_i input.now (read_value input.now room limit levels)) (lent nodes.old references.old bytes.old (by_buckets symbols.old buckets.old) objects.old) c.old result (lent nodes.new references.new bytes.new (by_buckets symbols.new buckets.new) objects.new) c.new }
-    ensures upper_bound { result < REFUSED → result < nodes_of c.new }
+    ensures upper_bound { IfOk result (Numbered c.new) }
 {
-    let at = c[AT];
+    let at = c.at;
     if 0 < levels {
         if at < input.len() {
             if input[at] == ValueKind::STRING {
-                c[AT] = at + 1;
+                c.at = at + 1;
                 return read_leaf(
-                    &input[..],
+                    input,
                     nodes,
                     bytes,
                     symbols,
@@ -310,21 +235,9 @@ fn read_inner(
             }
         }
     }
-    note_inner(&input[..], c);
+    note_inner(input, c);
     read_members(
-        &input[..],
-        nodes,
-        references,
-        bytes,
-        symbols,
-        objects,
-        buckets,
-        c,
-        0,
-        0,
-        1,
-        NONE,
-        levels,
+        input, nodes, references, bytes, symbols, objects, buckets, c, 0, 0, 1, NONE, levels,
     )
 }
 
@@ -338,35 +251,21 @@ fn read_variables(
     symbols: &mut [u32],
     objects: &mut [u32],
     buckets: &mut [u32],
-    c: &mut [usize; COUNTS],
+    c: &mut Progress,
     levels: u32,
-) -> u64
+) -> Result<usize, Stop>
     requires { Held input.now (lent nodes.old references.old bytes.old (by_buckets symbols.old buckets.old) objects.old) c.old }
     ensures meets { (room : Room) (limit : ℕ) → Meets input.now room limit (read_variables input.now room (read_value input.now room limit levels)) (lent nodes.old references.old bytes.old (by_buckets symbols.old buckets.old) objects.old) c.old result (lent nodes.new references.new bytes.new (by_buckets symbols.new buckets.new) objects.new) c.new }
-    ensures upper_bound { result < REFUSED → result < nodes_of c.new }
+    ensures upper_bound { IfOk result (Numbered c.new) }
 {
     let h = read_inner(
-        &input[..],
-        nodes,
-        references,
-        bytes,
-        symbols,
-        objects,
-        buckets,
-        c,
-        levels,
-    );
-    if REFUSED <= h {
-        return h;
-    }
-    let n = read_words(&input[..], references, c, 2);
-    if REFUSED <= n {
-        return n;
-    }
-    let end = c[REFERENCES];
-    let start = end - n as usize * 2;
-    let done = read_members(
-        &input[..],
+        input, nodes, references, bytes, symbols, objects, buckets, c, levels,
+    )?;
+    let n = read_words(input, references, c, 2)?;
+    let end = c.references;
+    let start = end - n * 2;
+    read_members(
+        input,
         nodes,
         references,
         bytes,
@@ -379,10 +278,7 @@ fn read_variables(
         0,
         end % 2,
         levels,
-    );
-    if REFUSED <= done {
-        return done;
-    }
+    )?;
     set_variables(nodes, h, start as u32, n as u32)
 }
 
@@ -396,29 +292,26 @@ fn read_value(
     symbols: &mut [u32],
     objects: &mut [u32],
     buckets: &mut [u32],
-    c: &mut [usize; COUNTS],
+    c: &mut Progress,
     levels: u32,
-) -> u64
+) -> Result<usize, Stop>
     requires { Held input.now (lent nodes.old references.old bytes.old (by_buckets symbols.old buckets.old) objects.old) c.old }
     ensures meets { (room : Room) (limit : ℕ) → Meets input.now room limit (read_value input.now room limit levels) (lent nodes.old references.old bytes.old (by_buckets symbols.old buckets.old) objects.old) c.old result (lent nodes.new references.new bytes.new (by_buckets symbols.new buckets.new) objects.new) c.new }
-    ensures upper_bound { result < REFUSED → result < nodes_of c.new }
+    ensures upper_bound { IfOk result (Numbered c.new) }
 {
     if levels == 0 {
-        return TOO_DEEP;
+        return Err(Stop::TOO_DEEP);
     }
-    let class = read_class(&input[..], nodes, bytes, symbols, buckets, c);
-    if REFUSED <= class {
-        return class;
-    }
-    let at = c[AT];
+    let class = read_class(input, nodes, bytes, symbols, buckets, c)?;
+    let at = c.at;
     if input.len() <= at {
-        return SHORT_INPUT;
+        return Err(Stop::SHORT_INPUT);
     }
     let k = input[at];
-    c[AT] = at + 1;
+    c.at = at + 1;
     match k {
         ValueKind::ARRAY => read_array(
-            &input[..],
+            input,
             nodes,
             references,
             bytes,
@@ -430,7 +323,7 @@ fn read_value(
             class as u32,
         ),
         ValueKind::HASH | ValueKind::HASH_DEFAULT => read_hash(
-            &input[..],
+            input,
             nodes,
             references,
             bytes,
@@ -443,7 +336,7 @@ fn read_value(
             class as u32,
         ),
         ValueKind::OBJECT => read_object(
-            &input[..],
+            input,
             nodes,
             references,
             bytes,
@@ -454,7 +347,7 @@ fn read_value(
             levels - 1,
         ),
         ValueKind::INSTANCE_VARIABLES => read_variables(
-            &input[..],
+            input,
             nodes,
             references,
             bytes,
@@ -465,7 +358,7 @@ fn read_value(
             levels - 1,
         ),
         _ => read_leaf(
-            &input[..],
+            input,
             nodes,
             bytes,
             symbols,
@@ -487,30 +380,15 @@ pub fn read_root(
     symbols: &mut [u32],
     objects: &mut [u32],
     buckets: &mut [u32],
-    c: &mut [usize; COUNTS],
+    c: &mut Progress,
     limit: u32,
-) -> u64
+) -> Result<usize, Stop>
     requires { Held input.now (lent nodes.old references.old bytes.old (by_buckets symbols.old buckets.old) objects.old) c.old }
     ensures meets { (room : Room) → Meets input.now room limit (whole input.now room limit) (lent nodes.old references.old bytes.old (by_buckets symbols.old buckets.old) objects.old) c.old result (lent nodes.new references.new bytes.new (by_buckets symbols.new buckets.new) objects.new) c.new }
-    ensures upper_bound { result < REFUSED → result < nodes_of c.new }
+    ensures upper_bound { IfOk result (Numbered c.new) }
 {
-    let w = read_header(&input[..], c);
-    if REFUSED <= w {
-        return w;
-    }
+    read_header(input, c)?;
     read_members(
-        &input[..],
-        nodes,
-        references,
-        bytes,
-        symbols,
-        objects,
-        buckets,
-        c,
-        0,
-        0,
-        1,
-        NONE,
-        limit,
+        input, nodes, references, bytes, symbols, objects, buckets, c, 0, 0, 1, NONE, limit,
     )
 }

@@ -20,7 +20,7 @@ use Rattle.well_formed.specs.Nodes.{at_node}
 use Rattle.well_formed.specs.Right as R
 use Rattle.well_formed.specs.Checks.{checked}
 use Rattle.arena_check.proofs.Rights.{range_take}
-use Rattle.weight.specs.Gives.{Inside, Has}
+use Rattle.weight.specs.Tables.{Inside, Has}
 
 -- whichever is picked
 either : (bs : List ℕ) (b : Bool) (x y : Row) → row_reading bs x ≡ NotANumber → row_reading bs y ≡ NotANumber → row_reading bs (pick b x y) ≡ NotANumber

@@ -1,23 +1,20 @@
 -- A reading and a weighing by what each step answers.
 use Prim.Native.Nat.{ℕ}
-use mathlib.Core.Path.{◌≡◌, sym, ap, ◌∙◌, subst}
+use mathlib.Core.Path.{◌≡◌, sym, ap, ◌∙◌}
 use mathlib.Core.Bool.{Bool, true, false, ◌||◌}
 use mathlib.Core.List.{List, [], ◌∷◌}
 use lib.ListN.{take}
 use lib.Ieee.{Float, lt}
-use Rattle.definition.specs.Run.{Run, ok, refused, pure, refuse, ◌>>=◌, look, pick}
+use Rattle.std.specs.Prelude.{Ok, Err}
+use Rattle.definition.specs.Run.{ok, refused, pure, refuse, ◌>>=◌, look, pick}
 use Rattle.definition.specs.Node.{row}
 use Rattle.definition.specs.Build.{Lent, words_at, handles_checked}
-use Rattle.definition.specs.Weight.{row_reading, node_reading, get_reading, positive_zero, half, as_double, double_at, dry_at, check_moisture, weigh, weigh_nodes, wet_weight, read_done}
-use Rattle.definition.specs.declared.Answer.TheVariants.{Accepted, Refused}
+use Rattle.definition.specs.Weight.{row_reading, node_reading, get_reading, positive_zero, half, as_double, double_at, dry_at, check_moisture, weigh, weigh_nodes, wet_weight, read_done, reading_answer}
 use Rattle.definition.specs.declared.Reading.{Reading}
-use Rattle.definition.specs.declared.Reading.TheVariants.{NotANumber}
 use Rattle.definition.specs.declared.Refusal.{Refusal}
 use Rattle.definition.specs.declared.Refusal.TheVariants.{NotAWeight, BadMoisture}
 use Rattle.call_check.proofs.Answers.{on, stop}
-use Rattle.weight.specs.Gives.{Has, Gives}
-use Rattle.weight.specs.declared.Given.{Given}
-use Rattle.weight.specs.declared.Given.TheVariants as G
+use Rattle.weight.specs.Tables.{Has}
 
 -- ---- a reading
 
@@ -26,8 +23,8 @@ module _ (L : Lent) (nodes bytes : List ℕ) (stored h : ℕ) (k : Has L nodes b
   unfolding node_reading look pure
   is_read = ap (λ (x : Reading). ok x L) ((λ i. row_reading (k.0 i) (k.1 i)) ∙ sym e)
 
-  pub reading_is : handles_checked (h ∷ []) L ≡ ok tt L → record { answer = Accepted; reading = r } ≡ read_done (get_reading h L)
-  unfolding get_reading read_done ◌>>=◌
+  pub reading_is : handles_checked (h ∷ []) L ≡ ok tt L → reading_answer (Ok r) ≡ read_done (get_reading h L)
+  unfolding get_reading read_done reading_answer ◌>>=◌
   reading_is p = sym (ap read_done (on _ p ∙ is_read))
 
   -- ---- and as a double
@@ -36,17 +33,9 @@ module _ (L : Lent) (nodes bytes : List ℕ) (stored h : ℕ) (k : Has L nodes b
   unfolding double_at ◌>>=◌
   converted q = on _ is_read ∙ ap (λ (y : Reading). as_double h y L) q
 
-pub reading_not : (L : Lent) (h : ℕ) (q : Refusal) → handles_checked (h ∷ []) L ≡ refused q → record { answer = Refused q; reading = NotANumber } ≡ read_done (get_reading h L)
-unfolding get_reading read_done ◌>>=◌
+pub reading_not : (L : Lent) (h : ℕ) (q : Refusal) → handles_checked (h ∷ []) L ≡ refused q → reading_answer (Err q) ≡ read_done (get_reading h L)
+unfolding get_reading read_done reading_answer ◌>>=◌
 reading_not L h q p = sym (ap read_done (stop _ p))
-
--- ---- an answer taken apart
-
-pub gives : {g : Given} {x : Float} (m : Run Lent Float) (L : Lent) → g ≡ G.Double x → Gives g m L → m L ≡ ok x L
-gives m L e s = subst (λ (y : Given). Gives y m L) e s
-
-pub gives_not : {g : Given} {q : Refusal} (m : Run Lent Float) (L : Lent) → g ≡ G.Refused q → Gives g m L → m L ≡ refused q
-gives_not m L e s = subst (λ (y : Given). Gives y m L) e s
 
 -- ---- a dry weight
 

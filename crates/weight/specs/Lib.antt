@@ -1,2 +1,2 @@
--- What the contracts say of a node that is read, and of a double or a refusal.
-pub mod Gives
+-- What the contracts say of a node that is read.
+pub mod Tables

@@ -14,7 +14,7 @@ use Rattle.definition.specs.Run.{Outcome, ok, refused, pure, refuse, next, ◌>>
 use Rattle.definition.specs.Arena.{node}
 use Rattle.definition.specs.Build.{Lent, held, handles_checked}
 use Rattle.definition.specs.Weight.{row_reading, node_reading, positive_zero, one, half, as_double, double_at, dry_at, check_moisture, wet, weigh, weigh_nodes, wet_weight, weighed_done, apart, Ordinary, Within, Weighs}
-use Rattle.definition.specs.declared.Answer.TheVariants.{Accepted}
+use Rattle.definition.specs.Refused.{Accepted}
 use Rattle.definition.specs.declared.Reading.{Reading}
 use Rattle.definition.specs.declared.Reading.TheVariants.{Whole, Double, NotANumber}
 use Rattle.definition.specs.declared.Refusal.TheVariants.{NotAWeight, BadMoisture}

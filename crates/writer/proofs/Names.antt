@@ -16,7 +16,10 @@ use Rattle.lists.specs.Rows.{kind_is, row_3}
 use Rattle.lists.specs.Lists.{at_lt}
 use Rattle.well_formed.specs.Nodes.{at_node, node_at, Name}
 use Rattle.well_formed.specs.Right.{BytesIn, RowRight, ClassRight}
-use Rattle.writer.specs.Held.{Buffers, buffers, Lent, IsSymbol, named, Goes, Meets}
+use Rattle.std.specs.declared.result.Result.TheVariants.{Ok, Err}
+use Rattle.writer.specs.declared.Progress.{Progress}
+use Rattle.writer.specs.declared.Stop.TheVariants.{NoSpace}
+use Rattle.writer.specs.Held.{Buffers, buffers, with_written, with_symbols, Lent, IsSymbol, named, Goes, Meets}
 use Rattle.writer.specs.Laws.{then, went}
 use Rattle.writer.proofs.Steps.{chunk, no_chunk, symbol_numbered, word_none, word_some}
 
@@ -32,16 +35,16 @@ string_bytes {A} {no} {by} s n L h =
 length_string : (by : List ℕ) (start n count : ℕ) → count ≡ n → start + n ≤ length by → length (take n (drop start by)) ≡ count
 length_string by start n count k inside = length-take-le n (drop start by) (simp length-drop (omega arith)) ∙ sym k
 
-module _ {A : Arena} {room limit : ℕ} {sc out c : List ℕ} (by : List ℕ) (start n count : ℕ) (k : count ≡ n) (inside : start + n ≤ length by) where
-  pub string_stored : {out' : List ℕ} {from : ℕ} → from ≡ start → count ≤ length out → get_or c 0 0 ≤ length out - count → out' ≡ sets out (get_or c 0 0) (take count (drop from by)) → Meets A room limit (write room (take n (drop start by))) (buffers sc out) c 0 (buffers sc out') (set c 0 (get_or c 0 0 + count))
-  string_stored {out'} {from} f h l e =
-      let p : out' ≡ sets out (get_or c 0 0) (take n (drop start by)) = e ∙ λ i. sets out (get_or c 0 0) (take (k i) (drop (f i) by)) in
-      subst (λ (o : List ℕ). Meets A room limit (write room (take n (drop start by))) (buffers sc out) c 0 (buffers sc o) (set c 0 (get_or c 0 0 + count))) (sym p) (went (chunk (take n (drop start by)) count (length_string by start n count k inside) (omega arith)))
+module _ {A : Arena} {room limit : ℕ} {sc out : List ℕ} {c : Progress} (by : List ℕ) (start n count : ℕ) (k : count ≡ n) (inside : start + n ≤ length by) where
+  pub string_stored : {out' : List ℕ} {from part : ℕ} → from ≡ start → part ≡ count → count ≤ length out → c.written ≤ length out - count → out' ≡ sets out (c.written) (take part (drop from by)) → Meets A room limit (write room (take n (drop start by))) (buffers sc out) c (Ok tt) (buffers sc out') (with_written c (c.written + count))
+  string_stored {out'} f g h l e =
+      let p : out' ≡ sets out (c.written) (take n (drop start by)) = e ∙ λ i. sets out (c.written) (take ((g ∙ k) i) (drop (f i) by)) in
+      subst (λ (o : List ℕ). Meets A room limit (write room (take n (drop start by))) (buffers sc out) c (Ok tt) (buffers sc o) (with_written c (c.written + count))) (sym p) (went (chunk (take n (drop start by)) count (length_string by start n count k inside) (omega arith)))
 
-  pub string_long : {B' : Buffers} {c' : List ℕ} → length out < count → Meets A room limit (write room (take n (drop start by))) (buffers sc out) c 2 B' c'
+  pub string_long : {B' : Buffers} {c' : Progress} → length out < count → Meets A room limit (write room (take n (drop start by))) (buffers sc out) c (Err NoSpace) B' c'
   string_long h = no_chunk (take n (drop start by)) count (length_string by start n count k inside) (omega arith)
 
-  pub string_full : {B' : Buffers} {c' : List ℕ} → count ≤ length out → length out - count < get_or c 0 0 → Meets A room limit (write room (take n (drop start by))) (buffers sc out) c 2 B' c'
+  pub string_full : {B' : Buffers} {c' : Progress} → count ≤ length out → length out - count < c.written → Meets A room limit (write room (take n (drop start by))) (buffers sc out) c (Err NoSpace) B' c'
   string_full h l = no_chunk (take n (drop start by)) count (length_string by start n count k inside) (omega arith)
 
 -- ---- a symbol's row and its name
@@ -77,14 +80,14 @@ module _ {A : Arena} {no by : List ℕ} {v : ℕ} (L : Lent A no by) (S : IsSymb
   name_bytes = ap (λ (r : Row). byte_string_bytes (name_of A.bytes r)) symbol_row ∙ string_bytes start count L symbol_inside
 
   -- its number and its name, or a link
-  pub name_numbered : {room : ℕ} {sc out c : List ℕ} → get_or sc v 0 ≡ 0 → Goes A room (write_name room A v) (buffers sc out) c (write room (SYMBOL ∷ (integer_bytes count ++ take count (drop start by)))) (buffers (set sc v (get_or c 1 0 + 1)) out) (set c 1 (get_or c 1 0 + 1))
+  pub name_numbered : {room : ℕ} {sc out : List ℕ} {c : Progress} → get_or sc v 0 ≡ 0 → Goes A room (write_name room A v) (buffers sc out) c (write room (SYMBOL ∷ (integer_bytes count ++ take count (drop start by)))) (buffers (set sc v (c.symbols + 1)) out) (with_symbols c (c.symbols + 1))
   unfolding write_name write_symbol look link_or
   name_numbered {room} {sc} {out} {c} e =
       then
       (record { goes = λ s H. record { state = s; holds = H; same = rw (word_none _ _ (H.symbol_words v S.below S.kind_three) e) (ap (λ (b : List ℕ). (number_symbol v >> write room (SYMBOL ∷ b)) s) name_bytes) } })
       (symbol_numbered v (write room (SYMBOL ∷ (integer_bytes count ++ take count (drop start by)))) S.below S.kind_three e)
 
-pub name_linked : {A : Arena} {room v : ℕ} {sc out c : List ℕ} → IsSymbol A v → (get_or sc v 0 ≡ 0 → ⊥) → Goes A room (write_name room A v) (buffers sc out) c (write room (SYMBOL_LINK ∷ integer_bytes (get_or sc v 0 - 1))) (buffers sc out) c
+pub name_linked : {A : Arena} {room v : ℕ} {sc out : List ℕ} {c : Progress} → IsSymbol A v → (get_or sc v 0 ≡ 0 → ⊥) → Goes A room (write_name room A v) (buffers sc out) c (write room (SYMBOL_LINK ∷ integer_bytes (get_or sc v 0 - 1))) (buffers sc out) c
 unfolding write_name write_symbol look link_or
 name_linked {v = v} S n = record { goes = λ s H. record { state = s; holds = H; same = rw (word_some _ _ (H.symbol_words v S.below S.kind_three) n) refl } }
 

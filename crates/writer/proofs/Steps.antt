@@ -16,7 +16,10 @@ use Rattle.definition.specs.Arena.{Arena, node}
 use Rattle.definition.specs.Dump.{Written, Writer, ◌>>◌, write, number_in, number_symbol}
 use Rattle.definition.specs.Slice.{greatest_length}
 use Rattle.lists.specs.Lists.{stored_behind}
-use Rattle.writer.specs.Held.{Buffers, buffers, word, marked, marks, Holds, Goes, stopped, Meets}
+use Rattle.std.specs.declared.result.Result.TheVariants.{Ok, Err}
+use Rattle.writer.specs.declared.Progress.{Progress}
+use Rattle.writer.specs.declared.Stop.TheVariants.{NoSpace}
+use Rattle.writer.specs.Held.{Buffers, buffers, with_written, with_symbols, word, marked, marks, Holds, Goes, stopped, Meets}
 
 -- ---- numbers
 
@@ -84,26 +87,25 @@ marks_lt (x ∷ l) (suc i) h e = omega (arith, marked_le x, marks_lt l i (omega 
 
 -- ---- bytes
 
-module _ {A : Arena} {room : ℕ} {sc out : List ℕ} {c : List ℕ} where
+module _ {A : Arena} {room : ℕ} {sc out : List ℕ} {c : Progress} where
   -- bytes where there is room
-  pub chunk : (bs : List ℕ) (n : ℕ) → length bs ≡ n → get_or c 0 0 + n ≤ length out → Goes A room (write room bs) (buffers sc out) c (pure tt) (buffers sc (sets out (get_or c 0 0) bs)) (set c 0 (get_or c 0 0 + n))
+  pub chunk : (bs : List ℕ) (n : ℕ) → length bs ≡ n → c.written + n ≤ length out → Goes A room (write room bs) (buffers sc out) c (pure tt) (buffers sc (sets out (c.written) bs)) (with_written c (c.written + n))
   unfolding write pick pure
   chunk bs n z h = record {
     goes = λ s H.
-        let at : get_or c 0 0 ≡ length s.bytes = H.count_written in
+        let at : c.written ≡ length s.bytes = H.count_written in
         let le : length bs ≤ room - length s.bytes = omega (arith, H.sized) in
         let len = length-append s.bytes bs in
         record {
           state = record { bytes = s.bytes ++ bs; symbols = s.symbols; objects = s.objects };
           holds = record {
             small = H.small;
-            counts = length-set c 0 _ ∙ H.counts;
-            sized = length-sets out (get_or c 0 0) bs ∙ H.sized;
+            sized = length-sets out (c.written) bs ∙ H.sized;
             fits = omega (arith, len, H.fits);
             same = ap (λ (k : ℕ). take (length (s.bytes ++ bs)) (sets out k bs)) at ∙ stored_behind s.bytes bs out H.same (omega arith);
-            count_written = get_or-set_same c 0 _ 0 (omega (arith, H.counts)) ∙ omega (arith, len);
-            count_symbols = get_or-set_other c 0 1 _ 0 (omega arith) ∙ H.count_symbols;
-            count_objects = get_or-set_other c 0 2 _ 0 (omega arith) ∙ H.count_objects;
+            count_written = omega (arith, len);
+            count_symbols = H.count_symbols;
+            count_objects = H.count_objects;
             scratch_small = H.scratch_small;
             scratch_fits = H.scratch_fits;
             numbered = H.numbered;
@@ -115,21 +117,21 @@ module _ {A : Arena} {room : ℕ} {sc out : List ℕ} {c : List ℕ} where
   }
 
   -- the same, stored by another's hand
-  pub chunk_stored : {limit : ℕ} {out' : List ℕ} (bs : List ℕ) (n : ℕ) → length bs ≡ n → get_or c 0 0 + n ≤ length out → out' ≡ sets out (get_or c 0 0) bs → Meets A room limit (write room bs) (buffers sc out) c 0 (buffers sc out') (set c 0 (get_or c 0 0 + n))
-  chunk_stored {limit} bs n z h e = subst (λ (o : List ℕ). Meets A room limit (write room bs) (buffers sc out) c 0 (buffers sc o) (set c 0 (get_or c 0 0 + n))) (sym e) (record { leads = chunk bs n z h })
+  pub chunk_stored : {limit : ℕ} {out' : List ℕ} (bs : List ℕ) (n : ℕ) → length bs ≡ n → c.written + n ≤ length out → out' ≡ sets out (c.written) bs → Meets A room limit (write room bs) (buffers sc out) c (Ok tt) (buffers sc out') (with_written c (c.written + n))
+  chunk_stored {limit} bs n z h e = subst (λ (o : List ℕ). Meets A room limit (write room bs) (buffers sc out) c (Ok tt) (buffers sc o) (with_written c (c.written + n))) (sym e) (record { leads = chunk bs n z h })
 
   -- a kind byte and more, and the place after them
-  pub tagged_goes : {out' : List ℕ} {p : ℕ} (k : ℕ) (bs : List ℕ) → get_or c 0 0 + 1 + length bs ≤ length out → out' ≡ sets out (get_or c 0 0) (k ∷ bs) → p ≡ get_or c 0 0 + 1 + length bs → Goes A room (write room (k ∷ bs)) (buffers sc out) c (pure tt) (buffers sc out') (set c 0 p)
+  pub tagged_goes : {out' : List ℕ} {p : ℕ} (k : ℕ) (bs : List ℕ) → c.written + 1 + length bs ≤ length out → out' ≡ sets out (c.written) (k ∷ bs) → p ≡ c.written + 1 + length bs → Goes A room (write room (k ∷ bs)) (buffers sc out) c (pure tt) (buffers sc out') (with_written c p)
   tagged_goes {out'} {p} k bs h e q =
-      let z : p ≡ get_or c 0 0 + suc (length bs) = omega (arith, q) in
-      subst (λ (o : List ℕ). Goes A room (write room (k ∷ bs)) (buffers sc out) c (pure tt) (buffers sc o) (set c 0 p)) (sym e)
-      (subst (λ (x : ℕ). Goes A room (write room (k ∷ bs)) (buffers sc out) c (pure tt) (buffers sc (sets out (get_or c 0 0) (k ∷ bs))) (set c 0 x)) (sym z)
+      let z : p ≡ c.written + suc (length bs) = omega (arith, q) in
+      subst (λ (o : List ℕ). Goes A room (write room (k ∷ bs)) (buffers sc out) c (pure tt) (buffers sc o) (with_written c p)) (sym e)
+      (subst (λ (x : ℕ). Goes A room (write room (k ∷ bs)) (buffers sc out) c (pure tt) (buffers sc (sets out (c.written) (k ∷ bs))) (with_written c x)) (sym z)
       (chunk (k ∷ bs) (suc (length bs)) refl (omega arith)))
 
-  pub tagged_stored : {limit : ℕ} {out' : List ℕ} {p : ℕ} (k : ℕ) (bs : List ℕ) → get_or c 0 0 + 1 + length bs ≤ length out → out' ≡ sets out (get_or c 0 0) (k ∷ bs) → p ≡ get_or c 0 0 + 1 + length bs → Meets A room limit (write room (k ∷ bs)) (buffers sc out) c 0 (buffers sc out') (set c 0 p)
+  pub tagged_stored : {limit : ℕ} {out' : List ℕ} {p : ℕ} (k : ℕ) (bs : List ℕ) → c.written + 1 + length bs ≤ length out → out' ≡ sets out (c.written) (k ∷ bs) → p ≡ c.written + 1 + length bs → Meets A room limit (write room (k ∷ bs)) (buffers sc out) c (Ok tt) (buffers sc out') (with_written c p)
   tagged_stored k bs h e q = record { leads = tagged_goes k bs h e q }
 
-  pub no_chunk : {limit : ℕ} {B' : Buffers} {c' : List ℕ} (bs : List ℕ) (n : ℕ) → length bs ≡ n → length out < get_or c 0 0 + n → Meets A room limit (write room bs) (buffers sc out) c 2 B' c'
+  pub no_chunk : {limit : ℕ} {B' : Buffers} {c' : Progress} (bs : List ℕ) (n : ℕ) → length bs ≡ n → length out < c.written + n → Meets A room limit (write room bs) (buffers sc out) c (Err NoSpace) B' c'
   unfolding write pick stopped
   no_chunk bs n z h = record {
     leads = λ s H.
@@ -139,28 +141,27 @@ module _ {A : Arena} {room : ℕ} {sc out : List ℕ} {c : List ℕ} where
 
   -- ---- a symbol's number
 
-  symbol_held : (v : ℕ) (s : Written) → v < length A.nodes → kind (node A v) ≡ 3 → get_or sc v 0 ≡ 0 → Holds A room s (buffers sc out) c → Holds A room (record { bytes = s.bytes; symbols = s.symbols ++ (v ∷ []); objects = s.objects }) (buffers (set sc v (get_or c 1 0 + 1)) out) (set c 1 (get_or c 1 0 + 1))
+  symbol_held : (v : ℕ) (s : Written) → v < length A.nodes → kind (node A v) ≡ 3 → get_or sc v 0 ≡ 0 → Holds A room s (buffers sc out) c → Holds A room (record { bytes = s.bytes; symbols = s.symbols ++ (v ∷ []); objects = s.objects }) (buffers (set sc v (c.symbols + 1)) out) (with_symbols c (c.symbols + 1))
   unfolding word
   symbol_held v s below three e H =
       let len = length-append s.symbols (v ∷ []) in
       let in-scratch : v < length sc = omega (arith, below, H.scratch_fits) in
       record {
         small = H.small;
-        counts = length-set c 1 _ ∙ H.counts;
         sized = H.sized;
         fits = H.fits;
         same = H.same;
-        count_written = get_or-set_other c 1 0 _ 0 (omega arith) ∙ H.count_written;
-        count_symbols = get_or-set_same c 1 _ 0 (omega (arith, H.counts)) ∙ omega (arith, len, H.count_symbols);
-        count_objects = get_or-set_other c 1 2 _ 0 (omega arith) ∙ H.count_objects;
-        scratch_small = rw (length-set sc v (get_or c 1 0 + 1)) H.scratch_small;
-        scratch_fits = rw (length-set sc v (get_or c 1 0 + 1)) H.scratch_fits;
-        numbered = omega (arith, len, H.numbered, ap (λ (x : ℕ). marks (set sc v x)) (add-one (get_or c 1 0)) ∙ marks_set sc v (get_or c 1 0) in-scratch e);
+        count_written = H.count_written;
+        count_symbols = omega (arith, len, H.count_symbols);
+        count_objects = H.count_objects;
+        scratch_small = rw (length-set sc v (c.symbols + 1)) H.scratch_small;
+        scratch_fits = rw (length-set sc v (c.symbols + 1)) H.scratch_fits;
+        numbered = omega (arith, len, H.numbered, ap (λ (x : ℕ). marks (set sc v x)) (add-one (c.symbols)) ∙ marks_set sc v (c.symbols) in-scratch e);
         symbol_words = λ i l k. words_numbered s.symbols sc v _ i in-scratch e H.count_symbols (H.symbol_words v below three) (H.symbol_words i l k);
         object_words = λ i l k. get_or-set_other sc v i _ 0 (λ q. let z = ap (λ (j : ℕ). kind (node A j)) q in omega (arith, three)) ∙ H.object_words i l k;
       }
 
-  pub symbol_numbered : (v : ℕ) (rest : Writer) → v < length A.nodes → kind (node A v) ≡ 3 → get_or sc v 0 ≡ 0 → Goes A room (number_symbol v >> rest) (buffers sc out) c rest (buffers (set sc v (get_or c 1 0 + 1)) out) (set c 1 (get_or c 1 0 + 1))
+  pub symbol_numbered : (v : ℕ) (rest : Writer) → v < length A.nodes → kind (node A v) ≡ 3 → get_or sc v 0 ≡ 0 → Goes A room (number_symbol v >> rest) (buffers sc out) c rest (buffers (set sc v (c.symbols + 1)) out) (with_symbols c (c.symbols + 1))
   unfolding number_symbol ◌>>◌ ◌>>=◌ next
   symbol_numbered v rest below three e = record {
     goes = λ s H. record {
@@ -171,5 +172,5 @@ module _ {A : Arena} {room : ℕ} {sc out : List ℕ} {c : List ℕ} where
   }
 
 -- the number's place is a word
-pub number_fits : {A : Arena} {room : ℕ} {s : Written} {sc out c : List ℕ} → Holds A room s (buffers sc out) c → (v : ℕ) → v < length A.nodes → get_or sc v 0 ≡ 0 → get_or c 1 0 + get_or c 2 0 < greatest_length
+pub number_fits : {A : Arena} {room : ℕ} {s : Written} {sc out : List ℕ} {c : Progress} → Holds A room s (buffers sc out) c → (v : ℕ) → v < length A.nodes → get_or sc v 0 ≡ 0 → c.symbols + c.objects < greatest_length
 number_fits {sc = sc} H v l e = omega (arith, H.numbered, H.count_symbols, H.count_objects, H.scratch_small, marks_lt sc v (omega (arith, H.scratch_fits)) e)

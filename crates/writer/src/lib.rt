@@ -1,4 +1,4 @@
-// Dump's writers of bytes, integers, Bignums' numbers, symbols and scalars, and the numbers that writers answer.
+// Dump's writers of bytes, integers, Bignums' numbers, symbols and scalars, what they count and what they answer.
 #![tactic(auto)]
 
 ghost use Rattle.std.specs.Prelude.{◌≡◌, List, [], ◌∷◌, ◌++◌, ℕ, suc, ◌+◌, ◌-◌, ◌*◌, ◌<◌, ◌≤◌, length, get_or, take, drop};
@@ -11,40 +11,37 @@ ghost use Rattle.definition.specs.Dump.{Writer, write, write_name, write_class, 
 ghost use Rattle.well_formed.specs.Right.{ListIn, ClassRight};
 ghost use Rattle.writer.specs.Held.{buffers, Noded, Lent, Listed, Ready, IsSymbol, named, Meets, Shorts, Short, Goes};
 
-use arena_check::size;
 use bignum::{fewest_units, magnitude_of};
 use definition::{Bignum, Node, ValueKind};
-use store::copy_bytes;
+use store::copy_to;
 
-// The places of the three counts: bytes written, symbols and objects numbered.
-pub const WRITTEN: usize = 0;
+// What is counted meanwhile: bytes written, symbols and objects numbered.
+#[derive(Clone, Copy)]
+pub struct Progress {
+    pub written: usize,
+    pub symbols: usize,
+    pub objects: usize,
+}
 
-const SYMBOLS: usize = 1;
-
-pub const OBJECTS: usize = 2;
-
-// What a writer answers: done; done with the whole value, of which more could have come; no space; no level. They are numbers,
-// which come back in a register: an enum comes back in memory.
-pub const DONE: u32 = 0;
-
-pub const WHOLE: u32 = 1;
-
-pub const FULL: u32 = 2;
-
-pub const DEEP: u32 = 3;
+// Why a writer stops: the output is full, or no level is left.
+#[derive(Clone, Copy)]
+pub enum Stop {
+    NoSpace,
+    TooDeep,
+}
 
 // ---- bytes and integers
 
-pub fn write_byte(output: &mut [u8], c: &mut [usize; 3], b: u8) -> u32
+pub fn write_byte(output: &mut [u8], c: &mut Progress, b: u8) -> Result<(), Stop>
     ensures { (A : Arena) (room limit : ℕ) (sc : List ℕ) → Meets A room limit (write room (b ∷ [])) (buffers sc output.old) c.old result (buffers sc output.new) c.new }
 {
-    let at = c[WRITTEN];
+    let at = c.written;
     if at < output.len() {
         output[at] = b;
-        c[WRITTEN] = at + 1;
-        return DONE;
+        c.written = at + 1;
+        return Ok(());
     }
-    FULL
+    Err(Stop::NoSpace)
 }
 
 // The lowest n bytes of v, lowest first, from byte `at` on.
@@ -52,12 +49,10 @@ fn store_low(output: &mut [u8], at: usize, n: usize, v: u32)
     requires { at + n ≤ length output.old }
     ensures { output.new ≡ sets output.old at (low_bytes n v) }
 {
-    let mut i = 0;
     let mut w = v;
-    while i < n {
+    for i in 0..n {
         output[at + i] = (w % 256) as u8;
-        w = w / 256;
-        i = i + 1;
+        w /= 256;
     }
 }
 
@@ -77,10 +72,10 @@ fn fixnum_size(v: u32) -> usize
         return 1;
     }
     if v < 2147483648 {
-        return 1 + size(data_bytes(v));
+        return 1 + data_bytes(v) as usize;
     }
     if v < 4294967173 {
-        return 1 + size(data_bytes(4294967295 - v));
+        return 1 + data_bytes(4294967295 - v) as usize;
     }
     1
 }
@@ -112,29 +107,29 @@ fn store_fixnum(output: &mut [u8], at: usize, v: u32) -> usize
     }
     if v < 2147483648 {
         let n = data_bytes(v);
-        return store_data(output, at, n as u8, size(n), v);
+        return store_data(output, at, n as u8, n as usize, v);
     }
     if v < 4294967173 {
         let n = data_bytes(4294967295 - v);
-        return store_data(output, at, (256 - n) as u8, size(n), v);
+        return store_data(output, at, (256 - n) as u8, n as usize, v);
     }
     output[at] = ((v - 5) % 256) as u8;
     1
 }
 
-pub fn write_fixnum(output: &mut [u8], c: &mut [usize; 3], v: u32) -> u32
+pub fn write_fixnum(output: &mut [u8], c: &mut Progress, v: u32) -> Result<(), Stop>
     ensures { (A : Arena) (room limit : ℕ) (sc : List ℕ) → Meets A room limit (write room (integer_bytes v)) (buffers sc output.old) c.old result (buffers sc output.new) c.new }
 {
-    let at = c[WRITTEN];
+    let at = c.written;
     let n = fixnum_size(v);
     if n <= output.len() {
         if at <= output.len() - n {
             store_fixnum(output, at, v);
-            c[WRITTEN] = at + n;
-            return DONE;
+            c.written = at + n;
+            return Ok(());
         }
     }
-    FULL
+    Err(Stop::NoSpace)
 }
 
 // A kind byte and an integer from byte `at` on; the place after them.
@@ -147,63 +142,58 @@ fn store_tagged(output: &mut [u8], at: usize, k: u8, v: u32) -> usize
     at + 1 + store_fixnum(output, at + 1, v)
 }
 
-pub fn write_tagged(output: &mut [u8], c: &mut [usize; 3], k: u8, v: u32) -> u32
+pub fn write_tagged(output: &mut [u8], c: &mut Progress, k: u8, v: u32) -> Result<(), Stop>
     ensures { (A : Arena) (room limit : ℕ) (sc : List ℕ) → Meets A room limit (write room (k ∷ integer_bytes v)) (buffers sc output.old) c.old result (buffers sc output.new) c.new }
 {
-    let at = c[WRITTEN];
+    let at = c.written;
     let n = fixnum_size(v);
     if n < output.len() {
         if at < output.len() - n {
-            c[WRITTEN] = store_tagged(output, at, k, v);
-            return DONE;
+            c.written = store_tagged(output, at, k, v);
+            return Ok(());
         }
     }
-    FULL
+    Err(Stop::NoSpace)
 }
 
 // The length n and n bytes from `start` on.
 pub fn write_byte_string(
     bytes: &[u8],
     output: &mut [u8],
-    c: &mut [usize; 3],
+    c: &mut Progress,
     start: u32,
     n: u32,
-) -> u32
+) -> Result<(), Stop>
     requires { start + n ≤ length bytes.now }
     ensures { (A : Arena) (room limit : ℕ) (sc : List ℕ) → Meets A room limit (write room (integer_bytes n ++ take n (drop start bytes.now))) (buffers sc output.old) c.old result (buffers sc output.new) c.new }
 {
-    let w = write_fixnum(output, c, n);
-    if w != DONE {
-        return w;
-    }
-    let at = c[WRITTEN];
-    let count = size(n);
+    write_fixnum(output, c, n)?;
+    let at = c.written;
+    let from = start as usize;
+    let count = n as usize;
     if count <= output.len() {
         if at <= output.len() - count {
-            copy_bytes(&bytes[..], size(start), output, at, count);
-            c[WRITTEN] = at + count;
-            return DONE;
+            copy_to(&bytes[from..from + count], output, at);
+            c.written = at + count;
+            return Ok(());
         }
     }
-    FULL
+    Err(Stop::NoSpace)
 }
 
 // Byte k, and a byte string.
 pub fn write_text(
     bytes: &[u8],
     output: &mut [u8],
-    c: &mut [usize; 3],
+    c: &mut Progress,
     k: u8,
     start: u32,
     n: u32,
-) -> u32
+) -> Result<(), Stop>
     requires { start + n ≤ length bytes.now }
     ensures { (A : Arena) (room limit : ℕ) (sc : List ℕ) → Meets A room limit (write room (k ∷ (integer_bytes n ++ take n (drop start bytes.now)))) (buffers sc output.old) c.old result (buffers sc output.new) c.new }
 {
-    let w = write_byte(output, c, k);
-    if w != DONE {
-        return w;
-    }
+    write_byte(output, c, k)?;
     write_byte_string(&bytes[..], output, c, start, n)
 }
 
@@ -243,20 +233,20 @@ fn store_units(output: &mut [u8], at: usize, n: u32, m: u64)
 }
 
 // The lowest n units of a magnitude.
-fn write_units(output: &mut [u8], c: &mut [usize; 3], n: u32, m: u64) -> u32
+fn write_units(output: &mut [u8], c: &mut Progress, n: u32, m: u64) -> Result<(), Stop>
     requires { n ≤ 4 }
     ensures { (A : Arena) (room limit : ℕ) (sc : List ℕ) → Meets A room limit (write room (low_bytes (n * 2) m)) (buffers sc output.old) c.old result (buffers sc output.new) c.new }
 {
-    let at = c[WRITTEN];
-    let k = size(n) * 2;
+    let at = c.written;
+    let k = n as usize * 2;
     if k <= output.len() {
         if at <= output.len() - k {
             store_units(output, at, n, m);
-            c[WRITTEN] = at + k;
-            return DONE;
+            c.written = at + k;
+            return Ok(());
         }
     }
-    FULL
+    Err(Stop::NoSpace)
 }
 
 fn sign_byte(minus: bool) -> u8
@@ -266,15 +256,18 @@ fn sign_byte(minus: bool) -> u8
 }
 
 // The sign, how many units the magnitude has, and the units.
-pub fn write_bignum(output: &mut [u8], c: &mut [usize; 3], minus: bool, low: u32, high: u32) -> u32
+pub fn write_bignum(
+    output: &mut [u8],
+    c: &mut Progress,
+    minus: bool,
+    low: u32,
+    high: u32,
+) -> Result<(), Stop>
     ensures { (A : Arena) (room limit : ℕ) (sc : List ℕ) → Meets A room limit (write room (bignum_bytes minus (magnitude low high))) (buffers sc output.old) c.old result (buffers sc output.new) c.new }
 {
     let m = magnitude_of(low, high);
     let n = fewest_units(m);
-    let w = write_tagged(output, c, sign_byte(minus), n);
-    if w != DONE {
-        return w;
-    }
+    write_tagged(output, c, sign_byte(minus), n)?;
     write_units(output, c, n, m)
 }
 
@@ -286,9 +279,9 @@ pub fn write_symbol(
     bytes: &[u8],
     scratch: &mut [u32],
     output: &mut [u8],
-    c: &mut [usize; 3],
+    c: &mut Progress,
     v: usize,
-) -> u32
+) -> Result<(), Stop>
     requires { Ready (λ A. Lent A nodes.now bytes.now × IsSymbol A v) (buffers scratch.old output.old) c.old }
     ensures { (A : Arena) (room limit : ℕ) → Lent A nodes.now bytes.now → IsSymbol A v → Meets A room limit (write_name room A v) (buffers scratch.old output.old) c.old result (buffers scratch.new output.new) c.new }
 {
@@ -296,9 +289,9 @@ pub fn write_symbol(
     if seen != 0 {
         return write_tagged(output, c, ValueKind::SYMBOL_LINK, seen - 1);
     }
-    let number = c[SYMBOLS] + 1;
+    let number = c.symbols + 1;
     scratch[v] = number as u32;
-    c[SYMBOLS] = number;
+    c.symbols = number;
     write_text(
         &bytes[..],
         output,
@@ -315,17 +308,14 @@ pub fn write_named(
     bytes: &[u8],
     scratch: &mut [u32],
     output: &mut [u8],
-    c: &mut [usize; 3],
+    c: &mut Progress,
     k: u8,
     v: usize,
-) -> u32
+) -> Result<(), Stop>
     requires { Ready (λ A. Lent A nodes.now bytes.now × IsSymbol A v) (buffers scratch.old output.old) c.old }
     ensures { (A : Arena) (room limit : ℕ) → Lent A nodes.now bytes.now → IsSymbol A v → Meets A room limit (named room A k v) (buffers scratch.old output.old) c.old result (buffers scratch.new output.new) c.new }
 {
-    let w = write_byte(output, c, k);
-    if w != DONE {
-        return w;
-    }
+    write_byte(output, c, k)?;
     write_symbol(&nodes[..], &bytes[..], scratch, output, c, v)
 }
 
@@ -335,14 +325,14 @@ pub fn write_class(
     bytes: &[u8],
     scratch: &mut [u32],
     output: &mut [u8],
-    c: &mut [usize; 3],
+    c: &mut Progress,
     class: u32,
-) -> u32
+) -> Result<(), Stop>
     requires { Ready (λ A. Lent A nodes.now bytes.now × ClassRight A class) (buffers scratch.old output.old) c.old }
     ensures { (A : Arena) (room limit : ℕ) → Lent A nodes.now bytes.now → ClassRight A class → Meets A room limit (write_class room A class) (buffers scratch.old output.old) c.old result (buffers scratch.new output.new) c.new }
 {
     if class == 0 {
-        return DONE;
+        return Ok(());
     }
     write_named(
         &nodes[..],
@@ -351,7 +341,7 @@ pub fn write_class(
         output,
         c,
         ValueKind::USER_CLASS,
-        size(class - 1),
+        (class - 1) as usize,
     )
 }
 
@@ -361,9 +351,9 @@ pub fn write_scalar(
     bytes: &[u8],
     scratch: &mut [u32],
     output: &mut [u8],
-    c: &mut [usize; 3],
+    c: &mut Progress,
     v: usize,
-) -> u32
+) -> Result<(), Stop>
     requires { Ready (λ A. Lent A nodes.now bytes.now × (v < length A.nodes)) (buffers scratch.old output.old) c.old }
     ensures { (A : Arena) (room limit : ℕ) (level : Writer) (inner : ℕ → Writer) → Lent A nodes.now bytes.now → v < length A.nodes → kind (node A v) ≤ 3 → Meets A room limit (write_row room A level inner v (node A v)) (buffers scratch.old output.old) c.old result (buffers scratch.new output.new) c.new }
 {
@@ -390,7 +380,7 @@ pub fn write_scalar(
 // Node v from byte `at` on, where it is an integer or a symbol with a number and six bytes are free: the place after it, else 0.
 fn write_short(nodes: &[u32], scratch: &[u32], output: &mut [u8], at: usize, v: usize) -> usize
     requires { (v * width + width ≤ length nodes.now) × (v < length scratch.now) }
-    ensures shorts { (A : Arena) (room limit levels : ℕ) (counts : List ℕ) → Noded A nodes.now → v < length A.nodes → get_or counts 0 0 ≡ at → Shorts A room (write_value room A limit (suc levels) v) scratch.now output.old counts result output.new }
+    ensures shorts { (A : Arena) (room limit levels : ℕ) (counts : Progress) → Noded A nodes.now → v < length A.nodes → counts.written ≡ at → Shorts A room (write_value room A limit (suc levels) v) scratch.now output.old counts result output.new }
     ensures fact { Short nodes.now scratch.now (length output.old) at v → result ≡ 0 → ⊥ }
 {
     if output.len() < 6 {
@@ -424,32 +414,30 @@ pub fn write_shorts(
     references: &[u32],
     scratch: &[u32],
     output: &mut [u8],
-    c: &mut [usize; 3],
+    c: &mut Progress,
     start: usize,
     n: usize,
 ) -> usize
     requires { Ready (λ A. Noded A nodes.now × Listed A references.now × ListIn A start n) (buffers scratch.now output.old) c.old }
     ensures upper_bound { result ≤ n }
     ensures goes { (A : Arena) (room limit levels : ℕ) → Noded A nodes.now → Listed A references.now → ListIn A start n → Goes A room (write_elements (write_value room A limit (suc levels)) (range A.references start n)) (buffers scratch.now output.old) c.old (write_elements (write_value room A limit (suc levels)) (range A.references (start + result) (n - result))) (buffers scratch.now output.new) c.new }
-    ensures fact { result < n → Short nodes.now scratch.now (length output.new) (get_or c.new 0 0) (get_or references.now (start + result) 0) → ⊥ }
+    ensures fact { result < n → Short nodes.now scratch.now (length output.new) (c.new.written) (get_or references.now (start + result) 0) → ⊥ }
 {
-    let mut at = c[WRITTEN];
-    let mut i = 0;
-    while i < n {
+    let mut at = c.written;
+    for i in 0..n {
         let p = write_short(
             &nodes[..],
             &scratch[..],
             output,
             at,
-            size(references[start + i]),
+            references[start + i] as usize,
         );
         if p == 0 {
-            c[WRITTEN] = at;
+            c.written = at;
             return i;
         }
         at = p;
-        i = i + 1;
     }
-    c[WRITTEN] = at;
-    i
+    c.written = at;
+    n
 }

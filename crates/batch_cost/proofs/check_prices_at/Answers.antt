@@ -4,16 +4,15 @@ use Rattle.call_check.proofs.Answers.{says_on}
 use Rattle.batch_cost.proofs.Hashes.{prices_no, prices_yes}
 use Rattle.batch_cost.proofs.check_prices_at.Goals as goal
 
-pub returns-then-nodes-size-ne-HASH : goal.returns-then-nodes-size-ne-HASH
-returns-then-nodes-size-ne-HASH c =
-    let a = c.args in
-    λ L H. prices_no L a.h H c.requires.1 (rw c.size.ensures at c.if-nodes-size-ne-HASH.true)
+pub returns-then-nodes-h-ne-HASH : goal.returns-then-nodes-h-ne-HASH
+returns-then-nodes-h-ne-HASH c =
+    λ L H. prices_no L c.args.h H c.requires.1 c.if-nodes-h-ne-HASH.true
 
-pub check_pairs_at-requires : goal.check_pairs_at-requires
-check_pairs_at-requires c =
-    (c.requires.0, c.requires.2 (rw c.size.ensures at c.if-nodes-size-ne-HASH.false))
+pub list_of-requires : goal.list_of-requires
+list_of-requires c =
+    c.requires.2 c.if-nodes-h-ne-HASH.false
 
 pub returns : goal.returns
 returns c =
-    let a = c.args in
-    λ L H. says_on c.check_pairs_at.result (check_prices a.h) (check_entries _) L (prices_yes L a.h H c.requires.1 (rw c.size.ensures at c.if-nodes-size-ne-HASH.false)) (c.check_pairs_at.ensures L H.nodes_are H.count_is)
+    let h = c.args.h in
+    λ L H. says_on c.check_entries_at.result (check_prices h) (check_entries _) L (prices_yes L h H c.requires.1 c.if-nodes-h-ne-HASH.false) (rw c.list_of.ensures at (c.check_entries_at.ensures L H.nodes_are H.count_is))

@@ -9,25 +9,23 @@ use Rattle.batch_cost.proofs.last_named.Goals as goal
 pub loop-i-init : goal.loop-i-init
 loop-i-init c =
     let a = c.args in
-    (omega arith, search_start a.nodes.now a.bytes.now a.entries.now (name_at a.nodes.now a.bytes.now a.h))
+    search_start a.nodes.now a.bytes.now a.entries.now (name_at a.nodes.now a.bytes.now a.h)
 
 pub same_name-requires : goal.same_name-requires
 same_name-requires c =
-    (c.requires.1, (c.requires.0 (c.loop-i.i - 1) (omega (arith, c.loop-i-test.true, c.loop-i.invariant.0))).0)
+    (c.requires.1, (c.requires.0 (c.loop-i.i - 1) (omega (arith, c.loop-i-test.true, c.loop-i.auto.i))).0)
 
 pub returns-then-same_name : goal.returns-then-same_name
 returns-then-same_name c =
     let a = c.args in
-    let i = c.loop-i.i in
-    record { value = search_here a.nodes.now a.bytes.now a.entries.now _ i c.loop-i-test.true c.loop-i.invariant.0 (sym c.if-same_name.true ∙ c.same_name.ensures) ∙ sym c.loop-i.invariant.1; result_in_bounds = omega (arith, c.loop-i.invariant.0) }
+    record { value = search_here a.nodes.now a.bytes.now a.entries.now _ c.loop-i.i c.loop-i-test.true c.loop-i.auto.i c.if-same_name.ensures ∙ sym c.loop-i.invariant; result_in_bounds = omega (arith, c.loop-i-test.true, c.loop-i.auto.i) }
 
 pub loop-i-preserved : goal.loop-i-preserved
 loop-i-preserved c =
     let a = c.args in
-    let i = c.loop-i.i in
-    (omega (arith, c.loop-i.invariant.0), c.loop-i.invariant.1 ∙ search_on a.nodes.now a.bytes.now a.entries.now _ i c.loop-i-test.true c.loop-i.invariant.0 (sym c.if-same_name.false ∙ c.same_name.ensures))
+    c.loop-i.invariant ∙ search_on a.nodes.now a.bytes.now a.entries.now _ c.loop-i.i c.loop-i-test.true c.loop-i.auto.i c.if-same_name.ensures
 
 pub returns : goal.returns
 returns c =
     let a = c.args in
-    record { value = search_end a.nodes.now a.bytes.now a.entries.now _ c.loop-i.i c.loop-i-test.false ∙ sym c.loop-i.invariant.1; result_in_bounds = omega arith }
+    record { value = search_end a.nodes.now a.bytes.now a.entries.now _ c.loop-i.i c.loop-i-test.false ∙ sym c.loop-i.invariant; result_in_bounds = tt }

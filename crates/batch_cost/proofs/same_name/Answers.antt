@@ -3,6 +3,7 @@ use native.Mathlib.Omega.{arith}
 use mathlib.Core.Path.{sym, ◌∙◌}
 use lib.ListN.{take, drop}
 use Rattle.definition.specs.Node.{equal}
+use Rattle.store.specs.Laws.{parts_long, says_same}
 use Rattle.batch_cost.proofs.Rows.{names_differ, name_self}
 use Rattle.batch_cost.proofs.same_name.Goals as goal
 
@@ -20,7 +21,7 @@ returns-then-h-k c =
 pub same_bytes-requires : goal.same_bytes-requires
 same_bytes-requires c =
     let p = c.requires in
-    (omega (arith, c.word_at-from.ensures, c.word_at-n.ensures, p.0.stored), omega (arith, c.word_at-to.ensures, c.word_at.ensures, c.if-n-word_at.false, p.1.stored))
+    parts_long _ _ c.word_at-from.result c.word_at-to.result _ _ c.word_at-n.result (omega arith) (omega arith) (omega (arith, c.word_at-from.ensures, c.word_at-n.ensures, p.0.stored)) (omega (arith, c.word_at-to.ensures, c.word_at.ensures, c.if-n-word_at.false, p.1.stored))
 
 pub returns : goal.returns
 returns c =
@@ -29,4 +30,4 @@ returns c =
     let m = c.if-n-word_at.false ∙ c.word_at.ensures in
     let f = c.word_at-from.ensures in
     let t = c.word_at-to.ensures in
-    c.same_bytes.ensures ∙ (λ j. equal (take (n j) (drop (f j) b)) (take (m j) (drop (t j) b)))
+    says_same b b c.word_at-from.result c.word_at-to.result c.word_at-n.result (omega arith) (omega arith) c.same_bytes.ensures ∙ (λ j. equal (take (n j) (drop (f j) b)) (take (m j) (drop (t j) b)))

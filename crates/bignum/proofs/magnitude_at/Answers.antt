@@ -1,30 +1,22 @@
 -- The proof of magnitude_at.
 use native.Mathlib.Omega.{arith}
-use Rattle.bignum.proofs.Laws.{said_none, said_more, said_all, seven}
+use Prim.Native.Nat.{◌+◌, ◌-◌}
+use mathlib.Core.Path.{◌≡◌, sym, ap, ◌∙◌}
+use mathlib.Core.List.{reverse}
+use lib.ListN.{length, take, drop, length-take, length-drop}
+use Rattle.std.specs.Prelude.{fold}
+use Rattle.std.proofs.lemmas.Grind.{common_steps}
+use Rattle.definition.specs.Integer.{little, low_bytes}
+use Rattle.bignum.proofs.Laws.{before, AreBytes, part_bytes, folded, spelled}
 use Rattle.bignum.proofs.magnitude_at.Goals as goal
-
-pub loop-i-init : goal.loop-i-init
-loop-i-init c = let a = c.args in (omega arith, said_none a.input.now a.at a.n c.requires.1)
-
-pub overflow_mul-m : goal.overflow_mul-m
-overflow_mul-m c =
-    let t = c.loop-i in
-    omega (arith, seven c.args.n t.i t.m c.requires.0 c.loop-i-test.true t.invariant.1.small)
-
-pub byte-requires : goal.byte-requires
-byte-requires c = tt
-
-pub overflow_add-m : goal.overflow_add-m
-overflow_add-m c =
-    let t = c.loop-i in
-    omega (arith, seven c.args.n t.i t.m c.requires.0 c.loop-i-test.true t.invariant.1.small, c.byte.ensures.1)
-
-pub loop-i-preserved : goal.loop-i-preserved
-loop-i-preserved c =
-    let t = c.loop-i in
-    let e = c.byte.ensures in
-    (omega arith, rw e.0 (said_more c.args.input.now c.args.at c.args.n c.requires.1 t.i t.m c.loop-i-test.true t.invariant.0 (rw e.0 at e.1) t.invariant.1))
 
 pub returns : goal.returns
 returns c =
-    let t = c.loop-i in let whole = said_all c.args.input.now c.args.at c.args.n t.i t.m (omega arith) t.invariant.1 in record { value = whole.0; input_value = whole.1 }
+    let a = c.args in
+    let l = take a.n (drop a.at a.input.now) in
+    let part : a.at + a.n - a.at ≡ a.n = omega arith in
+    let long : length l ≡ a.n = simp (length-take, length-drop) (omega (arith, c.requires.1)) in
+    let bytes : AreBytes l = part_bytes a.input.now a.at a.n (λ k. (c.type_inv.input k).fits) in
+    let said : c.fold.result ≡ fold before 0 (reverse (take (a.at + a.n - a.at) (drop a.at a.input.now))) = grind (arith, common_steps) in
+    let value : c.fold.result ≡ little l 0 = said ∙ ap (λ k. fold before 0 (reverse (take k (drop a.at a.input.now)))) part ∙ folded l bytes (omega (arith, long, c.requires.0)) in
+    record { value = value; input_value = spelled l bytes ∙ ap (λ k. low_bytes k (little l 0)) long ∙ ap (low_bytes a.n) (sym value) }

@@ -1,15 +1,11 @@
--- What lasts in the loop of check_pair_names, and why it ends.
-use Prim.Native.Nat.{◌-◌, ◌*◌, ◌/◌, ◌≤◌}
+-- What lasts in the loop of check_pair_names.
+use Prim.Native.Nat.{◌*◌}
 use mathlib.Core.Path.{◌≡◌}
-use lib.ListN.{length, drop}
+use lib.ListN.{drop}
 use Rattle.definition.specs.Arena.{firsts}
 use Rattle.definition.specs.Build.{Lent, check_names}
 use Rattle.call_check.proofs.check_pair_names.Given as goal
 
 abbrev pub invariant-loop-i : goal.invariant-loop-i
 invariant-loop-i l =
-    (l.i ≤ length l.pairs / 2) × ((L : Lent) → L.tables.nodes ≡ l.nodes → L.counts.nodes ≡ l.count → check_names (firsts l.pairs) L ≡ check_names (firsts (drop (l.i * 2) l.pairs)) L)
-
-abbrev pub decreases-loop-i : goal.decreases-loop-i
-decreases-loop-i l =
-    length l.pairs / 2 - l.i
+    (L : Lent) → L.tables.nodes ≡ l.nodes → L.counts.nodes ≡ l.count → check_names (firsts l.pairs) L ≡ check_names (firsts (drop (l.i * 2) l.pairs)) L

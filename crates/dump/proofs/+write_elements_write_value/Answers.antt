@@ -1,9 +1,9 @@
 -- The proof of the cycle of write_elements, write_value.
 use native.Mathlib.Omega.{arith}
 use mathlib.Core.Path.{refl}
-use Rattle.writer.specs.Laws.{lead_as, ready_as}
+use Rattle.writer.specs.Laws.{went, lead_as, lead_stop, ready_as}
 use Rattle.writer.proofs.Members.{member_below, value_deep, value_row}
-use Rattle.object_writer.specs.Laws.{head_linked, head_stop, deep_here}
+use Rattle.object_writer.specs.Laws.{head_whole, deep_here}
 use Rattle.dump.proofs.Loops.{turning_start, shorts_go, rest_ready, turned, all_turned, element_deep, element_goes, element_stops, down, down_list, down_value, list_ready, list_stops, no_default, zero_default, default_ready, with_default}
 use Rattle.dump.proofs.+write_elements_write_value.Goals as goal
 
@@ -46,26 +46,26 @@ pub write_elements-bounds-references-start : goal.write_elements-bounds-referenc
 write_elements-bounds-references-start t c =
     omega (arith, c.if-n-j.false, c.requires.fact.2.inside, c.requires.fact.1.references_fit)
 
-pub write_elements-write_value-w-requires : goal.write_elements-write_value-w-requires
-write_elements-write_value-w-requires t c =
+pub write_elements-write_value-requires : goal.write_elements-write_value-requires
+write_elements-write_value-requires t c =
     let a = c.args in
     let R = c.loop-i.invariant in
     let T = turned R _ (λ A room limit L l I. shorts_go a.start a.n a.levels c.loop-i.i _ _ c.if-levels-eq0.false refl c.write_shorts.ensures.goes A room limit L l I R.within) (omega (arith, c.write_shorts.ensures.upper_bound, c.loop-i-test.true)) refl c.write_shorts.auto.output in
-    (down _ _ c.decreases, ready_as (λ A f. (f.0, f.1, member_below a.start a.n _ _ f.1 f.2 c.if-n-j.false c.size.ensures)) T.held)
+    (down _ _ c.decreases, ready_as (λ A f. (f.0, f.1, member_below a.start a.n _ _ f.1 f.2 c.if-n-j.false refl)) T.held)
 
-pub write_elements-returns-then-w-ne-DONE : goal.write_elements-returns-then-w-ne-DONE
-write_elements-returns-then-w-ne-DONE t c =
+pub write_elements-returns-in_err-write_value : goal.write_elements-returns-in_err-write_value
+write_elements-returns-in_err-write_value t c =
     let a = c.args in
     let R = c.loop-i.invariant in
     let T = turned R _ (λ A room limit L l I. shorts_go a.start a.n a.levels c.loop-i.i _ _ c.if-levels-eq0.false refl c.write_shorts.ensures.goes A room limit L l I R.within) (omega (arith, c.write_shorts.ensures.upper_bound, c.loop-i-test.true)) refl c.write_shorts.auto.output in
-    element_stops T _ c.if-n-j.false c.size.ensures c.write_value-w.ensures c.if-w-ne-DONE.true
+    element_stops T _ c.if-n-j.false refl c.from_residual.ensures c.in_err-write_value.ensures
 
 pub write_elements-loop-i-preserved : goal.write_elements-loop-i-preserved
 write_elements-loop-i-preserved t c =
     let a = c.args in
     let R = c.loop-i.invariant in
     let T = turned R _ (λ A room limit L l I. shorts_go a.start a.n a.levels c.loop-i.i _ _ c.if-levels-eq0.false refl c.write_shorts.ensures.goes A room limit L l I R.within) (omega (arith, c.write_shorts.ensures.upper_bound, c.loop-i-test.true)) refl c.write_shorts.auto.output in
-    turned T _ (element_goes T _ c.if-n-j.false c.size.ensures c.write_value-w.ensures c.if-w-ne-DONE.false) (omega (arith, c.if-n-j.false)) c.write_value-w.auto.scratch c.write_value-w.auto.output
+    turned T _ (element_goes T _ c.if-n-j.false refl c.in_ok-write_value.ensures) (omega (arith, c.if-n-j.false)) c.write_value.auto.scratch c.write_value.auto.output
 
 pub write_elements-returns : goal.write_elements-returns
 write_elements-returns t c =
@@ -74,32 +74,32 @@ write_elements-returns t c =
 pub write_value-returns-then-levels-eq0 : goal.write_value-returns-then-levels-eq0
 write_value-returns-then-levels-eq0 t c =
     let a = c.args in
-    λ A room limit l li b. lead_as (value_deep room A limit a.levels a.v c.if-levels-eq0.true) deep_here
+    λ A room limit l li b. lead_as (value_deep room A limit a.levels a.v c.if-levels-eq0.true) (record { leads = deep_here limit })
 
-pub write_value-returns-then-w-eq-WHOLE : goal.write_value-returns-then-w-eq-WHOLE
-write_value-returns-then-w-eq-WHOLE t c =
+pub write_value-returns-in-Whole : goal.write_value-returns-in-Whole
+write_value-returns-in-Whole t c =
     let a = c.args in
-    λ A room limit l li b. lead_as (value_row room A limit a.levels a.v c.if-levels-eq0.false) (head_linked c.if-w-eq-WHOLE.true (c.open_value-w.ensures.heads A room limit l li b))
+    λ A room limit l li b. lead_as (value_row room A limit a.levels a.v c.if-levels-eq0.false) (went (head_whole c.in-Whole.is (c.in_ok-open_value.ensures.heads A room limit l li b)))
 
-pub write_value-returns-then-w-ne-DONE : goal.write_value-returns-then-w-ne-DONE
-write_value-returns-then-w-ne-DONE t c =
+pub write_value-returns-in_err-open_value : goal.write_value-returns-in_err-open_value
+write_value-returns-in_err-open_value t c =
     let a = c.args in
-    λ A room limit l li b. lead_as (value_row room A limit a.levels a.v c.if-levels-eq0.false) (head_stop c.if-w-ne-DONE.true c.if-w-eq-WHOLE.false (c.open_value-w.ensures.heads A room limit l li b))
+    λ A room limit l li b. lead_as (value_row room A limit a.levels a.v c.if-levels-eq0.false) (lead_stop _ c.from_residual.ensures (c.in_err-open_value.ensures.heads A room limit l li b).heads)
 
-pub write_value-write_elements-x-requires : goal.write_value-write_elements-x-requires
-write_value-write_elements-x-requires t c =
+pub write_value-write_elements-requires : goal.write_value-write_elements-requires
+write_value-write_elements-requires t c =
     let a = c.args in
-    (down_list _ _ c.if-levels-eq0.false c.decreases, list_ready a.v a.levels _ _ c.if-levels-eq0.false c.if-w-ne-DONE.false c.size.ensures c.list_words.ensures c.open_value-w.ensures.heads c.open_value-w.ensures.members_in c.requires)
+    (down_list _ _ c.if-levels-eq0.false c.decreases, list_ready a.v a.levels _ _ c.if-levels-eq0.false c.in_default.not-Whole refl c.list_words.ensures c.in_ok-open_value.ensures.heads c.in_ok-open_value.ensures.members_in c.requires)
 
-pub write_value-returns-then-x-ne-DONE : goal.write_value-returns-then-x-ne-DONE
-write_value-returns-then-x-ne-DONE t c =
+pub write_value-returns-in_err-write_elements : goal.write_value-returns-in_err-write_elements
+write_value-returns-in_err-write_elements t c =
     let a = c.args in
-    list_stops a.v a.levels _ _ c.if-levels-eq0.false c.if-w-ne-DONE.false c.size.ensures c.list_words.ensures c.open_value-w.ensures.heads c.open_value-w.ensures.members_in c.write_elements-x.ensures c.if-x-ne-DONE.true
+    list_stops a.v a.levels _ _ c.if-levels-eq0.false c.in_default.not-Whole refl c.list_words.ensures c.in_ok-open_value.ensures.heads c.in_ok-open_value.ensures.members_in c.from_residual-in_err-write_elements.ensures c.in_err-write_elements.ensures
 
 pub write_value-returns-then-k-ne-HASH : goal.write_value-returns-then-k-ne-HASH
 write_value-returns-then-k-ne-HASH t c =
     let a = c.args in
-    no_default a.v a.levels _ _ c.if-levels-eq0.false c.if-w-ne-DONE.false c.size.ensures c.list_words.ensures c.open_value-w.ensures.heads c.open_value-w.ensures.members_in c.write_elements-x.ensures c.if-x-ne-DONE.false c.if-k-ne-HASH.true
+    no_default a.v a.levels _ _ c.if-levels-eq0.false c.in_default.not-Whole refl c.list_words.ensures c.in_ok-open_value.ensures.heads c.in_ok-open_value.ensures.members_in c.in_ok-write_elements.ensures c.if-k-ne-HASH.true
 
 pub write_value-overflow_mul-d : goal.write_value-overflow_mul-d
 write_value-overflow_mul-d t c =
@@ -120,18 +120,18 @@ write_value-bounds-nodes-v-4 t c =
 pub write_value-returns-then-d-eq0 : goal.write_value-returns-then-d-eq0
 write_value-returns-then-d-eq0 t c =
     let a = c.args in
-    zero_default a.v a.levels _ _ c.if-levels-eq0.false c.if-w-ne-DONE.false c.size.ensures c.list_words.ensures c.open_value-w.ensures.heads c.open_value-w.ensures.members_in c.write_elements-x.ensures c.if-x-ne-DONE.false c.if-k-ne-HASH.false c.if-d-eq0.true
+    zero_default a.v a.levels _ _ c.if-levels-eq0.false c.in_default.not-Whole refl c.list_words.ensures c.in_ok-open_value.ensures.heads c.in_ok-open_value.ensures.members_in c.in_ok-write_elements.ensures c.if-k-ne-HASH.false c.if-d-eq0.true
 
-pub write_value-overflow_sub-size : goal.write_value-overflow_sub-size
-write_value-overflow_sub-size t c =
-    omega (arith, c.size-2.ensures, c.if-d-eq0.false)
+pub write_value-overflow_sub-d : goal.write_value-overflow_sub-d
+write_value-overflow_sub-d t c =
+    omega (arith, c.if-d-eq0.false)
 
 pub write_value-write_value-requires : goal.write_value-write_value-requires
 write_value-write_value-requires t c =
     let a = c.args in
-    (down_value _ _ c.if-levels-eq0.false c.decreases, default_ready a.v a.levels _ _ c.if-levels-eq0.false c.if-w-ne-DONE.false c.size.ensures c.list_words.ensures c.open_value-w.ensures.heads c.open_value-w.ensures.members_in c.write_elements-x.ensures c.if-x-ne-DONE.false c.if-k-ne-HASH.false _ c.if-d-eq0.false c.size-2.ensures c.requires)
+    (down_value _ _ c.if-levels-eq0.false c.decreases, default_ready a.v a.levels _ _ c.if-levels-eq0.false c.in_default.not-Whole refl c.list_words.ensures c.in_ok-open_value.ensures.heads c.in_ok-open_value.ensures.members_in c.in_ok-write_elements.ensures c.if-k-ne-HASH.false _ c.if-d-eq0.false refl c.requires)
 
 pub write_value-returns : goal.write_value-returns
 write_value-returns t c =
     let a = c.args in
-    with_default a.v a.levels _ _ c.if-levels-eq0.false c.if-w-ne-DONE.false c.size.ensures c.list_words.ensures c.open_value-w.ensures.heads c.open_value-w.ensures.members_in c.write_elements-x.ensures c.if-x-ne-DONE.false c.if-k-ne-HASH.false _ c.if-d-eq0.false c.size-2.ensures c.write_value.ensures
+    with_default a.v a.levels _ _ c.if-levels-eq0.false c.in_default.not-Whole refl c.list_words.ensures c.in_ok-open_value.ensures.heads c.in_ok-open_value.ensures.members_in c.in_ok-write_elements.ensures c.if-k-ne-HASH.false _ c.if-d-eq0.false refl c.write_value.ensures

@@ -1,11 +1,12 @@
 -- The proof of refusal.
-use Rattle.dump.proofs.Whole.{full_stop, deep_stop}
+use mathlib.Core.Path.{sym, ap}
+use Rattle.writer.specs.Held.{stopped}
 use Rattle.dump.proofs.refusal.Goals as goal
 
-pub returns-then-w-eq-FULL : goal.returns-then-w-eq-FULL
-returns-then-w-eq-FULL c =
-    full_stop c.args.limit c.args.w c.if-w-eq-FULL.true
+pub returns-in-NoSpace : goal.returns-in-NoSpace
+unfolding stopped
+returns-in-NoSpace c = sym (ap (stopped c.args.limit) c.in-NoSpace.is)
 
-pub returns : goal.returns
-returns c =
-    deep_stop c.args.limit c.args.w c.requires c.if-w-eq-FULL.false
+pub returns-in-TooDeep : goal.returns-in-TooDeep
+unfolding stopped
+returns-in-TooDeep c = sym (ap (stopped c.args.limit) c.in-TooDeep.is)

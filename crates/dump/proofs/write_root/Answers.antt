@@ -3,32 +3,14 @@ use Rattle.writer.specs.Laws.{ready}
 use Rattle.dump.proofs.Whole.{no_first, no_second, wholly}
 use Rattle.dump.proofs.write_root.Goals as goal
 
-pub returns-then-a-ne-DONE : goal.returns-then-a-ne-DONE
-returns-then-a-ne-DONE c =
-    λ A room l li b e. no_first (c.write_byte-a.ensures A room _ _) c.if-a-ne-DONE.true
+pub returns-in_err-write_byte : goal.returns-in_err-write_byte
+returns-in_err-write_byte c = λ A room l li b e. no_first c.from_residual.ensures (c.in_err-write_byte.ensures A room _ _)
 
-pub returns-then-b-ne-DONE : goal.returns-then-b-ne-DONE
-returns-then-b-ne-DONE c =
-    let write_byte = c.write_byte-a in
-    let if1 = c.if-a-ne-DONE in
-    let write-byte2 = c.write_byte-b in
-    λ A room l li b e. no_second (write_byte.ensures A room _ _) if1.false (write-byte2.ensures A room _ _) c.if-b-ne-DONE.true
+pub returns-in_err-write_byte-2 : goal.returns-in_err-write_byte-2
+returns-in_err-write_byte-2 c = λ A room l li b e. no_second (c.in_ok-write_byte.ensures A room _ _) c.from_residual-in_err-write_byte-2.ensures (c.in_err-write_byte-2.ensures A room _ _)
 
 pub write_value-requires : goal.write_value-requires
-write_value-requires c =
-    let pre = c.requires in
-    let if1 = c.if-a-ne-DONE in
-    let write_byte = c.write_byte-a in
-    let if2 = c.if-b-ne-DONE in
-    let write-byte2 = c.write_byte-b in
-    ready _ _ (ready _ _ pre if1.false (λ A room f. write_byte.ensures A room 0 _)) if2.false (λ A room f. write-byte2.ensures A room 0 _)
+write_value-requires c = ready _ _ (ready _ _ c.requires (λ A room f. c.in_ok-write_byte.ensures A room 0 _)) (λ A room f. c.in_ok-write_byte-2.ensures A room 0 _)
 
 pub returns : goal.returns
-returns c =
-    let write_byte = c.write_byte-a in
-    let if1 = c.if-a-ne-DONE in
-    let write-byte2 = c.write_byte-b in
-    let if2 = c.if-b-ne-DONE in
-    let write_value = c.write_value in
-    let args = c.args in
-    λ A room l li b e. wholly (write_byte.ensures A room _ _) if1.false (write-byte2.ensures A room _ _) if2.false e (write_value.ensures A room args.limit l li b)
+returns c = λ A room l li b e. wholly (c.in_ok-write_byte.ensures A room _ _) (c.in_ok-write_byte-2.ensures A room _ _) e (c.write_value.ensures A room c.args.limit l li b)

@@ -7,9 +7,9 @@ use Rattle.definition.specs.Node.{width, DEFAULT}
 use Rattle.definition.specs.Arena.{Arena}
 use Rattle.definition.specs.Dump.{write_level, write_value, hash_byte}
 use Rattle.writer.specs.Laws.{ready_as}
-use Rattle.object_writer.specs.Laws.{unclassed, lead_head, head_as, head_whole}
+use Rattle.object_writer.specs.Laws.{unclassed, head_stop, head_as, head_done}
 use Rattle.dumper.proofs.Heads.{is_object, array_row, hash_row, low_kind, array_open, hash_open, default_byte, in_array, in_hash}
-use Rattle.dumper.proofs.Bodies.{here, answers_as, class_ready, array_class, hash_class, no_class, float_inside, float_first, bignum_first}
+use Rattle.dumper.proofs.Bodies.{here, answers_as, first_stops, ended, class_ready, array_class, hash_class, no_class, float_inside, float_first, bignum_first}
 use mathlib.Core.Path.{◌≡◌, ◌∙◌}
 use Rattle.dumper.proofs.open_value.Goals.{then-nodes-v-eq0, else-nodes-v-eq0}
 use Rattle.dumper.proofs.open_value.Goals as goal
@@ -109,29 +109,35 @@ returns-in-8 c =
     let open-user-defined = c.open_user_defined in
     record { heads = answers_as h _ 8 kinds.is open-user-defined.ensures.heads; members_in = open-user-defined.ensures.members_in }
 
-pub returns-in-9 : goal.returns-in-9
-returns-in-9 c =
+pub returns-in_err-open_text-in-9-clause-heads : goal.returns-in_err-open_text-in-9-clause-heads
+returns-in_err-open_text-in-9-clause-heads c =
     let h = here c.args.nodes.now c.args.references.now c.args.bytes.now c.args.v c.args.levels in
-    let kinds = c.in-9 in
-    let open-text = c.open_text in
-    let w = c.whole.ensures in
-    record { heads = λ A room limit l li b. head_whole w.value.0 w.value.1 (float_first h kinds.is open-text.ensures A room limit l li b); members_in = λ A l b e. absurd (w.fact e) }
+    first_stops h _ _ c.from_residual.ensures (float_first h c.in-9.is c.in_err-open_text-in-9.ensures)
 
-pub returns-in-10 : goal.returns-in-10
-returns-in-10 c =
+pub returns-in_ok-open_text-in-9-clause-heads : goal.returns-in_ok-open_text-in-9-clause-heads
+returns-in_ok-open_text-in-9-clause-heads c =
     let h = here c.args.nodes.now c.args.references.now c.args.bytes.now c.args.v c.args.levels in
-    let kinds = c.in-10 in
-    let open-bignum = c.open_bignum in
-    let w = c.whole-in-10.ensures in
-    record { heads = λ A room limit l li b. head_whole w.value.0 w.value.1 (bignum_first h kinds.is open-bignum.ensures A room limit l li b); members_in = λ A l b e. absurd (w.fact e) }
+    ended h _ (λ A room limit L l b. head_done (float_first h c.in-9.is c.in_ok-open_text-in-9.ensures A room limit L l b))
 
-pub returns-in_default : goal.returns-in_default
-returns-in_default c =
+pub returns-in_err-open_bignum-in-10-clause-heads : goal.returns-in_err-open_bignum-in-10-clause-heads
+returns-in_err-open_bignum-in-10-clause-heads c =
+    let h = here c.args.nodes.now c.args.references.now c.args.bytes.now c.args.v c.args.levels in
+    first_stops h _ _ c.from_residual-in_err-open_bignum-in-10.ensures (bignum_first h c.in-10.is c.in_err-open_bignum-in-10.ensures)
+
+pub returns-in_ok-open_bignum-in-10-clause-heads : goal.returns-in_ok-open_bignum-in-10-clause-heads
+returns-in_ok-open_bignum-in-10-clause-heads c =
+    let h = here c.args.nodes.now c.args.references.now c.args.bytes.now c.args.v c.args.levels in
+    ended h _ (λ A room limit L l b. head_done (bignum_first h c.in-10.is c.in_ok-open_bignum-in-10.ensures A room limit L l b))
+
+pub returns-in_err-write_scalar-in_default-clause-heads : goal.returns-in_err-write_scalar-in_default-clause-heads
+returns-in_err-write_scalar-in_default-clause-heads c =
     let a = c.args in
-    let write-scalar = c.write_scalar in
-    let w = c.whole-in_default.ensures in record {
-      heads = λ A room limit l li b.
-          head_whole w.value.0 w.value.1
-          (lead_head (write-scalar.ensures A room limit (write_level limit a.levels) (write_value room A limit a.levels) l b (low_kind l.noded a.v b (λ e. omega (arith, e)) (λ e. omega (arith, e)) (λ e. omega (arith, e)) (λ e. omega (arith, e)) (λ e. omega (arith, e)) (λ e. omega (arith, e)) (λ e. omega (arith, e)))));
-      members_in = λ A l b e. absurd (w.fact e);
-    }
+    λ A room limit l li b.
+    head_stop _ c.from_residual-in_err-write_scalar-in_default.ensures
+    (c.in_err-write_scalar-in_default.ensures A room limit (write_level limit a.levels) (write_value room A limit a.levels) l b (low_kind l.noded a.v b (λ e. omega (arith, e)) (λ e. omega (arith, e)) (λ e. omega (arith, e)) (λ e. omega (arith, e)) (λ e. omega (arith, e)) (λ e. omega (arith, e)) (λ e. omega (arith, e)))).leads
+
+pub returns-in_ok-write_scalar-in_default-clause-heads : goal.returns-in_ok-write_scalar-in_default-clause-heads
+returns-in_ok-write_scalar-in_default-clause-heads c =
+    let a = c.args in
+    λ A room limit l li b.
+    record { heads = (c.in_ok-write_scalar-in_default.ensures A room limit (write_level limit a.levels) (write_value room A limit a.levels) l b (low_kind l.noded a.v b (λ e. omega (arith, e)) (λ e. omega (arith, e)) (λ e. omega (arith, e)) (λ e. omega (arith, e)) (λ e. omega (arith, e)) (λ e. omega (arith, e)) (λ e. omega (arith, e)))).leads }

@@ -7,7 +7,7 @@ use Rattle.definition.specs.Run.{pick}
 use Rattle.definition.specs.Node.{nil, bool, words, kind}
 use Rattle.definition.specs.Load.{head, value_of, Nil, True, False, Fixnum, Symbol, SymbolLink, ObjectLink, UserDefined, Bignum, Unknown}
 use Rattle.definition.specs.declared.Refusal.TheVariants.{InvalidKind}
-use Rattle.reader.specs.Answers.{at_kind}
+use Rattle.std.proofs.lemmas.Result.{IfOk-weaker}
 use Rattle.load_state.specs.Laws.{refuses}
 use Rattle.input_reader.proofs.Heads.{headed}
 use Rattle.leaf_reader.proofs.Leaves.{plain, other_byte, text_headed, other}
@@ -42,19 +42,19 @@ pub returns-in-48 : goal.returns-in-48
 unfolding head pick value_of kind words
 returns-in-48 c =
     let k = c.add_node.ensures in
-    record { meets = λ room limit inner re l u. plain inner u (other_byte c.in-48.is (omega arith)) (headed inner c.args.k Nil (ap head c.in-48.is) (k.by_index _ room limit nil _ _ _ _ refl nil_plain)); upper_bound = λ l. (k.upper_bound l).0 }
+    record { meets = λ room limit inner re l u. plain inner u (other_byte c.in-48.is (omega arith)) (headed inner c.args.k Nil (ap head c.in-48.is) (k.by_index _ room limit nil _ _ _ _ refl nil_plain)); upper_bound = IfOk-weaker c.add_node.result _ _ (λ h q. q.0) k.upper_bound }
 
 pub returns-in-84 : goal.returns-in-84
 unfolding head pick value_of kind words
 returns-in-84 c =
     let k = c.add_node-in-84.ensures in
-    record { meets = λ room limit inner re l u. plain inner u (other_byte c.in-84.is (omega arith)) (headed inner c.args.k True (ap head c.in-84.is) (k.by_index _ room limit (bool true) _ _ _ _ refl (other_kind (bool true) refl))); upper_bound = λ l. (k.upper_bound l).0 }
+    record { meets = λ room limit inner re l u. plain inner u (other_byte c.in-84.is (omega arith)) (headed inner c.args.k True (ap head c.in-84.is) (k.by_index _ room limit (bool true) _ _ _ _ refl (other_kind (bool true) refl))); upper_bound = IfOk-weaker c.add_node-in-84.result _ _ (λ h q. q.0) k.upper_bound }
 
 pub returns-in-70 : goal.returns-in-70
 unfolding head pick value_of kind words
 returns-in-70 c =
     let k = c.add_node-in-70.ensures in
-    record { meets = λ room limit inner re l u. plain inner u (other_byte c.in-70.is (omega arith)) (headed inner c.args.k False (ap head c.in-70.is) (k.by_index _ room limit (bool false) _ _ _ _ refl (other_kind (bool false) refl))); upper_bound = λ l. (k.upper_bound l).0 }
+    record { meets = λ room limit inner re l u. plain inner u (other_byte c.in-70.is (omega arith)) (headed inner c.args.k False (ap head c.in-70.is) (k.by_index _ room limit (bool false) _ _ _ _ refl (other_kind (bool false) refl))); upper_bound = IfOk-weaker c.add_node-in-70.result _ _ (λ h q. q.0) k.upper_bound }
 
 pub returns-in-64 : goal.returns-in-64
 unfolding head pick value_of
@@ -83,6 +83,6 @@ returns-in_default c =
           plain inner u (λ e. r.0.0.0.0.0.0.0.1 (inl e)) (headed inner c-args.k Unknown
           (other c-args.k l r.0.0.0.0.0.0.0.0.0.1 r.0.0.0.0.0.0.0.0.1 r.0.0.0.0.0.0.0.1 r.0.0.0.0.0.0.1
           r.0.0.0.0.0.1 r.0.0.0.0.1 r.0.0.0.1 r.0.0.1 r.0.1 r.1)
-          (refuses (InvalidKind c-args.k) (omega arith) (at_kind limit c-args.k (omega arith))));
-      upper_bound = λ l. absurd (omega arith);
+          (refuses (InvalidKind c-args.k) (c.invalid_kind.ensures limit)));
+      upper_bound = tt;
     }

@@ -2,6 +2,7 @@
 use native.Mathlib.Omega.{arith}
 use mathlib.Core.Path.{refl}
 use mathlib.Core.Bool.{false}
+use Rattle.std.proofs.lemmas.Result.{IfOk-weaker}
 use Rattle.definition.specs.Magnitude.{bignum_row}
 use Rattle.definition.specs.Load.{read_magnitude}
 use Rattle.definition.specs.Node.{kind, bignum}
@@ -15,14 +16,14 @@ pub returns-then-m-ge-TOO_BIG : goal.returns-then-m-ge-TOO_BIG
 returns-then-m-ge-TOO_BIG c =
     let p = c.requires in
     let e = c.magnitude_at-m.ensures in
-    record { meets = λ room limit re by sy. magnitude_over _ _ _ p.2 p.1 p.3.3.holds.fixed.ten e.value e.input_value c.if-m-ge-TOO_BIG.true; upper_bound = λ l. absurd (omega arith) }
+    record { meets = λ room limit re by sy. magnitude_over _ _ _ p.2 p.1 e.value e.input_value c.if-m-ge-TOO_BIG.true (c.too_big.ensures limit); upper_bound = tt }
 
 pub add_object_node-requires : goal.add_object_node-requires
 add_object_node-requires c =
     let p = c.requires in
     let e = c.magnitude_at-m.ensures in
-    let G = held_goes {m = λ room. read_magnitude _ room _ _} {m' = λ room. _} p.3.3 (λ room. then (magnitude_read _ _ _ p.2 p.1 p.3.3.holds.fixed.ten e.value e.input_value c.if-m-ge-TOO_BIG.false) (c.note_bignum.ensures _ room _)) in
-    (omega (arith, p.3.3), space_fits G, G.holds.fixed.ten)
+    let G = held_goes {m = λ room. read_magnitude _ room _ _} {m' = λ room. _} p.3.3 (λ room. then (magnitude_read _ _ _ p.2 p.1 e.value e.input_value c.if-m-ge-TOO_BIG.false) (c.note_bignum.ensures _ room _)) in
+    (omega (arith, p.3.3), space_fits G)
 
 pub returns : goal.returns
 unfolding kind bignum_row
@@ -31,7 +32,7 @@ returns c =
     let e = c.magnitude_at-m.ensures in
     let o = c.add_object_node.ensures in record {
       meets = λ room limit re by sy.
-          lead_after (magnitude_read _ _ _ p.2 p.1 p.3.3.holds.fixed.ten e.value e.input_value c.if-m-ge-TOO_BIG.false)
+          lead_after (magnitude_read _ _ _ p.2 p.1 e.value e.input_value c.if-m-ge-TOO_BIG.false)
           (lead_after (c.note_bignum.ensures _ room _) (o.by_index _ room limit _ re by sy c.sign_word.ensures (other_kind (bignum 0 0 false) refl)));
-      upper_bound = λ l. (o.upper_bound l).0;
+      upper_bound = IfOk-weaker c.add_object_node.result _ _ (λ h q. q.0) o.upper_bound;
     }

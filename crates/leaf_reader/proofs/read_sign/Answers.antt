@@ -1,14 +1,12 @@
 -- The proof of read_sign.
-use native.Mathlib.Omega.{arith}
 use mathlib.Core.Path.{refl}
 use Rattle.leaf_reader.proofs.Bignums.{sign_answered, sign_said, sign_missing}
 use Rattle.leaf_reader.proofs.read_sign.Goals as goal
 
 pub returns-then-input-at : goal.returns-then-input-at
-returns-then-input-at c = record { meets = λ room limit T. sign_missing c.if-input-at.true; fact = λ l. absurd (omega arith) }
+returns-then-input-at c = record { meets = λ room limit T. sign_missing c.if-input-at.true; fact = tt }
 
 pub returns : goal.returns
 returns c =
     let e = c.sign_byte.ensures in
-    let l = c.if-input-at.false in
-    record { meets = λ room limit T. sign_answered _ refl l _ e.0 e.1 e.2; fact = sign_said _ _ e.0 e.1 }
+    record { meets = λ room limit T. sign_answered _ refl c.if-input-at.false _ e; fact = sign_said _ _ e }

@@ -1,5 +1,4 @@
--- What lasts in the loop of find_named, and why it ends.
-use Prim.Native.Nat.{◌-◌, ◌≤◌}
+-- What lasts in the loop of find_named.
 use mathlib.Core.Path.{◌≡◌}
 use lib.ListN.{drop, take}
 use Rattle.definition.specs.Node.{rows}
@@ -9,8 +8,4 @@ use Rattle.node_adder.proofs.find_named.Given as goal
 
 abbrev pub invariant-loop-i : goal.invariant-loop-i
 invariant-loop-i l =
-    (l.i ≤ l.count) × ((A : Arena) → A.nodes ≡ rows l.count l.nodes → A.bytes ≡ take l.stored l.bytes → SymbolsIn A → find_symbol A.bytes l.name A.nodes 0 ≡ find_symbol A.bytes l.name (drop l.i A.nodes) l.i)
-
-abbrev pub decreases-loop-i : goal.decreases-loop-i
-decreases-loop-i l =
-    l.count - l.i
+    (A : Arena) → A.nodes ≡ rows l.count l.nodes → A.bytes ≡ take l.stored l.bytes → SymbolsIn A → find_symbol A.bytes l.name A.nodes 0 ≡ find_symbol A.bytes l.name (drop l.i A.nodes) l.i

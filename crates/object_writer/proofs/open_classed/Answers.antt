@@ -1,21 +1,27 @@
 -- The proof of open_classed.
 use Rattle.definition.specs.Run.{pure}
 use Rattle.writer.specs.Laws.{ready_as}
-use Rattle.object_writer.specs.Laws.{head_goes, head_keep, ready_head}
-use Rattle.object_writer.proofs.Openings.{next_stops, next_done, next_last}
+use Rattle.object_writer.specs.Laws.{head_goes, head_whole, head_stop, ready_head}
+use Rattle.object_writer.proofs.Openings.{next_stops, next_done}
 use Rattle.object_writer.proofs.open_classed.Goals as goal
 
-pub number_object-w-requires : goal.number_object-w-requires
-number_object-w-requires c = ready_as (λ A f. f.1) c.requires
+pub number_object-requires : goal.number_object-requires
+number_object-requires c = ready_as (λ A f. f.1) c.requires
 
-pub returns-then-w-ne-DONE : goal.returns-then-w-ne-DONE
-returns-then-w-ne-DONE c = λ A room limit l o w rest. head_keep c.if-w-ne-DONE.true (c.number_object-w.ensures A room limit o _)
+pub returns-in_err-number_object : goal.returns-in_err-number_object
+returns-in_err-number_object c = λ A room limit l o w rest. head_stop _ c.from_residual.ensures (c.in_err-number_object.ensures A room limit o _).heads
 
-pub write_class-s-requires : goal.write_class-s-requires
-write_class-s-requires c = ready_as (λ A f. (f.0, f.2)) (ready_head _ _ c.requires c.if-w-ne-DONE.false (λ A room f. c.number_object-w.ensures A room 0 f.1 (pure tt)))
+pub returns-in-Whole : goal.returns-in-Whole
+returns-in-Whole c = λ A room limit l o w rest. record { heads = head_whole c.in-Whole.is (c.in_ok-number_object.ensures A room limit o _) }
 
-pub returns-then-s-ne-DONE : goal.returns-then-s-ne-DONE
-returns-then-s-ne-DONE c = λ A room limit l o w rest. next_stops _ (head_goes c.if-w-ne-DONE.false (c.number_object-w.ensures A room limit o _)) (c.write_class-s.ensures A room limit l w) c.if-s-ne-DONE.true
+pub write_class-requires : goal.write_class-requires
+write_class-requires c = ready_as (λ A f. (f.0, f.2)) (ready_head _ _ c.requires c.in_default.not-Whole (λ A room f. c.in_ok-number_object.ensures A room 0 f.1 (pure tt)))
+
+pub returns-in_err-write_class : goal.returns-in_err-write_class
+returns-in_err-write_class c = λ A room limit l o w rest. next_stops _ (head_goes c.in_default.not-Whole (c.in_ok-number_object.ensures A room limit o _)) c.from_residual-in_err-write_class.ensures (c.in_err-write_class.ensures A room limit l w)
+
+pub returns-in_err-write_tagged : goal.returns-in_err-write_tagged
+returns-in_err-write_tagged c = λ A room limit l o w rest. next_stops _ (next_done _ (head_goes c.in_default.not-Whole (c.in_ok-number_object.ensures A room limit o _)) (c.in_ok-write_class.ensures A room limit l w)) c.from_residual-in_err-write_tagged.ensures (c.in_err-write_tagged.ensures A room limit _)
 
 pub returns : goal.returns
-returns c = λ A room limit l o w rest. next_last rest (next_done _ (head_goes c.if-w-ne-DONE.false (c.number_object-w.ensures A room limit o _)) (c.write_class-s.ensures A room limit l w) c.if-s-ne-DONE.false) (c.write_tagged.ensures A room limit _)
+returns c = λ A room limit l o w rest. record { heads = next_done rest (next_done _ (head_goes c.in_default.not-Whole (c.in_ok-number_object.ensures A room limit o _)) (c.in_ok-write_class.ensures A room limit l w)) (c.in_ok-write_tagged.ensures A room limit _) }

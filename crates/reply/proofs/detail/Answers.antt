@@ -1,15 +1,11 @@
 -- The proof of detail.
-use Prim.Native.Nat.{ℕ, ◌-◌}
-use mathlib.Core.Path.{sym, ap, ◌∙◌}
-use Rattle.reply.proofs.Words.{below, not_below}
+use mathlib.Core.Path.{ap, ◌∙◌}
+use mir.Syntax.{w64}
+use mir.Val.{of_z}
+use mir.Facts.{to_z-of_z}
+use Rattle.reply.proofs.Words.{cast_word}
 use Rattle.reply.proofs.detail.Goals as goal
 
-pub returns-then-size-eq0 : goal.returns-then-size-eq0
-returns-then-size-eq0 c =
-    sym (ap (λ (x : ℕ). 18446744073709551615 - (x - 1)) c.if-size-eq0.true) ∙ below _ _ c.if-below.true
-
-pub returns-then-below : goal.returns-then-below
-returns-then-below c = below _ _ c.if-below.true
-
 pub returns : goal.returns
-returns c = not_below _ _ c.if-below.false
+returns c =
+    c.cast_unsigned.ensures ∙ ap (of_z w64) (to_z-of_z c.ranges.n) ∙ cast_word c.args.n

@@ -1,14 +1,11 @@
 -- The proof of read_hashed.
 use native.Mathlib.Omega.{arith}
 use native.Mathlib.Nat.{mod-lt}
-use mathlib.Core.Path.{◌≡◌, ap, ◌∙◌, refl}
+use mathlib.Core.Path.{◌≡◌, ap, refl}
 use mathlib.Core.List.{[]}
 use lib.ListN.{length}
-use lib.Seq.{get_or-set_other}
-use Prim.Native.Nat.{◌+◌}
-use Rattle.load_state.specs.Holds.{at_of, looked_of}
-use Rattle.load_state.specs.Laws.{lead_stop}
-use Rattle.symbol_reader.proofs.Hashed.{Sought, list_symbolic, known_below, at_after, held_after, hashed_meets}
+use Rattle.lists.specs.Runs.{err_is}
+use Rattle.symbol_reader.proofs.Hashed.{Sought, list_symbolic, known_below, held_after, hashed_meets, hashed_stop}
 use Rattle.symbol_search.proofs.Probing.{looked_fits}
 use Rattle.symbol_reader.proofs.read_hashed.Goals as goal
 
@@ -41,27 +38,24 @@ pub bounds-buckets-i : goal.bounds-buckets-i
 bounds-buckets-i c =
     c.word_on-i.ensures.1
 
-pub intern_symbol-r-requires : goal.intern_symbol-r-requires
-intern_symbol-r-requires c =
+pub intern_symbol-requires : goal.intern_symbol-requires
+intern_symbol-requires c =
     let a = c.args in
     let p = c.requires in
-    let k = a.c.now in
     -- what the search has come to
     let S : Sought a.input.now a.nodes.now a.bytes.now a.symbols.now a.buckets.now a.c.now a.n c.fnv_1a.result c.probe-p.result c.word_on-i.result c.symbol_in.result =
     record { inside = c.requires.0; words = c.requires.1; hash = c.fnv_1a.ensures; probe = λ room s re ob m G. c.probe-p.ensures.probe room s re _ ob m G; place = c.word_on-i.ensures.0; zero = c.symbol_in.ensures.0; other = c.symbol_in.ensures.1 } in
     let H = p.2.2 in
-    let e = at_after S H in
-    (omega (arith, e), omega (arith, e, p.0), omega arith, λ l. omega (arith, known_below S H l, get_or-set_other k 0 1 (at_of k + a.n) 0 (omega arith)), (p.2.0, p.2.1, held_after S H))
+    (omega arith, p.0, known_below S H, (p.2.0, p.2.1, held_after S H))
 
-pub returns-then-r-ge-REFUSED : goal.returns-then-r-ge-REFUSED
-returns-then-r-ge-REFUSED c =
+pub returns-in_err-r : goal.returns-in_err-r
+returns-in_err-r c =
     let a = c.args in
-    let k = a.c.now in
     -- what the search has come to
     let S : Sought a.input.now a.nodes.now a.bytes.now a.symbols.now a.buckets.now a.c.now a.n c.fnv_1a.result c.probe-p.result c.word_on-i.result c.symbol_in.result =
     record { inside = c.requires.0; words = c.requires.1; hash = c.fnv_1a.ensures; probe = λ room s re ob m G. c.probe-p.ensures.probe room s re _ ob m G; place = c.word_on-i.ensures.0; zero = c.symbol_in.ensures.0; other = c.symbol_in.ensures.1 } in
     let H = c.requires.2.2 in
-    record { meets = λ room limit re ob. lead_stop c.if-r-ge-REFUSED.true (hashed_meets S H (c.intern_symbol-r.ensures.meets room limit re ob (λ l s m z G. list_symbolic S H l (z ∙ get_or-set_other k 0 4 (at_of k + a.n) 0 (omega arith)) G))); upper_bound = λ l. absurd (omega (arith, l, c.if-r-ge-REFUSED.true)) }
+    rw (err_is c.from_residual.result c.from_residual.ensures.1) (record { meets = λ room limit re ob. hashed_stop S H (c.in_err-r.ensures.meets room limit re ob (λ s m z G. list_symbolic S H z G)); upper_bound = tt })
 
 pub offset_bounds-buckets-i-2 : goal.offset_bounds-buckets-i-2
 offset_bounds-buckets-i-2 c =
@@ -77,8 +71,7 @@ bounds-buckets-i-2 c =
 pub returns : goal.returns
 returns c =
     let a = c.args in
-    let k = a.c.now in
     -- what the search has come to
     let S : Sought a.input.now a.nodes.now a.bytes.now a.symbols.now a.buckets.now a.c.now a.n c.fnv_1a.result c.probe-p.result c.word_on-i.result c.symbol_in.result =
     record { inside = c.requires.0; words = c.requires.1; hash = c.fnv_1a.ensures; probe = λ room s re ob m G. c.probe-p.ensures.probe room s re _ ob m G; place = c.word_on-i.ensures.0; zero = c.symbol_in.ensures.0; other = c.symbol_in.ensures.1 } in
-    let H = c.requires.2.2 in record { meets = λ room limit re ob. hashed_meets S H (c.intern_symbol-r.ensures.meets room limit re ob (λ l s m z G. list_symbolic S H l (z ∙ get_or-set_other k 0 4 (at_of k + a.n) 0 (omega arith)) G)); upper_bound = λ l. omega (arith, c.intern_symbol-r.ensures.upper_bound l, get_or-set_other c.intern_symbol-r.new.c 8 1 (looked_of k + (c.probe-p.result + 1)) 0 (omega arith)) }
+    let H = c.requires.2.2 in record { meets = λ room limit re ob. hashed_meets S H (c.in_ok-r.ensures.meets room limit re ob (λ s m z G. list_symbolic S H z G)); upper_bound = c.in_ok-r.ensures.upper_bound }

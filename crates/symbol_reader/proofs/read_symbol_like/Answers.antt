@@ -1,14 +1,13 @@
 -- The proof of read_symbol_like.
-use native.Mathlib.Omega.{arith}
 use Rattle.definition.specs.Load.{read_byte}
-use Rattle.load_state.specs.Laws.{held_goes, lead_after, met_as}
+use Rattle.load_state.specs.Laws.{held_goes, lead_after}
 use Rattle.symbol_reader.proofs.Names.{like_symbol, like_link, like_neither, like_missing}
 use Rattle.input_reader.proofs.Input.{byte_goes}
 use Rattle.symbol_reader.proofs.read_symbol_like.Goals as goal
 
 pub returns-then-input-at : goal.returns-then-input-at
 returns-then-input-at c =
-    record { meets = λ room limit re ob. like_missing c.if-input-at.true; upper_bound = λ l. absurd (omega arith) }
+    record { meets = λ room limit re ob. like_missing c.if-input-at.true; upper_bound = tt }
 
 pub read_symbol-requires : goal.read_symbol-requires
 read_symbol-requires c =
@@ -20,16 +19,15 @@ read_symbol_link-requires c =
 
 pub returns-in-58 : goal.returns-in-58
 returns-in-58 c =
-    let c-read-symbol = c.read_symbol in
-    record { meets = λ room limit re ob. lead_after (like_symbol c.if-input-at.false c.in-58.is) (c-read-symbol.ensures.meets room limit re ob); upper_bound = c-read-symbol.ensures.upper_bound }
+    let r = c.read_symbol.ensures in
+    record { meets = λ room limit re ob. lead_after (like_symbol c.if-input-at.false c.in-58.is) (r.meets room limit re ob); upper_bound = r.upper_bound }
 
 pub returns-in-59 : goal.returns-in-59
 returns-in-59 c =
-    let c-read-symbol-link = c.read_symbol_link in
-    record { meets = λ room limit re ob. lead_after (like_link c.if-input-at.false c.in-59.is) (c-read-symbol-link.ensures.meets room limit _ re _ ob _); upper_bound = c-read-symbol-link.ensures.upper_bound }
+    let r = c.read_symbol_link.ensures in
+    record { meets = λ room limit re ob. lead_after (like_link c.if-input-at.false c.in-59.is) (r.meets room limit _ re _ ob _); upper_bound = r.upper_bound }
 
 pub returns-in_default : goal.returns-in_default
 returns-in_default c =
     let r = c.in_default.in_default-own.rest in
-    let q = c.not_a_symbol.ensures in
-    record { meets = λ room limit re ob. met_as q.0 (like_neither c.if-input-at.false q.1 r.0.1 r.1); upper_bound = λ l. absurd (omega (arith, q.0, l)) }
+    record { meets = λ room limit re ob. like_neither c.if-input-at.false (c.not_a_symbol.ensures limit) r.0.1 r.1; upper_bound = tt }

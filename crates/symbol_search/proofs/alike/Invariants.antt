@@ -1,5 +1,5 @@
--- What lasts in the loop of alike, and why it ends.
-use Prim.Native.Nat.{◌+◌, ◌-◌, ◌≤◌}
+-- What lasts in the loop of alike.
+use Prim.Native.Nat.{◌+◌, ◌≤◌}
 use mathlib.Core.Path.{◌≡◌}
 use lib.ListN.{take, drop}
 use Rattle.definition.specs.Node.{equal}
@@ -9,6 +9,3 @@ use Rattle.symbol_search.proofs.alike.Given as goal
 abbrev pub invariant-loop-i : goal.invariant-loop-i
 invariant-loop-i l =
     (l.i ≤ l.n) × (equal (take l.n (drop l.from l.input)) (take l.n (drop l.to l.bytes)) ≡ equal (drop l.i (take l.n (drop l.from l.input))) (drop l.i (take l.n (drop l.to l.bytes)))) × (bytes_compared (take l.n (drop l.from l.input)) (take l.n (drop l.to l.bytes)) ≡ l.i + bytes_compared (drop l.i (take l.n (drop l.from l.input))) (drop l.i (take l.n (drop l.to l.bytes))))
-
-abbrev pub decreases-loop-i : goal.decreases-loop-i
-decreases-loop-i l = l.n - l.i

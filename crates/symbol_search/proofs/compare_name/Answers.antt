@@ -1,8 +1,6 @@
 -- The proof of compare_name.
 use native.Mathlib.Omega.{arith}
 use mathlib.Core.Path.{sym}
-use Prim.Native.Nat.{◌+◌, ◌*◌}
-use Rattle.definition.specs.Node.{width, START}
 use Rattle.symbol_search.proofs.Turns.{compared_by}
 use Rattle.load_state.specs.Needs.{length_span}
 use Rattle.symbol_search.proofs.Looked.{node_inside, other_length, by_bytes, symbol_inside}
@@ -20,16 +18,12 @@ returns-then-nodes-base c =
     let z = length_span a.input.now a.at a.n p.0 p.1 in
     λ room st re sy ob k y G.
     let o = other_length G a.h y _ a.n z c.if-nodes-base.true in
-    record { same = λ l. absurd (omega (arith, l)); other = λ l. (sym o.0, omega (arith, o.1)) }
+    (sym o.0, o.1)
 
 pub bounds-nodes-base-2 : goal.bounds-nodes-base-2
 bounds-nodes-base-2 c =
     let t = node_inside c.requires.2.7 c.args.h c.requires.2.6 in
     omega arith
-
-pub overflow_cast-to : goal.overflow_cast-to
-overflow_cast-to c =
-    omega (arith, c.shared_slice_known-5-1.given (c.args.h * width + START))
 
 pub alike-requires : goal.alike-requires
 alike-requires c =
@@ -44,5 +38,4 @@ pub returns : goal.returns
 returns c =
     let a = c.args in
     let z = length_span a.input.now a.at a.n c.requires.0 c.requires.1 in
-    let r = c.compared.ensures in
-    λ room st re sy ob k y G. compared_by c.alike.ensures (omega arith) r.0 r.1 (by_bytes G a.h y _ a.n z c.if-nodes-base.false)
+    λ room st re sy ob k y G. compared_by st _ c.compared.result c.alike.ensures c.compared.ensures (by_bytes G a.h y _ a.n z c.if-nodes-base.false)

@@ -1,15 +1,11 @@
 -- The proof of find_symbol.
 use native.Mathlib.Omega.{arith}
-use Prim.Native.Nat.{ℕ, ◌<◌}
-use mathlib.Core.Path.{refl, sym, ap, ◌∙◌, subst}
-use mathlib.Core.Option.{some}
-use lib.ListN.{get_or}
-use Rattle.definition.specs.Node.{nil}
-use Rattle.load_state.specs.Holds.{Symbolic, span, symbols_of}
+use Prim.Native.Nat.{◌<◌}
+use mathlib.Core.Path.{refl, ◌∙◌}
+use Rattle.load_state.specs.Holds.{span}
 use Rattle.symbol_search.specs.Search.{Ends}
 use Rattle.symbol_search.proofs.Turns.{found_at, found_on, found_none}
 use Rattle.load_state.specs.Needs.{entry_symbolic, length_span}
-use Rattle.symbol_search.proofs.Looked.{is_there}
 use Rattle.symbol_search.proofs.find_symbol.Goals as goal
 
 -- what is known of the name
@@ -31,7 +27,7 @@ returns-then-count-j c =
     let q : Ends (span c.args.input.now c.args.at c.args.n) c.args.n c.last_byte-last.result = (length_span c.args.input.now c.args.at c.args.n c.requires.0 c.requires.1, c.last_byte-last.ensures) in
     λ room s re ob k e H.
     let found = (H.known.names refl).interned.names _ ∙ c.loop-i.invariant room s re ob k e H ∙ c.next_like-j.ensures.symbols_value room s _ re ob k _ e H q ∙ found_none H c.next_like-j.result _ (omega (arith, e, c.if-count-j.true)) in
-    record { there = λ l. absurd (omega (arith, l)); symbol = λ l. absurd (omega (arith, l)); none = λ l. found }
+    record { same = found; symbol = tt }
 
 pub bounds-symbols-j : goal.bounds-symbols-j
 bounds-symbols-j c =
@@ -48,14 +44,12 @@ is_named-requires c =
 pub returns-then-is_named : goal.returns-then-is_named
 returns-then-is_named c =
     let j = c.next_like-j.result in
-    let w = c.wide.ensures in
-    let symbols = c.args.symbols.now in
     let q : Ends (span c.args.input.now c.args.at c.args.n) c.args.n c.last_byte-last.result = (length_span c.args.input.now c.args.at c.args.n c.requires.0 c.requires.1, c.last_byte-last.ensures) in
     λ room s re ob k e H.
-    let lt : j < symbols_of k = omega (arith, e, c.if-count-j.false) in
+    let lt : j < k.symbols = omega (arith, e, c.if-count-j.false) in
     let y = entry_symbolic j refl H lt in
     let found = (H.known.names refl).interned.names _ ∙ c.loop-i.invariant room s re ob k e H ∙ c.next_like-j.ensures.symbols_value room s _ re ob k _ e H q ∙ found_at H j lt _ c.if-is_named.true (c.is_named.ensures room s re _ ob k y H) in
-    record { there = λ l. found ∙ ap some (sym w); symbol = λ l. subst (λ (h : ℕ). Symbolic (get_or s.nodes h nil)) (sym w) y; none = λ l. absurd (omega (arith, w, l, is_there H (get_or symbols j 0) y)) }
+    record { same = found; symbol = y }
 
 pub loop-i-smaller : goal.loop-i-smaller
 loop-i-smaller c =
@@ -67,11 +61,11 @@ loop-i-preserved c =
     let j = c.next_like-j.result in
     let q : Ends (span c.args.input.now c.args.at c.args.n) c.args.n c.last_byte-last.result = (length_span c.args.input.now c.args.at c.args.n c.requires.0 c.requires.1, c.last_byte-last.ensures) in
     λ room s re ob k e H.
-    let lt : j < symbols_of k = omega (arith, e, c.if-count-j.false) in
+    let lt : j < k.symbols = omega (arith, e, c.if-count-j.false) in
     c.loop-i.invariant room s re ob k e H ∙ c.next_like-j.ensures.symbols_value room s _ re ob k _ e H q ∙ found_on H j lt _ c.if-is_named.false (c.is_named.ensures room s re _ ob k (entry_symbolic j refl H lt) H)
 
 pub returns : goal.returns
 returns c =
     let turn = c.loop-i in
     λ room s re ob k e H.
-    record { there = λ l. absurd (omega (arith, l)); symbol = λ l. absurd (omega (arith, l)); none = λ l. (H.known.names refl).interned.names _ ∙ turn.invariant room s re ob k e H ∙ found_none H turn.i _ (omega (arith, e)) }
+    record { same = (H.known.names refl).interned.names _ ∙ turn.invariant room s re ob k e H ∙ found_none H turn.i _ (omega (arith, e)); symbol = tt }

@@ -1,8 +1,6 @@
 -- The proof of is_like.
 use native.Mathlib.Omega.{arith}
 use mathlib.Core.Path.{sym, ◌∙◌}
-use Prim.Native.Nat.{◌+◌, ◌*◌}
-use Rattle.definition.specs.Node.{width, START}
 use Rattle.load_state.specs.Names.{untrue}
 use Rattle.symbol_search.proofs.Looked.{last_apart}
 use Rattle.symbol_search.proofs.Looked.{node_inside, other_length, by_bytes, symbol_inside}
@@ -28,13 +26,10 @@ bounds-nodes-base-2 c =
     let t = node_inside c.requires.8 c.args.h c.requires.7 in
     omega arith
 
-pub overflow_cast-to : goal.overflow_cast-to
-overflow_cast-to c = omega (arith, c.shared_slice_known-2-1.given (c.args.h * width + START))
-
 pub overflow_add-to-2 : goal.overflow_add-to-2
 overflow_add-to-2 c =
     let i = symbol_inside c.requires.8 c.args.h c.requires.7 c.args.n c.if-nodes-base.false in
-    omega (arith, i, c.shared_slice_known-2-1.given (c.args.h * width + START))
+    omega (arith, i)
 
 pub bounds-bytes-to : goal.bounds-bytes-to
 bounds-bytes-to c =

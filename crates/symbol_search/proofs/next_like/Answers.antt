@@ -3,7 +3,7 @@ use native.Mathlib.Omega.{arith}
 use Prim.Native.Nat.{ℕ, ◌<◌}
 use mathlib.Core.Path.{◌≡◌, refl, ap, ◌∙◌}
 use lib.ListN.{drop}
-use Rattle.load_state.specs.Holds.{find_listed, symbols_of}
+use Rattle.load_state.specs.Holds.{find_listed}
 use Rattle.symbol_search.proofs.Turns.{found_on}
 use Rattle.load_state.specs.Needs.{entry_symbolic}
 use Rattle.symbol_search.proofs.next_like.Goals as goal
@@ -34,7 +34,7 @@ loop-i-preserved c =
       omega arith,
       omega arith,
       λ room s input re ob k name e H E.
-          let lt : turn.i < symbols_of k = omega (arith, e, c.loop-i-test.true) in
+          let lt : turn.i < k.symbols = omega (arith, e, c.loop-i-test.true) in
           turn.invariant.2 room s input re ob k name e H E ∙ found_on H turn.i lt name refl (c.is_like.ensures.false_value room s input re _ ob k name c.if-is_like.false (entry_symbolic turn.i refl H lt) H E),
     )
 

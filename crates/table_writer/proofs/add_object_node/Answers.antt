@@ -1,30 +1,25 @@
 -- The proof of add_object_node.
 use native.Mathlib.Omega.{arith}
 use mathlib.Core.Path.{sym, subst}
+use Rattle.std.proofs.lemmas.Result.{IfOk-weaker}
 use Rattle.definition.specs.Load.{add_object_node}
+use Rattle.lists.specs.Runs.{err_is}
 use Rattle.load_state.specs.Holds.{Free}
 use Rattle.load_state.specs.Laws.{lead_first, lead_after, lead_stop}
 use Rattle.table_writer.proofs.add_object_node.Goals as goal
 
-pub returns-then-h-ge-REFUSED : goal.returns-then-h-ge-REFUSED
+pub returns-in_err-h : goal.returns-in_err-h
 unfolding add_object_node
-returns-then-h-ge-REFUSED c =
-    record { by_index = λ input room limit row re by sy e f. lead_stop c.if-h-ge-REFUSED.true (lead_first _ (c.add_node-h.ensures.by_index input room limit row re by sy _ e f)); upper_bound = λ l. absurd (omega arith) }
-
-pub add_object-requires : goal.add_object-requires
-add_object-requires c =
-    let c-if1 = c.if-h-ge-REFUSED in
-    let n = c.add_node-h.ensures.upper_bound c-if1.false in
-    (n.0, c-if1.false)
+returns-in_err-h c =
+    rw (err_is c.from_residual.result c.from_residual.ensures.1) (record { by_index = λ input room limit row re by sy e f. lead_stop (lead_first _ (c.in_err-h.ensures.by_index input room limit row re by sy _ e f)); upper_bound = tt })
 
 pub returns : goal.returns
 unfolding add_object_node
 returns c =
-    let c-if1 = c.if-h-ge-REFUSED in
-    let c-add-node = c.add_node-h in
-    let n = c-add-node.ensures.upper_bound c-if1.false in
+    let n = c.in_ok-h.ensures in
+    let u = n.upper_bound in
     let o = c.add_object.ensures in record {
       by_index = λ input room limit row re by sy e f.
-          lead_after ((lead_first _ (c-add-node.ensures.by_index input room limit row re by sy _ e f)).goes c-if1.false) (o.by_index input room limit _ re by sy);
-      upper_bound = λ l. let q = o.value l in (omega (arith, n.0, q.0, q.1), λ k. subst (Free c-add-node.new.nodes) (sym q.0) (n.1 k));
+          lead_after (lead_first _ (n.by_index input room limit row re by sy _ e f)).led (o.by_index input room limit _ re by sy);
+      upper_bound = IfOk-weaker c.add_object.result _ _ (λ v q. ((omega (arith, u.0, q.0, q.1), omega (arith, u.0, q.0)), λ k. subst (Free c.add_node.new.nodes) (sym q.0) (u.1 k))) o.value;
     }

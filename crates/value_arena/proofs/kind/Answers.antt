@@ -1,25 +1,18 @@
 -- The proof of kind.
-use native.Mathlib.Omega.{arith}
-use mathlib.Core.Path.{refl}
-use mathlib.Core.List.{[], ◌∷◌}
-use Rattle.definition.specs.Build.{lent, handles_checked}
-use Rattle.call_check.proofs.Answers.{accepted, not_accepted, fit_of, below_of}
+use Rattle.definition.specs.Build.{lent}
+use Rattle.lists.specs.Runs.{err_is}
 use Rattle.value_arena.proofs.Getters.{inside, kind_ok, kind_no}
 use Rattle.value_arena.proofs.kind.Goals as goal
 
-pub bounds-nodes-at : goal.bounds-nodes-at
-bounds-nodes-at c =
-    let l = inside (fit_of _ _ _ _ _ c.in-Accepted.is c.begin_handle.ensures.fits_if.0) (below_of _ _ c.in-Accepted.is c.begin_handle.ensures.fits_if.1) c.size-at.ensures in
-    omega arith
-
-pub returns-in-Accepted : goal.returns-in-Accepted
-returns-in-Accepted c =
+pub returns : goal.returns
+returns c =
     let a = c.args in
     let L = lent a.nodes.now a.references.now a.bytes.now a.counts in
-    kind_ok L a.h _ c.size-at.ensures (inside (fit_of _ _ _ _ _ c.in-Accepted.is c.begin_handle.ensures.fits_if.0) (below_of _ _ c.in-Accepted.is c.begin_handle.ensures.fits_if.1) refl) (accepted (handles_checked (a.h ∷ [])) L c.in-Accepted.is c.begin_handle.ensures.says)
+    let begun = c.in_ok-begin_handle.ensures in
+    kind_ok L a.h (inside begun.fits_if.0 begun.fits_if.1) begun.says
 
-pub returns-in-Refused : goal.returns-in-Refused
-returns-in-Refused c =
+pub returns-in_err-begin_handle : goal.returns-in_err-begin_handle
+returns-in_err-begin_handle c =
     let a = c.args in
     let L = lent a.nodes.now a.references.now a.bytes.now a.counts in
-    kind_no L a.h _ (not_accepted (handles_checked (a.h ∷ [])) L c.in-Refused.is c.begin_handle.ensures.says)
+    rw (err_is c.from_residual.result c.from_residual.ensures.1) (kind_no L a.h _ c.in_err-begin_handle.ensures.says)

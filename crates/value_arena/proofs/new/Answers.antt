@@ -18,4 +18,4 @@ unfolding wrong
 returns c =
     let a = c.args in
     let T = tables_of a.nodes.now a.references.now a.bytes.now in
-    new_right T _ (c.wrong_table-w.ensures.named [] no_slice) c.if-w-ne0.false _ _ _ c.zero_words.ensures c.zero_words-2.ensures c.zero_bytes.ensures
+    new_right T _ (c.wrong_table-w.ensures.named [] no_slice) c.if-w-ne0.false _ _ _ c.fill_from.ensures c.fill_from-2.ensures c.fill_from-3.ensures

@@ -7,6 +7,6 @@ pub returns-then-x : goal.returns-then-x
 unfolding Ieee.of_bits
 returns-then-x c = λ L. moisture_bad c.args.x L c.if-x.true
 
-pub returns-else-x : goal.returns-else-x
+pub returns : goal.returns
 unfolding Ieee.of_bits
-returns-else-x c = λ L. moisture_fine c.args.x L c.if-x.false
+returns c = λ L. moisture_fine c.args.x L c.if-x.false

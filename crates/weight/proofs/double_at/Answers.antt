@@ -5,6 +5,7 @@ use lib.Ieee.{binary64, of_int}
 use mir.Syntax.{w32}
 use mir.Val.{SFits}
 use mir.Facts.{to_z-of_z}
+use borrow.Author.Rules.{rules}
 use Rattle.definition.specs.Run.{ok, pure, refuse}
 use Rattle.definition.specs.Weight.{as_double}
 use Rattle.weight.proofs.Steps.{converted}
@@ -15,7 +16,7 @@ unfolding as_double pure
 returns-in-Whole c =
     let a = c.args in
     let e = c.read_node.ensures in
-    let fits : SFits w32 c.in-Whole.n = record { sfits = c.in-Whole.known_told-1-own.given.0.1 } in
+    let fits : SFits w32 c.in-Whole.n = record { sfits = search rules } in
     λ L k. converted L a.nodes.now a.bytes.now a.stored a.h k e c.in-Whole.is ∙ ap (λ (z : ℤ). ok (of_int binary64 z) L) (sym (to_z-of_z fits))
 
 pub returns-in-Double : goal.returns-in-Double

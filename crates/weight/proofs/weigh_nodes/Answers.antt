@@ -1,29 +1,32 @@
 -- The proof of weigh_nodes.
 use mathlib.Core.Path.{sym, ap, ◌∙◌}
-use Rattle.definition.specs.Weight.{double_at, dry_at, check_moisture, weighed_done}
-use Rattle.definition.specs.declared.Answer.TheVariants.{Accepted}
-use Rattle.call_check.proofs.Answers.{accepted, not_accepted}
-use Rattle.weight.proofs.Steps.{gives, gives_not, no_dry, no_moisture, wrong_moisture, weighed}
+use Rattle.definition.specs.Weight.{weighed_done, weighed_answer}
+use Rattle.definition.specs.declared.Weighing.{Weighing}
+use Rattle.std.specs.Prelude.{Ok}
+use Rattle.lists.specs.Runs.{err_is}
+use Rattle.weight.proofs.Steps.{no_dry, no_moisture, wrong_moisture, weighed}
 use Rattle.weight.proofs.weigh_nodes.Goals as goal
 
-pub returns-in-Accepted : goal.returns-in-Accepted
-unfolding weighed_done
-returns-in-Accepted c =
+pub returns-in_err-d : goal.returns-in_err-d
+unfolding weighed_answer weighed_done
+returns-in_err-d c =
     let a = c.args in
-    λ L k l. (λ i. record { answer = Accepted; weighing = c.weigh.ensures i })
-    ∙ sym (ap weighed_done (weighed L a.dry a.moisture _ (gives (dry_at a.dry) L c.in-Double.is (c.dry_at.ensures L k)) _ (gives (double_at a.moisture) L c.in-Double-double_at.is (c.double_at.ensures L l)) (accepted (check_moisture _) L c.in-Accepted.is (c.check_moisture.ensures L))))
+    λ L k l. rw (err_is c.from_residual.result c.from_residual.ensures.1) (sym (ap weighed_done (no_dry L a.dry a.moisture _ (c.in_err-d.ensures L k))))
 
-pub returns-in-Refused-check_moisture : goal.returns-in-Refused-check_moisture
-returns-in-Refused-check_moisture c =
+pub returns-in_err-m : goal.returns-in_err-m
+unfolding weighed_answer weighed_done
+returns-in_err-m c =
     let a = c.args in
-    λ L k l. c.refused.ensures ∙ sym (ap weighed_done (wrong_moisture L a.dry a.moisture _ (gives (dry_at a.dry) L c.in-Double.is (c.dry_at.ensures L k)) _ (gives (double_at a.moisture) L c.in-Double-double_at.is (c.double_at.ensures L l)) _ (not_accepted (check_moisture _) L c.in-Refused-check_moisture.is (c.check_moisture.ensures L))))
+    λ L k l. rw (err_is c.from_residual-in_err-m.result c.from_residual-in_err-m.ensures.1) (sym (ap weighed_done (no_moisture L a.dry a.moisture _ (c.in_ok-d.ensures L k) _ (c.in_err-m.ensures L l))))
 
-pub returns-in-Refused-double_at : goal.returns-in-Refused-double_at
-returns-in-Refused-double_at c =
+pub returns-in_err-check_moisture : goal.returns-in_err-check_moisture
+unfolding weighed_answer weighed_done
+returns-in_err-check_moisture c =
     let a = c.args in
-    λ L k l. c.refused-in-Refused-double_at.ensures ∙ sym (ap weighed_done (no_moisture L a.dry a.moisture _ (gives (dry_at a.dry) L c.in-Double.is (c.dry_at.ensures L k)) _ (gives_not (double_at a.moisture) L c.in-Refused-double_at.is (c.double_at.ensures L l))))
+    λ L k l. rw (err_is c.from_residual-in_err-check_moisture.result c.from_residual-in_err-check_moisture.ensures.1) (sym (ap weighed_done (wrong_moisture L a.dry a.moisture _ (c.in_ok-d.ensures L k) _ (c.in_ok-m.ensures L l) _ (c.in_err-check_moisture.ensures L))))
 
-pub returns-in-Refused : goal.returns-in-Refused
-returns-in-Refused c =
+pub returns : goal.returns
+unfolding weighed_answer weighed_done
+returns c =
     let a = c.args in
-    λ L k l. c.refused-in-Refused.ensures ∙ sym (ap weighed_done (no_dry L a.dry a.moisture _ (gives_not (dry_at a.dry) L c.in-Refused.is (c.dry_at.ensures L k))))
+    λ L k l. ap (λ (w : Weighing). weighed_answer (Ok w)) c.weigh.ensures ∙ sym (ap weighed_done (weighed L a.dry a.moisture _ (c.in_ok-d.ensures L k) _ (c.in_ok-m.ensures L l) (c.in_ok-check_moisture.ensures L)))

@@ -33,7 +33,7 @@ store_data-requires c =
     let if2 = c.if-v-le122 in
     let if3 = c.if-v-lt2147483648 in
     let data_bytes = c.data_bytes-n in
-    omega (arith, pre, size_large args.v _ _ if2.false if3.true data_bytes.ensures.value c.size.ensures)
+    omega (arith, pre, size_large args.v _ _ if2.false if3.true data_bytes.ensures.value refl)
 
 pub returns-then-v-lt2147483648 : goal.returns-then-v-lt2147483648
 returns-then-v-lt2147483648 c =
@@ -41,10 +41,9 @@ returns-then-v-lt2147483648 c =
     let if2 = c.if-v-le122 in
     let if3 = c.if-v-lt2147483648 in
     let data_bytes = c.data_bytes-n in
-    let size = c.size in
     let store-data = c.store_data in
-    let e = large_as a.v _ _ if2.false if3.true data_bytes.ensures.value size.ensures in
-    record { output_after = store-data.ensures.output_after ∙ ap (sets a.output.now a.at) (sym e); value = store-data.ensures.value ∙ size_large a.v _ _ if2.false if3.true data_bytes.ensures.value size.ensures }
+    let e = large_as a.v _ _ if2.false if3.true data_bytes.ensures.value refl in
+    record { output_after = store-data.ensures.output_after ∙ ap (sets a.output.now a.at) (sym e); value = store-data.ensures.value ∙ size_large a.v _ _ if2.false if3.true data_bytes.ensures.value refl }
 
 pub overflow_cast-n-then-v-lt4294967173 : goal.overflow_cast-n-then-v-lt4294967173
 overflow_cast-n-then-v-lt4294967173 c =
@@ -57,7 +56,7 @@ store_data-requires-then-v-lt4294967173 c =
     let if3 = c.if-v-lt2147483648 in
     let if4 = c.if-v-lt4294967173 in
     let data-bytes2 = c.data_bytes-n-then-v-lt4294967173 in
-    omega (arith, pre, size_negative args.v _ _ if3.false if4.true data-bytes2.ensures.value c.size-then-v-lt4294967173.ensures)
+    omega (arith, pre, size_negative args.v _ _ if3.false if4.true data-bytes2.ensures.value refl)
 
 pub returns-then-v-lt4294967173 : goal.returns-then-v-lt4294967173
 returns-then-v-lt4294967173 c =
@@ -65,10 +64,9 @@ returns-then-v-lt4294967173 c =
     let if3 = c.if-v-lt2147483648 in
     let if4 = c.if-v-lt4294967173 in
     let data-bytes2 = c.data_bytes-n-then-v-lt4294967173 in
-    let size2 = c.size-then-v-lt4294967173 in
     let store-data2 = c.store_data-then-v-lt4294967173 in
-    let e = negative_as a.v _ _ if3.false if4.true data-bytes2.ensures.value size2.ensures in
-    record { output_after = store-data2.ensures.output_after ∙ ap (sets a.output.now a.at) (sym e); value = store-data2.ensures.value ∙ size_negative a.v _ _ if3.false if4.true data-bytes2.ensures.value size2.ensures }
+    let e = negative_as a.v _ _ if3.false if4.true data-bytes2.ensures.value refl in
+    record { output_after = store-data2.ensures.output_after ∙ ap (sets a.output.now a.at) (sym e); value = store-data2.ensures.value ∙ size_negative a.v _ _ if3.false if4.true data-bytes2.ensures.value refl }
 
 pub bounds-output-at-2 : goal.bounds-output-at-2
 bounds-output-at-2 c =

@@ -8,7 +8,7 @@ use Rattle.writer.proofs.store_low.Goals as goal
 pub loop-i-init : goal.loop-i-init
 loop-i-init c =
     let a = c.args in
-    (omega arith, refl, low_start a.output.now a.at a.n a.v)
+    (refl, low_start a.output.now a.at a.n a.v)
 
 pub overflow_add-output : goal.overflow_add-output
 overflow_add-output c =
@@ -16,20 +16,20 @@ overflow_add-output c =
 
 pub bounds-output-at : goal.bounds-output-at
 bounds-output-at c =
-    omega (arith, c.loop-i-test.true, c.requires, c.loop-i.invariant.1)
+    omega (arith, c.loop-i-test.true, c.requires, c.loop-i.invariant.0)
 
 pub loop-i-preserved : goal.loop-i-preserved
 loop-i-preserved c =
     let a = c.args in
     let l = c.loop-i in
-    (omega (arith, c.loop-i-test.true), length-set l.output _ _ ∙ l.invariant.1, l.invariant.2 ∙ low_on l.output a.at a.n l.i l.w c.loop-i-test.true)
+    (length-set l.output _ _ ∙ l.invariant.0, l.invariant.1 ∙ low_on l.output a.at a.n l.i l.w c.loop-i-test.true)
 
 pub shape_of-output : goal.shape_of-output
 shape_of-output c =
-    c.loop-i.invariant.1
+    c.loop-i.invariant.0
 
 pub returns : goal.returns
 returns c =
     let a = c.args in
     let l = c.loop-i in
-    sym (l.invariant.2 ∙ low_end l.output a.at a.n l.i l.w c.loop-i-test.false)
+    sym (l.invariant.1 ∙ low_end l.output a.at a.n l.i l.w c.loop-i-test.false)

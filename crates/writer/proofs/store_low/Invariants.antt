@@ -1,5 +1,5 @@
--- What lasts in the loop of store_low, and why it ends.
-use Prim.Native.Nat.{◌+◌, ◌-◌, ◌≤◌}
+-- What lasts in the loop of store_low.
+use Prim.Native.Nat.{◌+◌, ◌-◌}
 use mathlib.Core.Path.{◌≡◌}
 use lib.ListN.{length}
 use lib.Seq.{sets}
@@ -8,8 +8,4 @@ use Rattle.writer.proofs.store_low.Given as goal
 
 abbrev pub invariant-loop-i : goal.invariant-loop-i
 invariant-loop-i l =
-    (l.i ≤ l.n) × (length l.output ≡ length l.initial.output) × (sets l.initial.output l.at (low_bytes l.n l.v) ≡ sets l.output (l.at + l.i) (low_bytes (l.n - l.i) l.w))
-
-abbrev pub decreases-loop-i : goal.decreases-loop-i
-decreases-loop-i l =
-    l.n - l.i
+    (length l.output ≡ length l.initial.output) × (sets l.initial.output l.at (low_bytes l.n l.v) ≡ sets l.output (l.at + l.i) (low_bytes (l.n - l.i) l.w))

@@ -11,7 +11,7 @@ returns-then-at-output c =
     let fixnum-size = c.fixnum_size-n in
     let if1 = c.if-n-output in
     let if2 = c.if-at-output in
-    let store-fixnum = c.store_fixnum in
+    let store-fixnum = c.store_fixnum-c in
     λ A room limit sc. chunk_stored (integer_bytes a.v) _ (sym fixnum-size.ensures) (omega (arith, if1.true, if2.true)) store-fixnum.ensures.output_after
 
 pub returns-else-at-output : goal.returns-else-at-output

@@ -1,10 +1,9 @@
 -- The proof of write_shorts.
 use native.Mathlib.Omega.{arith}
-use mathlib.Core.Path.{refl, sym, ap, ◌∙◌}
-use lib.ListN.{length, set}
-use lib.Seq.{get_or-set_same}
+use mathlib.Core.Path.{refl, ◌∙◌}
+use Rattle.writer.specs.Held.{with_written}
 use Rattle.writer.proofs.Members.{member_below}
-use Rattle.writer.proofs.Shorts.{running_start, running_on, running_stop, short_none, short_as}
+use Rattle.writer.proofs.Shorts.{running_start, running_on, running_stop, running_end, short_none, short_as}
 use Rattle.writer.proofs.write_shorts.Goals as goal
 
 pub loop-i-init : goal.loop-i-init
@@ -24,7 +23,7 @@ write_short-p-requires c =
     let turn = c.loop-i in
     let loop-test = c.loop-i-test in
     let f = pre.fact in
-    let b = member_below a.start a.n turn.i _ f.1 f.2 loop-test.true c.size.ensures in
+    let b = member_below a.start a.n turn.i _ f.1 f.2 loop-test.true refl in
     (omega (arith, b, f.0.nodes_fit), omega (arith, b, pre.holds.scratch_fits))
 
 pub shape_of-output-then-p-eq0 : goal.shape_of-output-then-p-eq0
@@ -39,20 +38,17 @@ returns-then-p-eq0 c =
     let pre = c.requires in
     let turn = c.loop-i in
     let loop-test = c.loop-i-test in
-    let size = c.size in
     let write-short = c.write_short-p in
     let f = pre.fact in
-    let b = member_below a.start a.n turn.i _ f.1 f.2 loop-test.true size.ensures in
-    let three = pre.holds.counts in record { upper_bound = turn.invariant.within; goes = running_stop turn.invariant (short_none c.if-p-eq0.true (write-short.ensures.shorts pre.arena 0 0 0 (set a.c.now 0 turn.at) f.0 b (get_or-set_same a.c.now 0 turn.at 0 (omega (arith, three))))); fact = λ l k. write-short.ensures.fact (short_as write-short.auto.output (get_or-set_same turn.c 0 turn.at 0 (omega (arith, three, ap length turn.invariant.same_counts))) (sym size.ensures) k) c.if-p-eq0.true }
+    let b = member_below a.start a.n turn.i _ f.1 f.2 loop-test.true refl in
+    record { upper_bound = turn.invariant.within; goes = running_stop turn.invariant (short_none c.if-p-eq0.true (write-short.ensures.shorts pre.arena 0 0 0 (with_written a.c.now turn.at) f.0 b refl)); fact = λ l k. write-short.ensures.fact (short_as write-short.auto.output refl refl k) c.if-p-eq0.true }
 
 pub loop-i-preserved : goal.loop-i-preserved
 loop-i-preserved c =
     let turn = c.loop-i in
-    let pre = c.requires in
     let loop-test = c.loop-i-test in
-    let size = c.size in
     let write-short = c.write_short-p in
-    running_on turn.invariant pre.holds.counts loop-test.true _ _ _ size.ensures write-short.auto.output c.if-p-eq0.false write-short.ensures.shorts
+    running_on turn.invariant loop-test.true _ _ _ refl write-short.auto.output c.if-p-eq0.false write-short.ensures.shorts
 
 pub shape_of-output : goal.shape_of-output
 shape_of-output c =
@@ -60,4 +56,4 @@ shape_of-output c =
 
 pub returns : goal.returns
 returns c =
-    record { upper_bound = c.loop-i.invariant.within; goes = running_stop c.loop-i.invariant refl; fact = λ l k. omega (arith, l, c.loop-i-test.false) }
+    record { upper_bound = omega arith; goes = running_end c.loop-i.invariant c.loop-i-test.false; fact = λ l k. omega (arith, l) }

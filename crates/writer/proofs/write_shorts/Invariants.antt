@@ -1,12 +1,7 @@
--- What lasts in the loop of write_shorts, and why it ends.
-use Prim.Native.Nat.{◌-◌}
+-- What lasts in the loop of write_shorts.
 use Rattle.writer.proofs.Shorts.{Running}
 use Rattle.writer.proofs.write_shorts.Given as goal
 
 abbrev pub invariant-loop-i : goal.invariant-loop-i
 invariant-loop-i l =
     Running l.nodes l.references l.scratch l.initial.output l.initial.c l.start l.n l.output l.c l.at l.i
-
-abbrev pub decreases-loop-i : goal.decreases-loop-i
-decreases-loop-i l =
-    l.n - l.i

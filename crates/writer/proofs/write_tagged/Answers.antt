@@ -13,7 +13,7 @@ returns-then-at-output c =
     let fixnum-size = c.fixnum_size-n in
     let if1 = c.if-n-output in
     let if2 = c.if-at-output in
-    let store-tagged = c.store_tagged in
+    let store-tagged = c.store_tagged-c in
     λ A room limit sc. tagged_stored a.k (integer_bytes a.v) (omega (arith, fixnum-size.ensures, if1.true, if2.true)) store-tagged.ensures.output_after store-tagged.ensures.value
 
 pub returns-else-at-output : goal.returns-else-at-output
