@@ -191,7 +191,7 @@ use Rattle.definition.specs.LoadHashed as LH
 use Rattle.definition.specs.Dump as D
 use Rattle.definition.specs.Build as B
 use Rattle.definition.specs.Run.{{Outcome, ok, refused}}
-use Rattle.definition.specs.declared.Answer.TheVariants.{{Accepted, Refused}}
+use Rattle.definition.specs.Refused.{{Accepted, Refused}}
 use Rattle.definition.specs.declared.Fault.TheVariants.{{Counts as BadCounts, Node}}
 use Rattle.definition.specs.declared.Refusal.TheVariants.{{BadTables, BadArena, InvalidVersion, ShortInput, InvalidKind, NegativeCount, MissingSymbol, MissingObject, NotASymbol, NotAnObject, TooDeep, NoSpace, BadHandle, WrongKind, BadSign, TooBig, NotAWeight, BadMoisture, WrongSign, NotARecipe, NoPrice, NotWrappable}}
 """
@@ -219,11 +219,11 @@ use Rattle.std.specs.Prelude.{{ℤ}}
 use Rattle.std.specs.Float.{{binary64}}
 use Rattle.std.specs.Float.Ieee.{{to_bits}}
 use Rattle.definition.specs.Weight as W
-use Rattle.definition.specs.declared.Answer.{{Answer}}
-use Rattle.definition.specs.declared.Read.{{Read}}
+use Rattle.definition.specs.Refused.{{Answer}}
+use Rattle.definition.specs.Weight.{{ReadingAnswer}}
 use Rattle.definition.specs.declared.Reading.{{Reading}}
 use Rattle.definition.specs.declared.Reading.TheVariants.{{Whole, Double, NotANumber}}
-use Rattle.definition.specs.declared.Weighed.{{Weighed}}
+use Rattle.definition.specs.Weight.{{WeighedAnswer}}
 
 -- a reading with a double by its bits
 data Shown : Type 0 where
@@ -237,11 +237,11 @@ shown NotANumber = nothing
 shown (Whole n) = whole n
 shown (Double x) = bits (to_bits binary64 x)
 
-reading_bits : Read → Answer × Shown
+reading_bits : ReadingAnswer → Answer × Shown
 unfolding shown
 reading_bits r = (r.answer, shown r.reading)
 
-weighing_bits : Weighed → Answer × ℕ × ℕ × ℕ
+weighing_bits : WeighedAnswer → Answer × ℕ × ℕ × ℕ
 unfolding to_bits
 weighing_bits w = (w.answer, to_bits binary64 w.weighing.dry, to_bits binary64 w.weighing.moisture, to_bits binary64 w.weighing.wet)
 """

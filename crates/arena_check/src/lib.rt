@@ -55,12 +55,6 @@ pub fn wrong_table(nodes: usize, references: usize, bytes: usize, more: u32) -> 
 
 // ---- the arena
 
-pub fn size(x: u32) -> usize
-    ensures { result ≡ x }
-{
-    x as usize
-}
-
 fn all_zero(a: u32, b: u32, s: u32, n: u32, c: u32, f: u32, w: u32) -> bool
     ensures { result ≡ eqb (a + b + s + n + c + f + w) 0 }
 {

@@ -15,7 +15,7 @@ use batch_cost::batch_cost;
 use builder_calls::create;
 use console::{BYTES, NODES, NUMBERED, REFERENCES};
 use definition::{Counts, Created, Name, Node, Reading, Refusal};
-use replay_cases::{Case, Held};
+use replay_cases::{Case, Held, plus};
 use value_arena::{get, get_symbol, kind, replace_root, root};
 use weight::{reading, wet_weight};
 
@@ -52,8 +52,17 @@ const WORDS: usize = 25;
 
 const TABLES: usize = WORDS + Node::WIDTH;
 
-// The calls from here on are the builder's.
+// The calls from here on are the builder's, the last of them `new`.
 const BUILDER: u32 = 21;
+
+const NEW: u32 = 34;
+
+const NONE: Counts = Counts {
+    nodes: 0,
+    references: 0,
+    bytes: 0,
+    root: 0,
+};
 
 // The first word, or the only one, that is answered; 0 where the call is refused.
 fn value_agrees(case: Case<'_>, r: Result<u32, Refusal>) -> bool {
@@ -189,11 +198,13 @@ fn call_agrees(
         return getter_agrees(case, call, nodes, references, bytes, counts, x, y);
     }
     let low = case.word(case.place(LIST_AT));
-    let high = case.word(case.place(LIST_AT).saturating_add(1));
+    let high = case.word(plus(case.place(LIST_AT), 1));
     let r = create(
         call, nodes, references, bytes, counts, x, low, high, list, text,
     );
-    created_agrees(case, counts, r)
+    // a refused `new` leaves no counts
+    let given = if call < NEW { counts } else { NONE };
+    created_agrees(case, given, r)
 }
 
 // A case in tables and list of just its lengths.
@@ -212,12 +223,12 @@ fn fitted_agrees(
     let laid = |at: usize, n: usize| Held::Laid { at, n };
     let after = case.place(TABLES_AFTER_AT);
     laid(TABLES, n).set(case, nodes);
-    laid(n.saturating_add(TABLES), r).set(case, references);
+    laid(plus(n, TABLES), r).set(case, references);
     laid(case.place(BYTES_AT), b).set(case, bytes);
     laid(case.place(LIST_AT), l).set(case, list);
     call_agrees(case, nodes, references, bytes, list, text)
         & laid(after, n).agrees(case, nodes)
-        & laid(after.saturating_add(n), r).agrees(case, references)
+        & laid(plus(after, n), r).agrees(case, references)
         & laid(case.place(BYTES_AFTER_AT), b).agrees(case, bytes)
 }
 

@@ -1,7 +1,7 @@
 // What the programs over an input share: their tables, reading the input and loading it, and text for standard output.
 #![tactic(auto)]
 
-ghost use Rattle.std.specs.Prelude.{◌≡◌, ◌≤◌, length, IfOk};
+ghost use Rattle.std.specs.Prelude.{◌≡◌, ◌≤◌, length, replicate, IfOk};
 ghost use Rattle.definition.specs.Load.{lists};
 ghost use Rattle.console.specs.Call.{Answers, input_call};
 
@@ -37,12 +37,16 @@ pub struct Output<'a> {
 }
 
 impl<'a> Output<'a> {
-    pub fn new(buffer: &'a mut [u8]) -> Output<'a> {
+    pub fn new(buffer: &'a mut [u8]) -> Output<'a>
+        ensures { result.length ≡ 0 }
+    {
         Output { buffer, length: 0 }
     }
 
-    // Writes what the buffer holds.
-    pub fn flush(&mut self) -> fmt::Result {
+    // Writes what the buffer holds, and empties it.
+    pub fn flush(&mut self) -> fmt::Result
+        ensures { self.new.length ≡ 0 }
+    {
         let n = self.length;
         self.length = 0;
         if n <= self.buffer.len() && io::write_all(1, &self.buffer[..n]) {
@@ -130,7 +134,9 @@ pub struct Tables {
 }
 
 impl Tables {
-    pub fn new() -> Tables {
+    pub fn new() -> Tables
+        ensures { lists result.nodes result.references result.bytes result.symbols result.objects ≡ lists (replicate 8000 0) (replicate 4000 0) (replicate 16384 0) (replicate 1000 0) (replicate 1000 0) }
+    {
         Tables {
             nodes: [0; NODES],
             references: [0; REFERENCES],
@@ -141,7 +147,10 @@ impl Tables {
     }
 
     // load_input into them.
-    pub fn load(&mut self, input: &[u8]) -> Result<Loaded, Refusal> {
+    pub fn load(&mut self, input: &[u8]) -> Result<Loaded, Refusal>
+        ensures answer { Answers result (input_call input.now (lists self.old.nodes self.old.references self.old.bytes self.old.symbols self.old.objects)).answer }
+        ensures lent { lists self.new.nodes self.new.references self.new.bytes self.new.symbols self.new.objects ≡ (input_call input.now (lists self.old.nodes self.old.references self.old.bytes self.old.symbols self.old.objects)).lent }
+    {
         load_input(
             input,
             &mut self.nodes,

@@ -32,6 +32,7 @@ fn write_elements(
     requires { Ready (λ A. Lent A nodes.now bytes.now × Listed A references.now × ListIn A start n) (buffers scratch.old output.old) c.old }
     ensures { (A : Arena) (room limit : ℕ) → Lent A nodes.now bytes.now → Listed A references.now → ListIn A start n → Meets A room limit (write_elements (write_value room A limit levels) (range A.references start n)) (buffers scratch.old output.old) c.old result (buffers scratch.new output.new) c.new }
 {
+    // a `while`: the index goes on behind what was written
     let mut i = 0;
     while i < n {
         if levels == 0 {

@@ -8,7 +8,7 @@
 use console::{BYTES, NODES, NUMBERED, REFERENCES};
 use definition::Refusal;
 use dump::dump;
-use replay_cases::{Case, Held};
+use replay_cases::{Case, Held, plus};
 
 // Places in a case.
 const SIZES: usize = 2;
@@ -64,7 +64,7 @@ fn fitted_agrees(
     let r = references.len();
     Held::Laid { at: TABLES, n }.set(case, nodes);
     Held::Laid {
-        at: n.saturating_add(TABLES),
+        at: plus(n, TABLES),
         n: r,
     }
     .set(case, references);

@@ -1,4 +1,5 @@
-// load: the calls, from the test of what is lent to the zeros behind what was read.
+// load: the calls, from the test of what is lent to the zeros behind what was read. Tables and lists are slices of their own,
+// since C lends them so.
 #![tactic(auto)]
 
 ghost use Rattle.std.specs.Prelude.{◌≡◌, false, ◌⊎◌, ◌/◌, ◌<◌, ◌≤◌, Some, None, IfSome, unwrap_or, length};

@@ -11,7 +11,7 @@ use console::{BYTES, NODES, NUMBERED, REFERENCES};
 use definition::{Counts, Loaded, Refusal};
 use load::{load, load_hashed, load_measured};
 use refusal::counts_left;
-use replay_cases::{Case, Held};
+use replay_cases::{Case, Held, plus};
 
 // Places in a case.
 const SIZES: usize = 2;
@@ -52,6 +52,15 @@ impl Call {
         match self {
             Call::Hashed => HASHED,
             _ => ANSWER,
+        }
+    }
+
+    // Are the counts that it adds 0 in the case, as they are where it is refused?
+    fn nothing_counted(self, case: Case<'_>) -> bool {
+        match self {
+            Call::Load => true,
+            Call::Measured => case.long(COPIED) == 0 && case.long(COMPARED) == 0,
+            Call::Hashed => case.long(LOOKED) == 0,
         }
     }
 }
@@ -115,8 +124,8 @@ fn load_case(
 // The counts, the bytes used and the form stand from word `at` on.
 fn loaded_agrees(case: Case<'_>, at: usize, counts: Counts, used: usize, form: bool) -> bool {
     case.counts(at) == counts
-        && case.place(at.saturating_add(4)) == used
-        && (case.word(at.saturating_add(5)) == 1) == form
+        && case.place(plus(at, 4)) == used
+        && (case.word(plus(at, 5)) == 1) == form
 }
 
 fn called_agrees(case: Case<'_>, which: Call, r: Result<Called, Refusal>) -> bool {
@@ -127,10 +136,12 @@ fn called_agrees(case: Case<'_>, which: Call, r: Result<Called, Refusal>) -> boo
     match r {
         Ok(called) => {
             let l = called.load();
-            loaded_agrees(case, at.saturating_add(3), l.counts, l.used, l.form)
-                && called.counts_agree(case)
+            loaded_agrees(case, plus(at, 3), l.counts, l.used, l.form) && called.counts_agree(case)
         }
-        Err(q) => loaded_agrees(case, at.saturating_add(3), counts_left(q), 0, false),
+        Err(q) => {
+            loaded_agrees(case, plus(at, 3), counts_left(q), 0, false)
+                && which.nothing_counted(case)
+        }
     }
 }
 
@@ -149,7 +160,7 @@ fn tables_agree(
     let n = case.place(LAID);
     let laid_nodes = Held::Laid { at: TABLES, n };
     let laid_references = Held::Laid {
-        at: n.saturating_add(TABLES),
+        at: plus(n, TABLES),
         n: case.place(LAID + 1),
     };
     let laid_bytes = Held::Laid {

@@ -8,7 +8,7 @@
 use console::{NUMBERED, Tables};
 use definition::Refusal;
 use redumping::redump;
-use replay_cases::{Case, Held};
+use replay_cases::{Case, Held, plus};
 
 // Places in a case.
 const SAME: usize = 2;
@@ -29,7 +29,7 @@ fn dumped_agrees(
 ) -> bool {
     let n = case.place(at);
     let dumped = Held::Laid {
-        at: case.place(at.saturating_add(1)),
+        at: case.place(plus(at, 1)),
         n,
     };
     case.answers(ANSWER, r)
@@ -64,8 +64,8 @@ fn input_agrees(case: Case<'_>, at: usize, input: &[u8], output: &mut [u8]) -> b
 
 // The input and its dump whose lengths stand k words after the first ones.
 fn part_agrees(case: Case<'_>, k: usize, output: &mut [u8]) -> bool {
-    match case.part(k.saturating_add(INPUTS), k.saturating_add(INPUTS + 1)) {
-        Some(input) => input_agrees(case, k.saturating_add(DUMPS), input, output),
+    match case.part(plus(k, INPUTS), plus(k, INPUTS + 1)) {
+        Some(input) => input_agrees(case, plus(k, DUMPS), input, output),
         None => false,
     }
 }

@@ -48,10 +48,10 @@ fn write_next(out: &mut Output<'_>) -> Result<bool, fmt::Error> {
 fn write_all(out: &mut Output<'_>) -> fmt::Result {
     for _ in 0u64..10000 {
         if !write_next(out)? {
-            break;
+            return out.flush();
         }
     }
-    out.flush()
+    Ok(())
 }
 
 fn main() {

@@ -525,7 +525,8 @@ pub fn byte_string_from(input: &[u8], at: usize) -> Result<Text, Refusal>
 
 // ---- the reader
 
-// An input and the offset from which it is read on.
+// An input and the offset from which it is read on. What is done with it are functions, not methods, as the documents and the
+// library that users link name them.
 #[derive(Clone, Copy)]
 pub struct Reader<'a> {
     pub input: &'a [u8],

@@ -42,7 +42,7 @@ fn replay_all(out: &mut Output<'_>) -> fmt::Result {
     let mut wrong: u64 = 0;
     for _ in 0u64..100000 {
         if !read_case(&mut data) {
-            break;
+            return out.flush();
         }
         let case = Case { data: &data };
         if case.word(1) == END {

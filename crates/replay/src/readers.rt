@@ -59,7 +59,7 @@ impl From<Text> for Found {
     }
 }
 
-// A number that is no reading.
+// A number that nothing was read for, or what a refused call leaves.
 fn number(n: usize, at: usize) -> Found {
     Found {
         value: n,

@@ -1,4 +1,5 @@
-// The answers of load, dump, the arena's functions, weighing and costing as words and doubles, for programs in C.
+// The answers of load, dump, the arena's functions, weighing and costing as words and doubles, for programs in C. Each kind has
+// a function: with a trait each call would hand in what a refused answer says, and the definition's words would stand twice.
 #![tactic(auto, using(crate::proofs::Words::tellings))]
 
 ghost use Rattle.std.specs.Prelude.{◌≡◌, [], ◌∷◌, ◌++◌, ◌≤◌, length};

@@ -94,6 +94,7 @@ pub fn find_symbol(
 {
     let last = last_byte(input, at, n);
     let mut i: usize = 0;
+    // a `while`: the index goes on behind what was found
     while i < count {
         let j = next_like(nodes, bytes, symbols, i, count, n, last);
         if count <= j {

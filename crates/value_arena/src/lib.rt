@@ -1,4 +1,4 @@
-// The arena's getters and builder on lent tables: value_arena.rs.
+// The arena's getters and builder on lent tables: value_arena.rs. Tables are slices of their own, since C lends them so.
 #![tactic(auto)]
 
 ghost use Rattle.std.specs.Prelude.{◌≡◌, [], ◌∷◌, ℕ, ◌-◌, length};

@@ -49,6 +49,7 @@ fn read_members(
     ensures meets { (room : Room) (limit : ℕ) → Meets input.now room limit (members (read_symbol_like input.now room) (read_value input.now room limit levels) names more (end - start) start) (lent nodes.old references.old bytes.old (by_buckets symbols.old buckets.old) objects.old) c.old result (lent nodes.new references.new bytes.new (by_buckets symbols.new buckets.new) objects.new) c.new }
     ensures value { IfOk result (λ v. (more ≡ 0 → v ≡ 0) × (more ≡ 1 → Numbered c.new v)) }
 {
+    // a `while`: the index goes on behind what the run took
     let mut to = start;
     while to < end + more {
         let next = read_run(input, nodes, references, symbols, c, to, end, names, levels);

@@ -15,7 +15,8 @@ use bignum::{fewest_units, magnitude_of};
 use definition::{Bignum, Node, ValueKind};
 use store::copy_to;
 
-// What is counted meanwhile: bytes written, symbols and objects numbered.
+// What is counted meanwhile: bytes written, symbols and objects numbered. Tables, scratch, output and this are handed on one by
+// one: as two structs, the tables and the rest, dump takes 6% longer for setpoints and 11% for names.
 #[derive(Clone, Copy)]
 pub struct Progress {
     pub written: usize,
