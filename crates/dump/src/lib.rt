@@ -38,23 +38,14 @@ fn write_elements(
         if levels == 0 {
             return Err(Stop::TooDeep);
         }
-        let j = i
-            + write_shorts(
-                &nodes[..],
-                &references[..],
-                &scratch[..],
-                output,
-                c,
-                start + i,
-                n - i,
-            );
+        let j = i + write_shorts(nodes, references, &scratch[..], output, c, start + i, n - i);
         if n <= j {
             return Ok(());
         }
         write_value(
-            &nodes[..],
-            &references[..],
-            &bytes[..],
+            nodes,
+            references,
+            bytes,
             scratch,
             output,
             c,
@@ -86,9 +77,9 @@ fn write_value(
         return Err(Stop::TooDeep);
     }
     if let Opened::Whole = open_value(
-        &nodes[..],
-        &references[..],
-        &bytes[..],
+        nodes,
+        references,
+        bytes,
         scratch,
         output,
         c,
@@ -99,9 +90,9 @@ fn write_value(
     }
     let k = nodes[v * Node::WIDTH];
     write_elements(
-        &nodes[..],
-        &references[..],
-        &bytes[..],
+        nodes,
+        references,
+        bytes,
         scratch,
         output,
         c,
@@ -117,9 +108,9 @@ fn write_value(
         return Ok(());
     }
     write_value(
-        &nodes[..],
-        &references[..],
-        &bytes[..],
+        nodes,
+        references,
+        bytes,
         scratch,
         output,
         c,
@@ -144,16 +135,7 @@ fn write_root(
 {
     write_byte(output, c, 4)?;
     write_byte(output, c, 8)?;
-    write_value(
-        &nodes[..],
-        &references[..],
-        &bytes[..],
-        scratch,
-        output,
-        c,
-        root,
-        limit,
-    )
+    write_value(nodes, references, bytes, scratch, output, c, root, limit)
 }
 
 // The refusal of a writer that stopped.

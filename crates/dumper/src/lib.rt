@@ -46,8 +46,8 @@ fn open_variables(
         return Ok(Opened::More);
     }
     write_symbol(
-        &nodes[..],
-        &bytes[..],
+        nodes,
+        bytes,
         scratch,
         output,
         c,
@@ -75,8 +75,8 @@ fn open_named(
         return Ok(Opened::Whole);
     }
     write_named(
-        &nodes[..],
-        &bytes[..],
+        nodes,
+        bytes,
         scratch,
         output,
         c,
@@ -84,9 +84,9 @@ fn open_named(
         nodes[v * Node::WIDTH + Node::NAME] as usize,
     )?;
     open_variables(
-        &nodes[..],
-        &references[..],
-        &bytes[..],
+        nodes,
+        references,
+        bytes,
         scratch,
         output,
         c,
@@ -113,8 +113,8 @@ fn open_string(
 {
     let f = nodes[v * Node::WIDTH + Node::VARIABLES];
     if let Opened::Whole = open_text(
-        &nodes[..],
-        &bytes[..],
+        nodes,
+        bytes,
         scratch,
         output,
         c,
@@ -130,9 +130,9 @@ fn open_string(
         return Ok(Opened::Whole);
     }
     open_variables(
-        &nodes[..],
-        &references[..],
-        &bytes[..],
+        nodes,
+        references,
+        bytes,
         scratch,
         output,
         c,
@@ -162,8 +162,8 @@ fn open_user_defined(
         return Ok(Opened::Whole);
     }
     write_named(
-        &nodes[..],
-        &bytes[..],
+        nodes,
+        bytes,
         scratch,
         output,
         c,
@@ -171,7 +171,7 @@ fn open_user_defined(
         nodes[v * Node::WIDTH + Node::NAME] as usize,
     )?;
     write_byte_string(
-        &bytes[..],
+        bytes,
         output,
         c,
         nodes[v * Node::WIDTH + Node::START],
@@ -181,9 +181,9 @@ fn open_user_defined(
         return Ok(Opened::Whole);
     }
     open_variables(
-        &nodes[..],
-        &references[..],
-        &bytes[..],
+        nodes,
+        references,
+        bytes,
         scratch,
         output,
         c,
@@ -217,8 +217,8 @@ pub fn open_value(
                 return open_list(scratch, output, c, v, ValueKind::ARRAY, n);
             }
             open_classed(
-                &nodes[..],
-                &bytes[..],
+                nodes,
+                bytes,
                 scratch,
                 output,
                 c,
@@ -239,42 +239,17 @@ pub fn open_value(
             if class == 0 {
                 return open_list(scratch, output, c, v, k, n);
             }
-            open_classed(&nodes[..], &bytes[..], scratch, output, c, v, k, n, class)
+            open_classed(nodes, bytes, scratch, output, c, v, k, n, class)
         }
-        Node::OBJECT => open_named(
-            &nodes[..],
-            &references[..],
-            &bytes[..],
-            scratch,
-            output,
-            c,
-            v,
-            levels,
-        ),
-        Node::STRING => open_string(
-            &nodes[..],
-            &references[..],
-            &bytes[..],
-            scratch,
-            output,
-            c,
-            v,
-            levels,
-        ),
+        Node::OBJECT => open_named(nodes, references, bytes, scratch, output, c, v, levels),
+        Node::STRING => open_string(nodes, references, bytes, scratch, output, c, v, levels),
         Node::USER_DEFINED => open_user_defined(
-            &nodes[..],
-            &references[..],
-            &bytes[..],
-            scratch,
-            output,
-            c,
-            v,
-            levels,
+            nodes, references, bytes, scratch, output, c, v, levels,
         ),
         Node::FLOAT => {
             open_text(
-                &nodes[..],
-                &bytes[..],
+                nodes,
+                bytes,
                 scratch,
                 output,
                 c,
@@ -287,11 +262,11 @@ pub fn open_value(
             Ok(Opened::Whole)
         }
         Node::BIGNUM => {
-            open_bignum(&nodes[..], scratch, output, c, v)?;
+            open_bignum(nodes, scratch, output, c, v)?;
             Ok(Opened::Whole)
         }
         _ => {
-            write_scalar(&nodes[..], &bytes[..], scratch, output, c, v)?;
+            write_scalar(nodes, bytes, scratch, output, c, v)?;
             Ok(Opened::Whole)
         }
     }

@@ -80,7 +80,7 @@ pub fn open_classed(
     if let Opened::Whole = number_object(scratch, output, c, v)? {
         return Ok(Opened::Whole);
     }
-    write_class(&nodes[..], &bytes[..], scratch, output, c, class)?;
+    write_class(nodes, bytes, scratch, output, c, class)?;
     write_tagged(output, c, k, n)?;
     Ok(Opened::More)
 }
@@ -129,9 +129,9 @@ pub fn open_text(
     if let Opened::Whole = open_marked(scratch, output, c, v, f, levels)? {
         return Ok(Opened::Whole);
     }
-    write_class(&nodes[..], &bytes[..], scratch, output, c, class)?;
+    write_class(nodes, bytes, scratch, output, c, class)?;
     write_text(
-        &bytes[..],
+        bytes,
         output,
         c,
         k,

@@ -27,10 +27,6 @@ module _ (L : Lent) where
   unfolding ◌>>=◌ build_call build_done build_answer exchange_root set_root
   root_set h p = sym (ap (build_done L) (on _ p))
 
-  pub root_not_set : (h : ℕ) (q : Refusal) → handles_checked (h ∷ []) L ≡ refused q → exchange_root h L ≡ refused q
-  unfolding ◌>>=◌ exchange_root
-  root_not_set h q p = stop _ p
-
 -- ---- replace_class
 
 module _ (nodes references bytes : List ℕ) (c : Counts) (h : ℕ) where

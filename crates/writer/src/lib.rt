@@ -195,7 +195,7 @@ pub fn write_text(
     ensures { (A : Arena) (room limit : ℕ) (sc : List ℕ) → Meets A room limit (write room (k ∷ (integer_bytes n ++ take n (drop start bytes.now)))) (buffers sc output.old) c.old result (buffers sc output.new) c.new }
 {
     write_byte(output, c, k)?;
-    write_byte_string(&bytes[..], output, c, start, n)
+    write_byte_string(bytes, output, c, start, n)
 }
 
 // ---- a Bignum's number
@@ -294,7 +294,7 @@ pub fn write_symbol(
     scratch[v] = number as u32;
     c.symbols = number;
     write_text(
-        &bytes[..],
+        bytes,
         output,
         c,
         ValueKind::SYMBOL,
@@ -317,7 +317,7 @@ pub fn write_named(
     ensures { (A : Arena) (room limit : ℕ) → Lent A nodes.now bytes.now → IsSymbol A v → Meets A room limit (named room A k v) (buffers scratch.old output.old) c.old result (buffers scratch.new output.new) c.new }
 {
     write_byte(output, c, k)?;
-    write_symbol(&nodes[..], &bytes[..], scratch, output, c, v)
+    write_symbol(nodes, bytes, scratch, output, c, v)
 }
 
 // A class, where there is one.
@@ -336,8 +336,8 @@ pub fn write_class(
         return Ok(());
     }
     write_named(
-        &nodes[..],
-        &bytes[..],
+        nodes,
+        bytes,
         scratch,
         output,
         c,
@@ -365,7 +365,7 @@ pub fn write_scalar(
             ValueKind::FIXNUM,
             nodes[v * Node::WIDTH + Node::VALUE],
         ),
-        Node::SYMBOL => write_symbol(&nodes[..], &bytes[..], scratch, output, c, v),
+        Node::SYMBOL => write_symbol(nodes, bytes, scratch, output, c, v),
         Node::BOOL => {
             let k = if nodes[v * Node::WIDTH + Node::VALUE] == 1 {
                 ValueKind::TRUE
@@ -427,7 +427,7 @@ pub fn write_shorts(
     let mut at = c.written;
     for i in 0..n {
         let p = write_short(
-            &nodes[..],
+            nodes,
             &scratch[..],
             output,
             at,
