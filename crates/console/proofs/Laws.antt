@@ -1,15 +1,20 @@
 -- What the programs' load leaves, by the input's length.
 use Prim.Native.Nat.{ℕ, ◌≤◌, ◌<◌}
-use mathlib.Core.Path.{◌≡◌, refl, ap, ◌∙◌}
+use mathlib.Core.Bool.{false}
+use mathlib.Core.Path.{◌≡◌, refl}
 use mathlib.Core.List.{List}
 use lib.ListN.{length}
 use borrow.Author.Tests.{lt-ltb, le-ltb}
 use Rattle.std.specs.Prelude.{Result, Ok, Err}
 use Rattle.definition.specs.Run.{pick}
+use Rattle.definition.specs.Slice.{INPUT}
+use Rattle.definition.specs.Arena.{counts_of}
+use Rattle.definition.specs.Refused.{Refused}
 use Rattle.definition.specs.Load.{Lists, LoadAnswer, load_answer, LoadCall, load_call}
 use Rattle.definition.specs.declared.Loaded.{Loaded}
 use Rattle.definition.specs.declared.Refusal.{Refusal}
-use Rattle.console.specs.Call.{Answers, too_long, input_call}
+use Rattle.definition.specs.declared.Refusal.TheVariants.{NoSpace}
+use Rattle.console.specs.Call.{input_answer, too_long, input_call}
 
 module _ (input : List ℕ) (T : Lists) where
   pub not_loaded : 16384 < length input → too_long T ≡ input_call input T
@@ -20,8 +25,14 @@ module _ (input : List ℕ) (T : Lists) where
   unfolding input_call pick
   loaded h e = rw (le-ltb 16384 (length input) h) e
 
--- a load's whole answer says its Result
-pub answers : (r : Result Loaded Refusal) {a : LoadAnswer} → load_answer r ≡ a → Answers r a
-unfolding load_answer
-answers (Ok r) e = e
-answers (Err q) e = ap (λ (a : LoadAnswer). a.answer) e
+module _ (input : List ℕ) where
+  -- of an input that is not too long the answer is load's
+  pub answers : (r : Result Loaded Refusal) {a : LoadAnswer} → length input ≤ 16384 → load_answer r ≡ a → input_answer input r ≡ a
+  unfolding load_answer pick
+  answers (Ok r) h e = e
+  answers (Err q) h e = rw (le-ltb 16384 (length input) h) e
+
+  -- of one that is, nothing is counted
+  pub long_answer : {a : LoadAnswer} → 16384 < length input → ◌≡◌ {A = LoadAnswer} (record { answer = Refused (NoSpace INPUT); counts = counts_of 0 0 0 0; used = 0; form = false }) a → input_answer input (Err (NoSpace INPUT)) ≡ a
+  unfolding pick
+  long_answer h e = rw (lt-ltb 16384 (length input) h) e

@@ -1,9 +1,9 @@
 -- What the programs' load of an input answers and leaves, by the definition of load's call.
-use Rattle.std.specs.Prelude.{ℕ, ◌≡◌, false, List, ltb, length, Result, Ok, Err}
+use Rattle.std.specs.Prelude.{ℕ, Bool, false, List, ltb, length, Result, Ok, Err}
 use Rattle.definition.specs.Run.{pick}
 use Rattle.definition.specs.Slice.{INPUT}
 use Rattle.definition.specs.Arena.{counts_of}
-use Rattle.definition.specs.Load.{Lists, LoadAnswer, load_answer, LoadCall, load_call}
+use Rattle.definition.specs.Load.{Lists, LoadAnswer, counts_left, load_answer, LoadCall, load_call}
 use Rattle.definition.specs.Refused.{Refused}
 use Rattle.definition.specs.declared.Loaded.{Loaded}
 use Rattle.definition.specs.declared.Refusal.{Refusal}
@@ -17,7 +17,10 @@ too_long T = record { answer = record { answer = Refused (NoSpace INPUT); counts
 unfoldable pub input_call : List ℕ → Lists → LoadCall
 input_call input T = pick (ltb 16384 (length input)) (too_long T) (load_call input T 64)
 
--- the code's Result is this answer: all of it, or its refusal
-abbrev pub Answers : Result Loaded Refusal → LoadAnswer → Type 0
-Answers (Ok r) a = load_answer (Ok r) ≡ a
-Answers (Err q) a = Refused q ≡ a.answer
+-- by the code's Result for an input: refused, nothing is counted where the input is too long, else as load's refusal
+abbrev pub refused_answer : Bool → Refusal → LoadAnswer
+refused_answer long q = record { answer = Refused q; counts = pick long (counts_of 0 0 0 0) (counts_left q); used = 0; form = false }
+
+abbrev pub input_answer : List ℕ → Result Loaded Refusal → LoadAnswer
+input_answer input (Ok r) = load_answer (Ok r)
+input_answer input (Err q) = refused_answer (ltb 16384 (length input)) q

@@ -3,7 +3,7 @@
 
 ghost use Rattle.std.specs.Prelude.{◌≡◌, ◌≤◌, length, replicate, IfOk};
 ghost use Rattle.definition.specs.Load.{lists};
-ghost use Rattle.console.specs.Call.{Answers, input_call};
+ghost use Rattle.console.specs.Call.{input_answer, input_call};
 
 use definition::{Loaded, Node, Refusal, Slice};
 use load::load;
@@ -26,6 +26,13 @@ pub const NUMBERED: usize = 1000;
 
 // The level limit of load and dump.
 pub const LIMIT: u32 = 64;
+
+// A column's width, the least number that is wider, and an empty column.
+const COLUMN: usize = 11;
+
+const WIDE: u64 = 100000000000;
+
+const SPACES: [u8; COLUMN] = [b' '; COLUMN];
 
 // ---- text for standard output
 
@@ -67,11 +74,46 @@ impl<'a> Output<'a> {
         Ok(())
     }
 
-    pub fn put_all(&mut self, text: &[u8]) -> fmt::Result {
+    // Text that does not fit into what is left of the buffer.
+    #[inline(never)]
+    fn put_past(&mut self, text: &[u8]) -> fmt::Result {
         for b in text {
             self.put(*b)?;
         }
         Ok(())
+    }
+
+    // Text that fits, as most does, is copied at once: put byte by byte a listing takes twice as long.
+    pub fn put_all(&mut self, text: &[u8]) -> fmt::Result {
+        let at = self.length;
+        if at <= self.buffer.len() && text.len() <= self.buffer.len() - at {
+            let end = at + text.len();
+            self.buffer[at..end].copy_from_slice(text);
+            self.length = end;
+            return Ok(());
+        }
+        self.put_past(text)
+    }
+
+    // A number in a column, as `{:>11}` writes it. By that a listing takes up to 1.6 times as long.
+    pub fn put_number(&mut self, n: u64) -> fmt::Result {
+        let at = self.length;
+        if n < WIDE && at <= self.buffer.len() && COLUMN <= self.buffer.len() - at {
+            let end = at + COLUMN;
+            let column = &mut self.buffer[at..end];
+            column.copy_from_slice(&SPACES);
+            let mut rest = n;
+            for place in column.iter_mut().rev() {
+                *place = b'0' + (rest % 10) as u8;
+                rest /= 10;
+                if rest == 0 {
+                    break;
+                }
+            }
+            self.length = end;
+            return Ok(());
+        }
+        write!(self, "{n:>11}")
     }
 }
 
@@ -95,6 +137,7 @@ pub fn read_input(stdin: Stdin, input: &mut [u8]) -> IoResult<usize>
 {
     let mut from = stdin;
     let mut at = 0;
+    // a `while`: each read says how far it went
     while at < input.len() {
         let n = from.read(&mut input[at..])?;
         if n == 0 {
@@ -114,7 +157,7 @@ pub fn load_input(
     symbols: &mut [u32],
     objects: &mut [u32],
 ) -> Result<Loaded, Refusal>
-    ensures answer { Answers result (input_call input.now (lists nodes.old references.old bytes.old symbols.old objects.old)).answer }
+    ensures answer { input_answer input.now result ≡ (input_call input.now (lists nodes.old references.old bytes.old symbols.old objects.old)).answer }
     ensures lent { lists nodes.new references.new bytes.new symbols.new objects.new ≡ (input_call input.now (lists nodes.old references.old bytes.old symbols.old objects.old)).lent }
 {
     if LONGEST < input.len() {
@@ -148,7 +191,7 @@ impl Tables {
 
     // load_input into them.
     pub fn load(&mut self, input: &[u8]) -> Result<Loaded, Refusal>
-        ensures answer { Answers result (input_call input.now (lists self.old.nodes self.old.references self.old.bytes self.old.symbols self.old.objects)).answer }
+        ensures answer { input_answer input.now result ≡ (input_call input.now (lists self.old.nodes self.old.references self.old.bytes self.old.symbols self.old.objects)).answer }
         ensures lent { lists self.new.nodes self.new.references self.new.bytes self.new.symbols self.new.objects ≡ (input_call input.now (lists self.old.nodes self.old.references self.old.bytes self.old.symbols self.old.objects)).lent }
     {
         load_input(

@@ -7,7 +7,7 @@ use mathlib.Core.List.{List, [], ◌∷◌}
 use mathlib.Core.Logic.{◌⊎◌, inl, inr}
 use lib.Dec.{leb, eqb}
 use lib.ListN.{length, get_or, take, drop}
-use borrow.Author.Tests.{ne_eqb, eq-eqb, lt-ltb, le-ltb, le-leb, lt-leb}
+use borrow.Author.Tests.{eqb-true, eqb-false, ne_eqb, eq-eqb, lt-ltb, le-ltb, le-leb, lt-leb}
 use Rattle.definition.specs.Run.{pure, refuse, pick, ◌>>=◌}
 use Rattle.definition.specs.Integer.{little, low_bytes}
 use Rattle.definition.specs.Magnitude.{fits, sign, sign_byte, fewest_units, unit_bytes, bignum_row}
@@ -30,6 +30,19 @@ use Rattle.input_reader.proofs.Input.{lost, byte_goes, byte_missing, span_read, 
 
 abbrev IsSign : ℕ → Type 0
 IsSign b = (b ≡ PLUS) ⊎ (b ≡ MINUS)
+
+-- a byte is one or it is not
+is_sign : (b : ℕ) → IsSign b ⊎ (IsSign b → ⊥)
+is_sign b = go (eqb b PLUS) (eqb b MINUS) refl refl
+  where
+    neither : (b ≡ PLUS → ⊥) → (b ≡ MINUS → ⊥) → IsSign b → ⊥
+    neither p q (inl e) = p e
+    neither p q (inr e) = q e
+
+    go : (t u : Bool) → eqb b PLUS ≡ t → eqb b MINUS ≡ u → IsSign b ⊎ (IsSign b → ⊥)
+    go true u e f = inl (inl (eqb-true b PLUS e))
+    go false true e f = inl (inr (eqb-true b MINUS f))
+    go false false e f = inr (neither (eqb-false b PLUS e) (eqb-false b MINUS f))
 
 module _ {input : List ℕ} {room : Room} {T : Lent} {c : Progress} (b : ℕ) (q : get_or input c.at 0 ≡ b) (l : c.at < length input) where
   signed : Goes input room (read_sign input) T c (pick (eqb b PLUS || eqb b MINUS) (pure b) (refuse (BadSign b))) T (record c { at = c.at + 1 })

@@ -16,17 +16,19 @@ fn write_arena(out: &mut Output<'_>, counts: Counts, tables: &Tables) -> fmt::Re
         .take(counts.nodes)
         .enumerate()
     {
-        write!(out, "{i:>11}")?;
+        out.put_number(i as u64)?;
         for word in node {
-            write!(out, "{word:>11}")?;
+            out.put_number(u64::from(*word))?;
         }
-        writeln!(out)?;
+        out.put_all(b"\n")?;
     }
     for reference in tables.references.iter().take(counts.references) {
-        writeln!(out, "{reference:>11}")?;
+        out.put_number(u64::from(*reference))?;
+        out.put_all(b"\n")?;
     }
     for byte in tables.bytes.iter().take(counts.bytes) {
-        writeln!(out, "{byte:>11}")?;
+        out.put_number(u64::from(*byte))?;
+        out.put_all(b"\n")?;
     }
     Ok(())
 }

@@ -38,10 +38,11 @@ fn write_next(out: &mut Output<'_>) -> Result<bool, fmt::Error> {
     }
     let [a, b, c, d] = head;
     let length = u16::from_le_bytes([a, b]) as usize;
-    if data.len() < length || io::read_full(0, &mut data[..length]) < length {
+    let most = length.min(data.len());
+    if io::read_full(0, &mut data[..most]) < length {
         return Ok(false);
     }
-    write_case(out, u16::from_le_bytes([c, d]), &data[..length])?;
+    write_case(out, u16::from_le_bytes([c, d]), &data[..most])?;
     Ok(true)
 }
 

@@ -8,6 +8,7 @@ use lib.ListN.{length, get_or, take, drop, length-drop}
 use lib.Seq.{length-take-le}
 use borrow.Author.Tests.{lt-ltb, le-ltb, le-leb, lt-leb}
 use Rattle.definition.specs.Run.{ok, refused, pure, refuse, pick, next, ◌>>=◌}
+use Rattle.definition.specs.Integer.{low_bytes, wrong_sign}
 use Rattle.definition.specs.Slice.{INPUT}
 use Rattle.definition.specs.Arena.{range, too_long}
 use Rattle.definition.specs.State.{Reader, noted}
@@ -18,7 +19,8 @@ use Rattle.definition.specs.declared.Refusal.{Refusal}
 use Rattle.definition.specs.declared.Refusal.TheVariants.{BadTables, ShortInput, NegativeCount}
 use Rattle.lists.specs.Runs.{err_is}
 use Rattle.reader.specs.From.{taken_as, not_taken, no_text, byte_from, header_from, integer_from, text_from}
-use Rattle.reader.specs.Integers.{Whole, size_at, dumped_at, integer_read}
+use Rattle.reader.specs.Integers.{Whole, size_at, data_at, word_at, dumped_at, sign_checked, integer_read, integer_wrong}
+use Rattle.reader.specs.Answers.{refusal_at, coded, at_wrong_sign}
 
 -- at the start all is in dump form
 and_true : (t : Bool) → (t && true) ≡ t
@@ -62,6 +64,17 @@ module _ (input : List ℕ) (at : ℕ) where
   header_there t {p} e = sym (ap (header_taken at) e ∙ ap (taken_as 0 p) (and_true t))
 
   -- ---- an integer
+
+  -- what its first byte and its 32 bits say in one number
+  pub integer_checked : {w r : ℕ} → at + size_at input at ≤ length input → w ≡ word_at input at → data_at input at ≡ low_bytes (size_at input at - 1) w → w < 4294967296 → r ≡ sign_checked (get_or input at 0) w → get_or input at 0 ≤ 255 → (4294967296 ≤ r → read_integer input (starting at) ≡ refused (refusal_at 0 r)) × (r < 4294967296 → Whole input at r)
+  unfolding sign_checked pick
+  integer_checked {w} {r} h e d u c b = go (wrong_sign (get_or input at 0) w) refl c
+    where
+      go : (t : Bool) → wrong_sign (get_or input at 0) w ≡ t → r ≡ pick t (coded 19 (get_or input at 0)) w → (4294967296 ≤ r → read_integer input (starting at) ≡ refused (refusal_at 0 r)) × (r < 4294967296 → Whole input at r)
+      go true q f =
+          (λ l. integer_wrong input (starting at) h (rw e at q) ∙ ap refused (sym (ap (refusal_at 0) f ∙ at_wrong_sign 0 _ b)), λ l. absurd (omega (arith, f)))
+      go false q f =
+          (λ l. absurd (omega (arith, f)), λ l. record { inside = h; agrees = rw e at q; word = f ∙ e; low = rw f d })
 
   pub integer_whole : {w n : ℕ} {t : Bool} → Whole input at w → n ≡ size_at input at → t ≡ dumped_at input at → read_integer input (starting at) ≡ ok w (noted t (starting (at + n)))
   integer_whole k e q = rw (e, k.word, q) (integer_read input (starting at) k.inside k.agrees)

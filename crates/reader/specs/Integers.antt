@@ -17,6 +17,7 @@ use Rattle.definition.specs.State.{State, at_set, noted}
 use Rattle.definition.specs.Load.{note, integer_of, read_byte, read_bytes, read_form, read_integer}
 use Rattle.definition.specs.declared.Refusal.TheVariants.{ShortInput, WrongSign}
 use Rattle.lists.specs.Integers.{same_form, form_agrees}
+use Rattle.reader.specs.Answers.{coded}
 
 -- how many bytes the form has, the first one included
 unfoldable pub size_of : Form → ℕ
@@ -62,6 +63,10 @@ pub record Whole (input : List ℕ) (at r : ℕ) : Type 0 where
   pub agrees : wrong_at input at ≡ false
   pub word : r ≡ word_at input at
   pub low : data_at input at ≡ low_bytes (size_at input at - 1) r
+
+-- the 32 bits w after the first byte b in one number, with refusals above them
+unfoldable pub sign_checked : ℕ → ℕ → ℕ
+sign_checked b w = pick (wrong_sign b w) (coded 19 b) w
 
 -- one that dump writes so has the sign that its size byte tells
 pub dumped_agrees : (input : List ℕ) (at : ℕ) → word_at input at < 4294967296 → dumped_at input at ≡ true → wrong_at input at ≡ false

@@ -35,32 +35,43 @@ fn case_agrees(case: Case<'_>) -> bool {
     }
 }
 
-// Each case that disagrees, by its number in its section, and of each section how many cases it has, and how many disagree.
-fn replay_all(out: &mut Output<'_>) -> fmt::Result {
+// A case that disagrees, by its number in its section; written at once.
+fn write_disagreeing(out: &mut Output<'_>, number: u64) -> fmt::Result {
+    writeln!(out, "case {number} disagrees")?;
+    out.flush()
+}
+
+// How many cases a section has, and how many disagree; written as it ends, before the next one is read.
+fn write_counts(out: &mut Output<'_>, cases: u64, wrong: u64) -> fmt::Result {
+    writeln!(out, "{cases} cases, {wrong} disagree")?;
+    out.flush()
+}
+
+// Each case that disagrees, and the counts of each section. Cases are read on though a write fails.
+fn replay_all(out: &mut Output<'_>) {
     let mut data = [0u8; LONGEST];
     let mut cases: u64 = 0;
     let mut wrong: u64 = 0;
     for _ in 0u64..100000 {
         if !read_case(&mut data) {
-            return out.flush();
+            return;
         }
         let case = Case { data: &data };
         if case.word(1) == END {
-            writeln!(out, "{cases} cases, {wrong} disagree")?;
+            let _ = write_counts(out, cases, wrong);
             cases = 0;
             wrong = 0;
         } else {
             if !case_agrees(case) {
-                writeln!(out, "case {cases} disagrees")?;
+                let _ = write_disagreeing(out, cases);
                 wrong = wrong.saturating_add(1);
             }
             cases = cases.saturating_add(1);
         }
     }
-    out.flush()
 }
 
 fn main() {
     let mut buffer = io::buffer();
-    let _ = replay_all(&mut Output::new(&mut buffer));
+    replay_all(&mut Output::new(&mut buffer));
 }

@@ -3,7 +3,7 @@ use Rattle.std.specs.Prelude.{ℕ, suc, ◌+◌, ◌-◌, ◌≤◌, ◌<◌, �
 use Rattle.std.proofs.Common.{arith, add-one, add-zero, refl, sym, ap, ◌∙◌, append_assoc, append-nil, length-take, length-drop, drop_of_length-le, take-suc}
 use Rattle.std.proofs.Math.Nat.{sub-zero}
 use Rattle.std.proofs.Math.Seq.{take-length}
-use Rattle.std.proofs.lemmas.List.{length-replicate, replicate_more, at_drop_more, set_at}
+use Rattle.std.proofs.lemmas.List.{length-replicate, replicate-append-replicate, replicate_more, at_drop_more, set_at}
 use Rattle.std.proofs.lemmas.List.Edits.{sets, sets-eq}
 use Rattle.std.proofs.lemmas.Slice.{put_mid-paste}
 use Rattle.definition.specs.Node.{equal}
@@ -73,6 +73,19 @@ says_same X Y s t n e f same = says_equal _ _ _ same ∙ (λ j. equal (take (e j
 -- the list with zeros from the place given on
 abbrev pub cleared : ℕ → List ℕ → List ℕ
 cleared from l = sets l from (replicate (length l - from) 0)
+
+-- one more zero
+pub zeroed_more : (l l' : List ℕ) (from i : ℕ) → l' ≡ sets l from (replicate i 0) → set l' (from + i) 0 ≡ sets l from (replicate (i + 1) 0)
+zeroed_more l l' from i e =
+    ap (λ (x : List ℕ). set x (from + i) 0) e
+    ∙ ap (λ (j : ℕ). set (sets l from (replicate i 0)) (from + j) 0) (sym (length-replicate i 0))
+    ∙ sets_snoc (replicate i 0) l from 0
+    ∙ ap (λ (x : List ℕ). sets l from x) (replicate-append-replicate i 1 0)
+
+pub zeroed_all : (l l' : List ℕ) (from n i : ℕ) → n ≤ i → i ≤ n → l' ≡ sets l from (replicate i 0) → l' ≡ sets l from (replicate n 0)
+zeroed_all l l' from n i h k e =
+    let z : i ≡ n = omega arith in
+    e ∙ ap (λ (j : ℕ). sets l from (replicate j 0)) z
 
 -- what stood before the zeros
 pub cleared_after : (from : ℕ) (l : List ℕ) → from ≤ length l → cleared from l ≡ take from l ++ replicate (length l - from) 0
