@@ -21,7 +21,7 @@ use Rattle.object_writer.specs.declared.Opened.{Opened}
 use Rattle.object_writer.specs.declared.Opened.TheVariants.{More, Whole}
 use Rattle.object_writer.specs.Values.{Beginning, Heads}
 use Rattle.dumper.specs.Members.{listed, default_of, members_of, MembersIn}
-use Rattle.object_writer.specs.Laws.{head_goes, deep, ready_head}
+use Rattle.object_writer.specs.Laws.{head_goes, deep, deep_here, ready_head}
 
 -- ---- elements
 
@@ -90,11 +90,8 @@ module _ {no re by sc₀ out₀ : List ℕ} {c₀ : Progress} {start n levels : 
 pub down : (l t : ℕ) → 2 * l + 1 ≡ t → 2 * l < t
 down l t e = omega arith
 
-pub down_list : (l t : ℕ) → (l ≡ 0 → ⊥) → 2 * l ≡ t → 2 * (l - 1) + 1 < t
-down_list l t n e = omega arith
-
-pub down_value : (l t : ℕ) → (l ≡ 0 → ⊥) → 2 * l ≡ t → 2 * (l - 1) < t
-down_value l t n e = omega arith
+pub down_list : (l levels t : ℕ) → l ≤ levels → (l ≡ 0 → ⊥) → 2 * levels ≡ t → 2 * (l - 1) + 1 < t
+down_list l levels t h n e = omega arith
 
 -- ---- a value's members
 
@@ -177,3 +174,24 @@ module _ {no re by sc out sc₁ out₁ : List ℕ} {c c₁ : Progress} {x : Open
               lead_after
               (goes_to (default_some room A _ _ _ d hash some-default is) (leads_default elements A room limit L l b).leads)
               (m A room limit L l (default_in L b))
+
+-- ---- defaults in a row
+
+-- what the turns over them keep: node h, with so many levels left, is what is to be written
+pub record Lasting (no re by sc₀ out₀ : List ℕ) (c₀ : Progress) (v levels : ℕ) (sc out : List ℕ) (c : Progress) (h left : ℕ) : Type 0 where
+  pub within : left ≤ levels
+  pub scratch_length : length sc ≡ length sc₀
+  pub output_length : length out ≡ length out₀
+  pub held : Ready (λ A. Lent A no by × Listed A re × (h < length A.nodes)) (buffers sc out) c
+  pub goes : {sc' out' : List ℕ} {c' : Progress} {r : Answer} → Value no re by h (λ A room limit. Meets A room limit (write_value room A limit left h) (buffers sc out) c r (buffers sc' out') c') → Value no re by v (λ A room limit. Meets A room limit (write_value room A limit levels v) (buffers sc₀ out₀) c₀ r (buffers sc' out') c')
+
+pub lasting_start : {no re by sc out : List ℕ} {c : Progress} {v levels : ℕ} → Ready (λ A. Lent A no by × Listed A re × (v < length A.nodes)) (buffers sc out) c → Lasting no re by sc out c v levels sc out c v levels
+lasting_start R = record { within = omega arith; scratch_length = refl; output_length = refl; held = R; goes = λ m. m }
+
+-- the default of node h comes next
+pub lasting_next : {no re by sc₀ out₀ sc out sc' out' : List ℕ} {c₀ c c' : Progress} {v levels h left d : ℕ} → Lasting no re by sc₀ out₀ c₀ v levels sc out c h left → length sc' ≡ length sc → length out' ≡ length out → Ready (λ A. Lent A no by × Listed A re × (d < length A.nodes)) (buffers sc' out') c' → ((sc₃ out₃ : List ℕ) (c₃ : Progress) (r : Answer) → Value no re by d (λ A room limit. Meets A room limit (write_value room A limit (left - 1) d) (buffers sc' out') c' r (buffers sc₃ out₃) c₃) → Value no re by h (λ A room limit. Meets A room limit (write_value room A limit left h) (buffers sc out) c r (buffers sc₃ out₃) c₃)) → Lasting no re by sc₀ out₀ c₀ v levels sc' out' c' d (left - 1)
+lasting_next R p q H k = record { within = omega (arith, R.within); scratch_length = p ∙ R.scratch_length; output_length = q ∙ R.output_length; held = H; goes = λ m. R.goes (k _ _ _ _ m) }
+
+-- no level is left
+pub value_stops : {no re by sc₀ out₀ sc out : List ℕ} {c₀ c : Progress} {v levels h left : ℕ} → Lasting no re by sc₀ out₀ c₀ v levels sc out c h left → left ≡ 0 → Value no re by v (λ A room limit. Meets A room limit (write_value room A limit levels v) (buffers sc₀ out₀) c₀ (Err Deep) (buffers sc out) c)
+value_stops {h = h} {left} R z = R.goes (λ A room limit L l b. lead_as (value_deep room A limit left h z) (record { leads = deep_here limit }))

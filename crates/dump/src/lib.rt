@@ -58,7 +58,7 @@ fn write_elements(
 }
 
 // The value of node v, with so many levels left. The members of every kind are written by one call, so that a level of nesting
-// is one call deep.
+// is one call deep; a hash's default comes last, so it is written in a turn of its own and is no call.
 #[cycle(write_elements_write_value)]
 fn write_value(
     nodes: &[u32],
@@ -73,50 +73,45 @@ fn write_value(
     requires { Ready (λ A. Lent A nodes.now bytes.now × Listed A references.now × (v < length A.nodes)) (buffers scratch.old output.old) c.old }
     ensures { (A : Arena) (room limit : ℕ) → Lent A nodes.now bytes.now → Listed A references.now → v < length A.nodes → Meets A room limit (write_value room A limit levels v) (buffers scratch.old output.old) c.old result (buffers scratch.new output.new) c.new }
 {
-    if levels == 0 {
-        return Err(Stop::TooDeep);
+    let mut h = v;
+    let mut left = levels;
+    // a `while`: there are as many turns as defaults in a row
+    while left != 0 {
+        if let Opened::Whole = open_value(
+            nodes,
+            references,
+            bytes,
+            scratch,
+            output,
+            c,
+            h,
+            left - 1,
+        )? {
+            return Ok(());
+        }
+        let k = nodes[h * Node::WIDTH];
+        write_elements(
+            nodes,
+            references,
+            bytes,
+            scratch,
+            output,
+            c,
+            nodes[h * Node::WIDTH + Node::LIST] as usize,
+            list_words(k, nodes[h * Node::WIDTH + Node::COUNT]),
+            left - 1,
+        )?;
+        if k != Node::HASH {
+            return Ok(());
+        }
+        let d = nodes[h * Node::WIDTH + Node::DEFAULT];
+        if d == 0 {
+            return Ok(());
+        }
+        h = d as usize - 1;
+        left -= 1;
     }
-    if let Opened::Whole = open_value(
-        nodes,
-        references,
-        bytes,
-        scratch,
-        output,
-        c,
-        v,
-        levels - 1,
-    )? {
-        return Ok(());
-    }
-    let k = nodes[v * Node::WIDTH];
-    write_elements(
-        nodes,
-        references,
-        bytes,
-        scratch,
-        output,
-        c,
-        nodes[v * Node::WIDTH + Node::LIST] as usize,
-        list_words(k, nodes[v * Node::WIDTH + Node::COUNT]),
-        levels - 1,
-    )?;
-    if k != Node::HASH {
-        return Ok(());
-    }
-    let d = nodes[v * Node::WIDTH + Node::DEFAULT];
-    if d == 0 {
-        return Ok(());
-    }
-    write_value(
-        nodes,
-        references,
-        bytes,
-        scratch,
-        output,
-        c,
-        d as usize - 1,
-        levels - 1,
-    )
+    Err(Stop::TooDeep)
 }
 
 // 04 08, then the root.

@@ -1,10 +1,10 @@
 -- The proof of the cycle of write_elements, write_value.
 use native.Mathlib.Omega.{arith}
-use mathlib.Core.Path.{refl}
+use mathlib.Core.Path.{refl, ◌∙◌}
 use Rattle.writer.specs.Laws.{went, lead_as, lead_stop, ready_as}
-use Rattle.writer.proofs.Members.{member_below, value_deep, value_row}
-use Rattle.object_writer.specs.Laws.{head_whole, deep_here}
-use Rattle.dump.proofs.Loops.{turning_start, shorts_go, rest_ready, turned, all_turned, element_deep, element_goes, element_stops, down, down_list, down_value, list_ready, list_stops, no_default, zero_default, default_ready, with_default}
+use Rattle.writer.proofs.Members.{member_below, value_row}
+use Rattle.object_writer.specs.Laws.{head_whole}
+use Rattle.dump.proofs.Loops.{turning_start, shorts_go, rest_ready, turned, all_turned, element_deep, element_goes, element_stops, down, down_list, list_ready, list_stops, no_default, zero_default, default_ready, with_default, lasting_start, lasting_next, value_stops}
 use Rattle.dump.proofs.+write_elements_write_value.Goals as goal
 
 pub write_elements-loop-i-init : goal.write_elements-loop-i-init
@@ -71,67 +71,47 @@ pub write_elements-returns : goal.write_elements-returns
 write_elements-returns t c =
     all_turned c.loop-i.invariant c.loop-i-test.false
 
-pub write_value-returns-then-levels-eq0 : goal.write_value-returns-then-levels-eq0
-write_value-returns-then-levels-eq0 t c =
-    let a = c.args in
-    λ A room limit l li b. lead_as (value_deep room A limit a.levels a.v c.if-levels-eq0.true) (record { leads = deep_here limit })
+pub write_value-loop-left-init : goal.write_value-loop-left-init
+write_value-loop-left-init t c =
+    lasting_start c.requires
 
 pub write_value-returns-in-Whole : goal.write_value-returns-in-Whole
 write_value-returns-in-Whole t c =
-    let a = c.args in
-    λ A room limit l li b. lead_as (value_row room A limit a.levels a.v c.if-levels-eq0.false) (went (head_whole c.in-Whole.is (c.in_ok-open_value.ensures.heads A room limit l li b)))
+    let w = c.loop-left in
+    w.invariant.goes (λ A room limit l li b. lead_as (value_row room A limit w.left w.h c.loop-left-test.true) (went (head_whole c.in-Whole.is (c.in_ok-open_value.ensures.heads A room limit l li b))))
 
 pub write_value-returns-in_err-open_value : goal.write_value-returns-in_err-open_value
 write_value-returns-in_err-open_value t c =
-    let a = c.args in
-    λ A room limit l li b. lead_as (value_row room A limit a.levels a.v c.if-levels-eq0.false) (lead_stop _ c.from_residual.ensures (c.in_err-open_value.ensures.heads A room limit l li b).heads)
+    let w = c.loop-left in
+    w.invariant.goes (λ A room limit l li b. lead_as (value_row room A limit w.left w.h c.loop-left-test.true) (lead_stop _ c.from_residual.ensures (c.in_err-open_value.ensures.heads A room limit l li b).heads))
 
 pub write_value-write_elements-requires : goal.write_value-write_elements-requires
 write_value-write_elements-requires t c =
-    let a = c.args in
-    (down_list _ _ c.if-levels-eq0.false c.decreases, list_ready a.v a.levels _ _ c.if-levels-eq0.false c.in_default.not-Whole refl c.list_words.ensures c.in_ok-open_value.ensures.heads c.in_ok-open_value.ensures.members_in c.requires)
+    let w = c.loop-left in
+    (down_list _ _ _ w.invariant.within c.loop-left-test.true c.decreases, list_ready w.h w.left _ _ c.loop-left-test.true c.in_default.not-Whole refl c.list_words.ensures c.in_ok-open_value.ensures.heads c.in_ok-open_value.ensures.members_in w.invariant.held)
 
 pub write_value-returns-in_err-write_elements : goal.write_value-returns-in_err-write_elements
 write_value-returns-in_err-write_elements t c =
-    let a = c.args in
-    list_stops a.v a.levels _ _ c.if-levels-eq0.false c.in_default.not-Whole refl c.list_words.ensures c.in_ok-open_value.ensures.heads c.in_ok-open_value.ensures.members_in c.from_residual-in_err-write_elements.ensures c.in_err-write_elements.ensures
+    let w = c.loop-left in
+    w.invariant.goes (list_stops w.h w.left _ _ c.loop-left-test.true c.in_default.not-Whole refl c.list_words.ensures c.in_ok-open_value.ensures.heads c.in_ok-open_value.ensures.members_in c.from_residual-in_err-write_elements.ensures c.in_err-write_elements.ensures)
 
 pub write_value-returns-then-k-ne-HASH : goal.write_value-returns-then-k-ne-HASH
 write_value-returns-then-k-ne-HASH t c =
-    let a = c.args in
-    no_default a.v a.levels _ _ c.if-levels-eq0.false c.in_default.not-Whole refl c.list_words.ensures c.in_ok-open_value.ensures.heads c.in_ok-open_value.ensures.members_in c.in_ok-write_elements.ensures c.if-k-ne-HASH.true
-
-pub write_value-overflow_mul-d : goal.write_value-overflow_mul-d
-write_value-overflow_mul-d t c =
-    omega (arith, c.requires.fact.2, c.requires.fact.0.noded.nodes_fit, c.requires.fact.0.noded.nodes_small)
-
-pub write_value-overflow_add-d : goal.write_value-overflow_add-d
-write_value-overflow_add-d t c =
-    omega (arith, c.requires.fact.2, c.requires.fact.0.noded.nodes_fit, c.requires.fact.0.noded.nodes_small)
-
-pub write_value-offset_bounds-nodes-v-4 : goal.write_value-offset_bounds-nodes-v-4
-write_value-offset_bounds-nodes-v-4 t c =
-    omega (arith, c.requires.fact.2, c.requires.fact.0.noded.nodes_fit, c.requires.fact.0.noded.nodes_small)
-
-pub write_value-bounds-nodes-v-4 : goal.write_value-bounds-nodes-v-4
-write_value-bounds-nodes-v-4 t c =
-    omega (arith, c.requires.fact.2, c.requires.fact.0.noded.nodes_fit)
+    let w = c.loop-left in
+    w.invariant.goes (no_default w.h w.left _ _ c.loop-left-test.true c.in_default.not-Whole refl c.list_words.ensures c.in_ok-open_value.ensures.heads c.in_ok-open_value.ensures.members_in c.in_ok-write_elements.ensures c.if-k-ne-HASH.true)
 
 pub write_value-returns-then-d-eq0 : goal.write_value-returns-then-d-eq0
 write_value-returns-then-d-eq0 t c =
-    let a = c.args in
-    zero_default a.v a.levels _ _ c.if-levels-eq0.false c.in_default.not-Whole refl c.list_words.ensures c.in_ok-open_value.ensures.heads c.in_ok-open_value.ensures.members_in c.in_ok-write_elements.ensures c.if-k-ne-HASH.false c.if-d-eq0.true
+    let w = c.loop-left in
+    w.invariant.goes (zero_default w.h w.left _ _ c.loop-left-test.true c.in_default.not-Whole refl c.list_words.ensures c.in_ok-open_value.ensures.heads c.in_ok-open_value.ensures.members_in c.in_ok-write_elements.ensures c.if-k-ne-HASH.false c.if-d-eq0.true)
 
-pub write_value-overflow_sub-d : goal.write_value-overflow_sub-d
-write_value-overflow_sub-d t c =
-    omega (arith, c.if-d-eq0.false)
-
-pub write_value-write_value-requires : goal.write_value-write_value-requires
-write_value-write_value-requires t c =
-    let a = c.args in
-    (down_value _ _ c.if-levels-eq0.false c.decreases, default_ready a.v a.levels _ _ c.if-levels-eq0.false c.in_default.not-Whole refl c.list_words.ensures c.in_ok-open_value.ensures.heads c.in_ok-open_value.ensures.members_in c.in_ok-write_elements.ensures c.if-k-ne-HASH.false _ c.if-d-eq0.false refl c.requires)
+pub write_value-loop-left-preserved : goal.write_value-loop-left-preserved
+write_value-loop-left-preserved t c =
+    let w = c.loop-left in
+    lasting_next w.invariant (c.write_elements.auto.scratch ∙ c.open_value.auto.scratch) (c.write_elements.auto.output ∙ c.open_value.auto.output)
+    (default_ready w.h w.left _ _ c.loop-left-test.true c.in_default.not-Whole refl c.list_words.ensures c.in_ok-open_value.ensures.heads c.in_ok-open_value.ensures.members_in c.in_ok-write_elements.ensures c.if-k-ne-HASH.false _ c.if-d-eq0.false refl w.invariant.held)
+    (λ _ _ _ _ m. with_default w.h w.left _ _ c.loop-left-test.true c.in_default.not-Whole refl c.list_words.ensures c.in_ok-open_value.ensures.heads c.in_ok-open_value.ensures.members_in c.in_ok-write_elements.ensures c.if-k-ne-HASH.false _ c.if-d-eq0.false refl m)
 
 pub write_value-returns : goal.write_value-returns
 write_value-returns t c =
-    let a = c.args in
-    with_default a.v a.levels _ _ c.if-levels-eq0.false c.in_default.not-Whole refl c.list_words.ensures c.in_ok-open_value.ensures.heads c.in_ok-open_value.ensures.members_in c.in_ok-write_elements.ensures c.if-k-ne-HASH.false _ c.if-d-eq0.false refl c.write_value.ensures
+    value_stops c.loop-left.invariant c.loop-left-test.false
