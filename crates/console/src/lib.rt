@@ -95,7 +95,7 @@ impl<'a> Output<'a> {
         self.put_past(text)
     }
 
-    // A number in a column, as `{:>11}` writes it. By that a listing takes up to 1.6 times as long.
+    // A number in a column, as `{:>11}` writes it. By that a listing takes up to three times as long.
     pub fn put_number(&mut self, n: u64) -> fmt::Result {
         let at = self.length;
         if n < WIDE && at <= self.buffer.len() && COLUMN <= self.buffer.len() - at {

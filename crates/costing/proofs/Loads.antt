@@ -11,13 +11,13 @@ use Rattle.definition.specs.Run.{pick}
 use Rattle.definition.specs.Arena.{fault}
 use Rattle.definition.specs.Build.{Lent, lent}
 use Rattle.definition.specs.Cost.{CostAnswer, cost_answer, cost_done}
-use Rattle.definition.specs.Load.{Lists, LoadAnswer, load_answer, LoadCall, load_call_of, load_call}
-use Rattle.definition.specs.Refused.{Accepted}
+use Rattle.definition.specs.Load.{Lists, load_answer, LoadCall, load_call_of, load_call}
+use Rattle.definition.specs.Refused.{Answer, Accepted, Refused}
 use Rattle.definition.specs.declared.Loaded.{Loaded}
 use Rattle.definition.specs.declared.Refusal.{Refusal}
 use Rattle.lists.specs.Lists.{apart}
 use Rattle.load_forest.specs.Call.{load_accepted, tables_of, call_well_formed}
-use Rattle.console.specs.Call.{input_answer, too_long, input_call}
+use Rattle.console.specs.Call.{too_long, input_call}
 use Rattle.costing.specs.Batch.{cost_root, cost_loaded, cost_after, cost_call}
 
 -- what a load left, as the cost takes it
@@ -54,6 +54,6 @@ module _ (input : List ℕ) (T : Lists) where
     costed h = h ∙ ap (λ (x : LoadCall). cost_after x) same
 
   -- its refusal is handed on
-  pub handed_on : (q : Refusal) → input_answer input (Err q) ≡ k.answer → cost_answer (Err q) ≡ cost_call input T
+  pub handed_on : (q : Refusal) → Refused q ≡ k.answer.answer → cost_answer (Err q) ≡ cost_call input T
   unfolding cost_call cost_loaded cost_answer cost_done
-  handed_on q e = ap (λ (x : LoadAnswer). cost_loaded x.answer (left k)) e
+  handed_on q e = ap (λ (x : Answer). cost_loaded x (left k)) e

@@ -60,6 +60,7 @@ pub fn write_listings(out: &mut Output<'_>, input: &[u8]) -> fmt::Result {
     }
     let mut tables = Tables::new();
     let mut at = 0;
+    // a `while`: each load says how far it went
     while at < input.len() {
         match load_at(
             input,

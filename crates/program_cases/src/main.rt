@@ -29,27 +29,36 @@ fn write_case(out: &mut Output<'_>, number: u16, input: &[u8]) -> fmt::Result {
     writeln!(out)
 }
 
-// The next input through its program; whether there was one.
-fn write_next(out: &mut Output<'_>) -> Result<bool, fmt::Error> {
+// The next input's program and length, if there is one: it stands in `data`.
+fn read_next(data: &mut [u8]) -> Option<(u16, usize)> {
     let mut head = [0u8; 4];
-    let mut data = [0u8; LONGEST + 1];
     if io::read_full(0, &mut head) < 4 {
-        return Ok(false);
+        return None;
     }
     let [a, b, c, d] = head;
     let length = u16::from_le_bytes([a, b]) as usize;
     let most = length.min(data.len());
     if io::read_full(0, &mut data[..most]) < length {
-        return Ok(false);
+        return None;
     }
-    write_case(out, u16::from_le_bytes([c, d]), &data[..most])?;
-    Ok(true)
+    Some((u16::from_le_bytes([c, d]), most))
 }
 
+// Each input through its program. After a write that fails they are only read.
 fn write_all(out: &mut Output<'_>) -> fmt::Result {
+    let mut data = [0u8; LONGEST + 1];
+    let mut written = Ok(());
     for _ in 0u64..10000 {
-        if !write_next(out)? {
-            return out.flush();
+        match read_next(&mut data) {
+            Some((number, length)) => {
+                if written.is_ok() && length <= data.len() {
+                    written = write_case(out, number, &data[..length]);
+                }
+            }
+            None => {
+                written?;
+                return out.flush();
+            }
         }
     }
     Ok(())

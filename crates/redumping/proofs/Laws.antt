@@ -3,11 +3,12 @@ use Prim.Native.Nat.{ℕ}
 use mathlib.Core.Path.{◌≡◌, ap, ◌∙◌}
 use mathlib.Core.List.{List}
 use Rattle.std.specs.Prelude.{Ok, Err}
-use Rattle.definition.specs.Load.{Lists, LoadAnswer, load_answer, LoadCall, load_call_of}
+use Rattle.definition.specs.Load.{Lists, load_answer, LoadCall, load_call_of}
 use Rattle.definition.specs.Dump.{dump_answer, DumpCall, dump_call, dump_call_of}
+use Rattle.definition.specs.Refused.{Answer, Refused}
 use Rattle.definition.specs.declared.Loaded.{Loaded}
 use Rattle.definition.specs.declared.Refusal.{Refusal}
-use Rattle.console.specs.Call.{input_answer, input_call}
+use Rattle.console.specs.Call.{input_call}
 use Rattle.redumping.specs.Redump.{redump_loaded, redump_after, redump_call}
 
 module _ (input : List ℕ) (T : Lists) (scratch output : List ℕ) where
@@ -22,6 +23,6 @@ module _ (input : List ℕ) (T : Lists) (scratch output : List ℕ) where
       h ∙ ap (λ (x : LoadCall). redump_after x scratch output) same
 
   -- its refusal is handed on
-  pub handed_on : (q : Refusal) → input_answer input (Err q) ≡ k.answer → dump_call_of (dump_answer (Err q)).answer (dump_answer (Err q)).written scratch output ≡ redump_call input T scratch output
+  pub handed_on : (q : Refusal) → Refused q ≡ k.answer.answer → dump_call_of (dump_answer (Err q)).answer (dump_answer (Err q)).written scratch output ≡ redump_call input T scratch output
   unfolding redump_call redump_loaded dump_answer
-  handed_on q e = ap (λ (x : LoadAnswer). redump_loaded x.answer (record { nodes = k.lent.nodes; references = k.lent.references; bytes = k.lent.bytes }) k.answer.counts scratch output) e
+  handed_on q e = ap (λ (x : Answer). redump_loaded x (record { nodes = k.lent.nodes; references = k.lent.references; bytes = k.lent.bytes }) k.answer.counts scratch output) e
