@@ -41,7 +41,7 @@ signed_is w = go (ltb w 2147483648)
     go true = refl
     go false = ap negsuc less
 
--- ---- −1 − z, and z itself, at a width w: as a number of 64 bits, the former of one of 32 that is below 0
+-- ---- a number of 32 bits at any width that holds it: z itself, or −1 − z where z is below 0
 
 -- −1 − z for a z below 0
 less : (n : ℕ) → negsuc 0 -ℤ negsuc n ≡ pos n
@@ -50,7 +50,7 @@ less n = ap (λ (b : Bool). cond b (negsuc (1 - suc (suc n))) (pos (suc n - 1)))
 abbrev minus : ℤ → ℤ
 minus z = negsuc 0 -ℤ again z
 
--- a number that is below 0, or not, as the code tests it
+-- a number that is below 0, or not, by the test of what a call passes on
 negative : (z : ℤ) → SFits w32 z → lt_z (again z) (pos 0) ≡ true → (n : ℕ) × (z ≡ negsuc n) × (n < 2147483648)
 negative z f e = go z f (ap (λ (x : ℤ). lt_z x (pos 0)) (sym (to_z-of_z f)) ∙ e)
   where

@@ -1,6 +1,5 @@
 -- What the programs' load leaves, by the input's length.
 use Prim.Native.Nat.{ℕ, ◌≤◌, ◌<◌}
-use mathlib.Core.Bool.{false}
 use mathlib.Core.Path.{◌≡◌, refl}
 use mathlib.Core.List.{List}
 use lib.ListN.{length}
@@ -9,12 +8,11 @@ use Rattle.std.specs.Prelude.{Result, Ok, Err}
 use Rattle.definition.specs.Run.{pick}
 use Rattle.definition.specs.Slice.{INPUT}
 use Rattle.definition.specs.Arena.{counts_of}
-use Rattle.definition.specs.Refused.{Refused}
 use Rattle.definition.specs.Load.{Lists, LoadAnswer, load_answer, LoadCall, load_call}
 use Rattle.definition.specs.declared.Loaded.{Loaded}
 use Rattle.definition.specs.declared.Refusal.{Refusal}
 use Rattle.definition.specs.declared.Refusal.TheVariants.{NoSpace}
-use Rattle.console.specs.Call.{input_answer, too_long, input_call}
+use Rattle.console.specs.Call.{refused_answer, input_answer, too_long, input_call}
 
 module _ (input : List ℕ) (T : Lists) where
   pub not_loaded : 16384 < length input → too_long T ≡ input_call input T
@@ -33,6 +31,6 @@ module _ (input : List ℕ) where
   answers (Err q) h e = rw (le-ltb 16384 (length input) h) e
 
   -- of one that is, nothing is counted
-  pub long_answer : {a : LoadAnswer} → 16384 < length input → ◌≡◌ {A = LoadAnswer} (record { answer = Refused (NoSpace INPUT); counts = counts_of 0 0 0 0; used = 0; form = false }) a → input_answer input (Err (NoSpace INPUT)) ≡ a
+  pub long_answer : {a : LoadAnswer} → 16384 < length input → refused_answer (counts_of 0 0 0 0) (NoSpace INPUT) ≡ a → input_answer input (Err (NoSpace INPUT)) ≡ a
   unfolding pick
   long_answer h e = rw (lt-ltb 16384 (length input) h) e

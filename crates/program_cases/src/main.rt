@@ -29,8 +29,8 @@ fn write_case(out: &mut Output<'_>, number: u16, input: &[u8]) -> fmt::Result {
     writeln!(out)
 }
 
-// The next input's program and length, if there is one: it stands in `data`.
-fn read_next(data: &mut [u8]) -> Option<(u16, usize)> {
+// The next input with its program's number, if there is one.
+fn read_next(data: &mut [u8]) -> Option<(u16, &[u8])> {
     let mut head = [0u8; 4];
     if io::read_full(0, &mut head) < 4 {
         return None;
@@ -41,7 +41,7 @@ fn read_next(data: &mut [u8]) -> Option<(u16, usize)> {
     if io::read_full(0, &mut data[..most]) < length {
         return None;
     }
-    Some((u16::from_le_bytes([c, d]), most))
+    Some((u16::from_le_bytes([c, d]), &data[..most]))
 }
 
 // Each input through its program. After a write that fails they are only read.
@@ -50,9 +50,9 @@ fn write_all(out: &mut Output<'_>) -> fmt::Result {
     let mut written = Ok(());
     for _ in 0u64..10000 {
         match read_next(&mut data) {
-            Some((number, length)) => {
-                if written.is_ok() && length <= data.len() {
-                    written = write_case(out, number, &data[..length]);
+            Some((number, input)) => {
+                if written.is_ok() {
+                    written = write_case(out, number, input);
                 }
             }
             None => {
